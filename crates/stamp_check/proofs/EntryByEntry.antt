@@ -4,7 +4,7 @@ use Rattle.std.specs.Prelude.{slice_get}
 use Rattle.std.specs.List.{All}
 use Rattle.std.proofs.lemmas.Option.{slice_get_read}
 use Rattle.stamp_core.specs.Limits.{Bounds}
-use Rattle.stamp_core.specs.Record.{Recorded, IsRecorded, SuitsRecord}
+use Rattle.stamp_core.specs.Record.{Recorded, IsRecorded, EntrySuits}
 use Rattle.stamp_core.specs.Linearized.{AreLinearized}
 use Rattle.stamp_core.specs.declared.entry.Entry.{Entry}
 use Rattle.stamp_check.specs.declared.checking.Why.{Why}
@@ -12,11 +12,11 @@ use Rattle.stamp_check.specs.FirstFault.{Breaks, IsFirstFault}
 
 -- an entry of a record suits it
 pub entry_suits : (r : Recorded) (entries : List Entry) (i : ℕ) (e : Entry) → entries ≡ r.entries →
-    i < length entries → e ≡ get_or entries i e → IsRecorded r → SuitsRecord r.width e
+    i < length entries → e ≡ get_or entries i e → IsRecorded r → EntrySuits r.width e
 entry_suits r entries i e same lt at known =
-    let all : All (SuitsRecord r.width) entries =
-    subst (λ (xs : List Entry). All (SuitsRecord r.width) xs) (sym same) known.suit in
-    subst (λ (x : Entry). SuitsRecord r.width x) (sym at) (all i e lt)
+    let all : All (EntrySuits r.width) entries =
+    subst (λ (xs : List Entry). All (EntrySuits r.width) xs) (sym same) known.suit in
+    subst (λ (x : Entry). EntrySuits r.width x) (sym at) (all i e lt)
 
 of_record : (P : Bounds → ℕ → List Entry → Type 0) (r : Recorded) (limits : Bounds) (width : ℕ)
     (entries : List Entry) → limits ≡ r.limits → width ≡ r.width → entries ≡ r.entries → P limits width entries →

@@ -5,7 +5,7 @@ use Rattle.std.proofs.Common.{Option, Some, None, get_or-set_same, get_or-set_ot
 use Rattle.std.proofs.lemmas.List.{get_or_append_left}
 use Rattle.std.proofs.lemmas.List.Elements.{All-push}
 use Rattle.std.proofs.Math.Seq.{get_or-append_seam}
-use Rattle.stamp_core.specs.Linearized.{IsWithin, RisesAbove, FollowsItsThread}
+use Rattle.stamp_core.specs.Linearized.{HasPointInside, RisesAbove, FollowsItsThread}
 use Rattle.stamp_core.specs.declared.entry.Entry.{Entry}
 use Rattle.stamp_check.specs.Walk.{IsAbove, IsLastPoint, IsLastOf}
 
@@ -56,7 +56,7 @@ last_of_other before e thread (Some n) other last =
       ),
     )
 
-last_of_same : (before : List Entry) (e : Entry) → FollowsItsThread before e → IsWithin e →
+last_of_same : (before : List Entry) (e : Entry) → FollowsItsThread before e → HasPointInside e →
     IsLastOf (before ++ e ∷ []) e.thread (Some e.last)
 last_of_same before e follows within = (
   All-push (λ (x : Entry). x.thread ≡ e.thread → x.last ≤ e.last) before e
@@ -71,7 +71,7 @@ last_of_same before e follows within = (
 )
 
 pub lasts_push : (before : List Entry) (e : Entry) (lasts : List (Option ℕ)) → length lasts ≡ 64 → e.thread < 64 →
-    FollowsItsThread before e → IsWithin e →
+    FollowsItsThread before e → HasPointInside e →
     ((thread : ℕ) (d : Option ℕ) → thread < 64 → IsLastOf before thread (get_or lasts thread d)) →
     (thread : ℕ) (d : Option ℕ) → thread < 64 →
     IsLastOf (before ++ e ∷ []) thread (get_or (set lasts e.thread (Some e.last)) thread d)

@@ -6,7 +6,7 @@ use Rattle.std.proofs.lemmas.List.{take_more, take-append-drop, take-take}
 use Rattle.std.proofs.lemmas.Option.{get_or_from_slice_get, slice_get_within}
 use Rattle.stamp_core.specs.Limits.{Bounds}
 use Rattle.stamp_core.specs.Record.{Recorded}
-use Rattle.stamp_core.specs.Linearized.{AreLinearized, Fits}
+use Rattle.stamp_core.specs.Linearized.{AreLinearized, MayFollow}
 use Rattle.stamp_core.specs.declared.entry.Entry.{Entry}
 use Rattle.stamp_core.proofs.Linearizing.{linearized_first, linearized_fits}
 use Rattle.stamp_machines.proofs.EntryOrder.{always-in-order}
@@ -17,7 +17,7 @@ use Rattle.stamp_check.specs.FirstFault.{Breaks, IsFirstFault}
 use Rattle.stamp_check.specs.CheckLaws.{FaultsAreExact, OneVerdict, RunsAreAccepted}
 
 unfit : (limits : Bounds) (width : ℕ) (before : List Entry) (e : Entry) (why : Why) →
-    Breaks limits width before e why → ¬ Fits limits width before e
+    Breaks limits width before e why → ¬ MayFollow limits width before e
 unfit limits width before e Interval breaks fits = breaks fits.within
 unfit limits width before e Order breaks fits = breaks.1 fits.rises
 unfit limits width before e Overlap breaks fits = breaks.2 fits.follows

@@ -7,7 +7,7 @@ use Rattle.stamp_core.specs.Layout.{units_of}
 use Rattle.stamp_core.specs.Limits.{Bounds, bounds, AreInRange}
 use Rattle.stamp_core.specs.declared.layout.Layout.TheVariants.{Two}
 use Rattle.stamp_core.specs.Call.{call_suits}
-use Rattle.stamp_core.specs.Record.{Recorded, recorded, IsRecorded, SuitsRecord}
+use Rattle.stamp_core.specs.Record.{Recorded, recorded, IsRecorded, EntrySuits}
 use Rattle.stamp_core.specs.declared.call.Call.{Call}
 use Rattle.stamp_core.specs.declared.call.Call.TheVariants.{Get}
 use Rattle.stamp_core.specs.declared.entry.Entry.{Entry}
@@ -30,8 +30,8 @@ respelled_recorded r known = record {
   width = known.width;
   entries = omega (arith, known.entries, length-map r.entries respelled_entry);
   report = report known.report;
-  suit = All-map (SuitsRecord r.width) respelled_entry r.entries
-      (All-weaker (SuitsRecord r.width) (λ (e : Entry). SuitsRecord r.width (respelled_entry e))
+  suit = All-map (EntrySuits r.width) respelled_entry r.entries
+      (All-weaker (EntrySuits r.width) (λ (e : Entry). EntrySuits r.width (respelled_entry e))
       (λ e s. record { thread = s.thread; call = subst IsTrue (suits_alike r.width e.call) s.call }) r.entries
       known.suit);
 }

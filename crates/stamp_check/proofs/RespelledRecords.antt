@@ -10,7 +10,7 @@ use Rattle.stamp_core.specs.Limits.{Bounds, AreInRange}
 use Rattle.stamp_core.specs.Content.{zeros}
 use Rattle.stamp_core.specs.Record.{Recorded, IsRecorded}
 use Rattle.stamp_core.specs.History.{IsLegal}
-use Rattle.stamp_core.specs.Linearized.{history_of, IsWithin, KeepsThreadOrder, AreLinearized}
+use Rattle.stamp_core.specs.Linearized.{history_of, HasPointInside, KeepsThreadOrder, AreLinearized}
 use Rattle.stamp_core.specs.Linearized.{IsLinearized, RisesAbove, FollowsItsThread}
 use Rattle.stamp_core.specs.declared.entry.Entry.{Entry}
 use Rattle.stamp_core.specs.declared.layout.Layout.{Layout}
@@ -63,7 +63,7 @@ pairs_alike R es same = (
 )
 
 -- thread and positions stay
-within_alike : (e : Entry) → IsWithin (respelled_entry e) ↔ IsWithin e
+within_alike : (e : Entry) → HasPointInside (respelled_entry e) ↔ HasPointInside e
 within_alike e = (λ h. record { begun = h.begun; ended = h.ended }, λ h. record { begun = h.begun; ended = h.ended })
 
 rises_alike : (before : List Entry) (e : Entry) → RisesAbove (map respelled_entry before) (respelled_entry e) ↔
@@ -106,8 +106,8 @@ linearized_alike limits width es one range can room = (
   },
 )
   where
-    within : All IsWithin (map respelled_entry es) ↔ All IsWithin es
-    within = all_alike IsWithin IsWithin es within_alike
+    within : All HasPointInside (map respelled_entry es) ↔ All HasPointInside es
+    within = all_alike HasPointInside HasPointInside es within_alike
 
     Below : Entry → Entry → Type 0
     Below e f = e.point < f.point

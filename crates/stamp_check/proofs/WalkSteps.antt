@@ -10,8 +10,8 @@ use Rattle.stamp_core.specs.Transition.{transition}
 use Rattle.stamp_core.specs.Call.{is_lock_call}
 use Rattle.stamp_core.specs.Content.{zeros, RecordReplies, content_next}
 use Rattle.stamp_core.specs.History.{appended_by, events_of, content_after}
-use Rattle.stamp_core.specs.Record.{SuitsRecord}
-use Rattle.stamp_core.specs.Linearized.{history_of, IsWithin, IsAnswered}
+use Rattle.stamp_core.specs.Record.{EntrySuits}
+use Rattle.stamp_core.specs.Linearized.{history_of, HasPointInside, IsAnswered}
 use Rattle.stamp_core.specs.declared.entry.Entry.{Entry}
 use Rattle.stamp_core.proofs.Linearizing.{events_push, content_push, linearized_more, linearized_none}
 use Rattle.stamp_check.specs.declared.checking.Why.TheVariants.{Interval, Order, Overlap}
@@ -25,11 +25,11 @@ use Rattle.stamp_check.proofs.LockOrRecord.{lock_answer, lock_answered, record_a
 use Rattle.stamp_check.proofs.LockOrRecord.{record_answered, lock_keeps, record_keeps, has_record}
 
 -- what an entry breaks
-pub breaks_interval : (limits : Bounds) (e : Entry) (walk next : Walk) → ¬ IsWithin e →
+pub breaks_interval : (limits : Bounds) (e : Entry) (walk next : Walk) → ¬ HasPointInside e →
     Advances limits e walk next (Some Interval)
 breaks_interval limits e walk next not = record { behind = λ width before after suits. not }
 
-pub breaks_order : (limits : Bounds) (e : Entry) (walk next : Walk) → IsWithin e → ¬ IsAbove walk.point e.point →
+pub breaks_order : (limits : Bounds) (e : Entry) (walk next : Walk) → HasPointInside e → ¬ IsAbove walk.point e.point →
     Advances limits e walk next (Some Order)
 breaks_order limits e walk next within not = record {
   behind = λ width before after suits. (
@@ -38,8 +38,8 @@ breaks_order limits e walk next within not = record {
   );
 }
 
-pub breaks_overlap : (limits : Bounds) (e : Entry) (walk next : Walk) (d : Option ℕ) → e.thread < 64 → IsWithin e →
-    IsAbove walk.point e.point → ¬ IsAbove (get_or walk.lasts e.thread d) e.first →
+pub breaks_overlap : (limits : Bounds) (e : Entry) (walk next : Walk) (d : Option ℕ) → e.thread < 64 →
+    HasPointInside e → IsAbove walk.point e.point → ¬ IsAbove (get_or walk.lasts e.thread d) e.first →
     Advances limits e walk next (Some Overlap)
 breaks_overlap limits e walk next d small within above not = record {
   behind = λ width before after suits. (
@@ -53,12 +53,12 @@ breaks_overlap limits e walk next d small within above not = record {
 -- what was tested before the reply is
 pub record Follows (e : Entry) (walk : Walk) (d : Option ℕ) : Type 0 where
   pub thread : e.thread < 64
-  pub within : IsWithin e
+  pub within : HasPointInside e
   pub above : IsAbove walk.point e.point
   pub free : IsAbove (get_or walk.lasts e.thread d) e.first
 
 breaks_reply : (limits : Bounds) (e : Entry) (walk next : Walk) (d : Option ℕ) → Follows e walk d →
-    ((width : ℕ) (before : List Entry) → IsWalk limits width before walk → SuitsRecord width e →
+    ((width : ℕ) (before : List Entry) → IsWalk limits width before walk → EntrySuits width e →
     ¬ IsAnswered limits width before e) → Advances limits e walk next (Some why.Reply)
 breaks_reply limits e walk next d f not = record {
   behind = λ width before after suits. (

@@ -3,7 +3,7 @@ use Rattle.std.specs.Prelude.{ℕ, ◌≡◌, ◌≤◌, length, Result, Ok}
 use Rattle.stamp_core.specs.Record.{Recorded}
 use Rattle.stamp_core.specs.Linearized.{IsLinearized}
 use Rattle.stamp_machines.specs.Script.{Scripted, IsSound}
-use Rattle.stamp_machines.specs.RunRecord.{run_record, reported_record}
+use Rattle.stamp_machines.specs.RecordedRun.{recorded_run, reported_run}
 use Rattle.stamp_machines.specs.World.{finished_calls}
 use Rattle.stamp_check.specs.declared.checking.Bad.{Bad}
 use Rattle.stamp_check.specs.declared.checking.Why.{Why}
@@ -23,5 +23,5 @@ abbrev pub RunsAreAccepted : Type 0
 RunsAreAccepted =
     (script : Scripted) → IsSound script → length script.steps ≤ 1000000 →
     let accepted = Ok (length (finished_calls script script.steps)) in
-    ((a : Result ℕ Bad) → IsJudgement (run_record script) a → a ≡ accepted) ×
-    ((a : Result ℕ Bad) → IsJudgement (reported_record script) a → a ≡ accepted)
+    ((a : Result ℕ Bad) → IsJudgement (recorded_run script) a → a ≡ accepted) ×
+    ((a : Result ℕ Bad) → IsJudgement (reported_run script) a → a ≡ accepted)

@@ -5,7 +5,7 @@ use Rattle.std.specs.List.{All}
 use Rattle.stamp_core.specs.Limits.{Bounds}
 use Rattle.stamp_core.specs.Word.{Represents, word_at}
 use Rattle.stamp_core.specs.History.{events_of, content_after}
-use Rattle.stamp_core.specs.Record.{SuitsRecord}
+use Rattle.stamp_core.specs.Record.{EntrySuits}
 use Rattle.stamp_core.specs.Linearized.{history_of, AreLinearized}
 use Rattle.stamp_core.specs.declared.entry.Entry.{Entry}
 use Rattle.stamp_check.specs.declared.checking.Why.{Why}
@@ -41,5 +41,5 @@ pub record IsWalk (limits : Bounds) (width : ℕ) (before : List Entry) (walk : 
 
 -- behind one entry more, or what it breaks first
 pub record Advances (limits : Bounds) (e : Entry) (walk next : Walk) (found : Option Why) : Type 0 where
-  pub behind : (width : ℕ) (before : List Entry) → IsWalk limits width before walk → SuitsRecord width e →
+  pub behind : (width : ℕ) (before : List Entry) → IsWalk limits width before walk → EntrySuits width e →
       MatchOption found (IsWalk limits width (before ++ e ∷ []) next) (Breaks limits width before e)

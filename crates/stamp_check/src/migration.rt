@@ -35,7 +35,7 @@ impl fmt::Display for BadReply {
 
 impl Error for BadReply {}
 
-fn respelled(stamp: u64) -> u64
+fn respelling(stamp: u64) -> u64
     ensures { result ≡ respelling stamp }
 {
     respell(stamp)
@@ -45,13 +45,13 @@ fn respelled_call(call: &Call) -> Call
     ensures { result ≡ respelled_call call.now }
 {
     match *call {
-        Call::Validate(stamp) => Call::Validate(respelled(stamp)),
-        Call::UnlockWrite(stamp) => Call::UnlockWrite(respelled(stamp)),
-        Call::UnlockRead(stamp) => Call::UnlockRead(respelled(stamp)),
-        Call::Unlock(stamp) => Call::Unlock(respelled(stamp)),
-        Call::ToWrite(stamp) => Call::ToWrite(respelled(stamp)),
-        Call::ToRead(stamp) => Call::ToRead(respelled(stamp)),
-        Call::ToOptimistic(stamp) => Call::ToOptimistic(respelled(stamp)),
+        Call::Validate(stamp) => Call::Validate(respelling(stamp)),
+        Call::UnlockWrite(stamp) => Call::UnlockWrite(respelling(stamp)),
+        Call::UnlockRead(stamp) => Call::UnlockRead(respelling(stamp)),
+        Call::Unlock(stamp) => Call::Unlock(respelling(stamp)),
+        Call::ToWrite(stamp) => Call::ToWrite(respelling(stamp)),
+        Call::ToRead(stamp) => Call::ToRead(respelling(stamp)),
+        Call::ToOptimistic(stamp) => Call::ToOptimistic(respelling(stamp)),
         other => other,
     }
 }
@@ -60,7 +60,7 @@ fn respelled_reply(reply: &Reply) -> Reply
     ensures { result ≡ respelled_reply reply.now }
 {
     match *reply {
-        Reply::Stamp(stamp) => Reply::Stamp(respelled(stamp)),
+        Reply::Stamp(stamp) => Reply::Stamp(respelling(stamp)),
         other => other,
     }
 }
@@ -69,7 +69,7 @@ fn can_respell(reply: &Reply) -> bool
     ensures { IsTrue result ↔ CanRespell reply.now }
 {
     match *reply {
-        Reply::Stamp(stamp) => stamp == 0 || respelled(stamp) != 0,
+        Reply::Stamp(stamp) => stamp == 0 || respelling(stamp) != 0,
         _ => true,
     }
 }

@@ -1,6 +1,6 @@
 //! The walk over a history.
 ghost use Rattle.std.specs.Prelude.{◌≡◌, ◌<◌, ◌≤◌, ◌↔◌, [], length, IsTrue};
-ghost use Rattle.stamp_core.specs.Linearized.{IsWithin};
+ghost use Rattle.stamp_core.specs.Linearized.{HasPointInside};
 ghost use Rattle.stamp_core.specs.Word.{IsAdmitted, word_at};
 ghost use Rattle.stamp_core.specs.Content.{zeros};
 ghost use Rattle.stamp_check.specs.Walk.{IsAbove, IsWalk, Advances};
@@ -23,8 +23,8 @@ pub(crate) struct Walk {
 }
 
 /// The point lies in the interval.
-fn is_within(entry: &Entry) -> bool
-    ensures { IsTrue result ↔ IsWithin entry.now }
+fn has_point_inside(entry: &Entry) -> bool
+    ensures { IsTrue result ↔ HasPointInside entry.now }
 {
     entry.first <= entry.point && entry.point <= entry.last
 }
@@ -70,7 +70,7 @@ impl Walk {
         requires threads { length self.old.lasts ≡ 64 }
         ensures { Advances limits entry.now self.old self.new result }
     {
-        if !is_within(entry) {
+        if !has_point_inside(entry) {
             return Some(Why::Interval);
         }
         if !is_above(self.point, entry.point) {

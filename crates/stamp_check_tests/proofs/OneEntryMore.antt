@@ -7,7 +7,7 @@ use Rattle.stamp_core.specs.Word.{LockWord, Represents}
 use Rattle.stamp_core.specs.Content.{content_next}
 use Rattle.stamp_core.specs.Transition.{transition}
 use Rattle.stamp_core.specs.History.{appended_by, events_of, content_after}
-use Rattle.stamp_core.specs.Linearized.{history_of, AreLinearized, Fits}
+use Rattle.stamp_core.specs.Linearized.{history_of, AreLinearized, MayFollow}
 use Rattle.stamp_core.specs.declared.entry.Entry.{Entry}
 use Rattle.stamp_core.proofs.Linearizing.{events_push, content_push, linearized_more}
 
@@ -40,7 +40,7 @@ content_more width entries i e content lt at is =
 
 pub linearized_one_more : (limits : Bounds) (width : ℕ) (entries : List Entry) (i : ℕ) (e : Entry) →
     i < length entries → e ≡ get_or entries i e →
-    AreLinearized limits width (take i entries) → Fits limits width (take i entries) e →
+    AreLinearized limits width (take i entries) → MayFollow limits width (take i entries) e →
     AreLinearized limits width (take (i + 1) entries)
 linearized_one_more limits width entries i e lt at all fits =
     subst (λ (xs : List Entry). AreLinearized limits width xs) (sym (one_more entries i e lt at))

@@ -7,8 +7,8 @@ ghost use Rattle.stamp_core.specs.Call.{is_lock_call};
 ghost use Rattle.stamp_core.specs.Content.{content_next, RecordReplies};
 ghost use Rattle.stamp_core.specs.Transition.{transition};
 ghost use Rattle.stamp_core.specs.History.{appended_by, events_of, content_after};
-ghost use Rattle.stamp_core.specs.Record.{SuitsRecord};
-ghost use Rattle.stamp_core.specs.Linearized.{history_of, KeepsThreadOrder, RisesAbove, FollowsItsThread, IsAnswered, IsWithin, Fits};
+ghost use Rattle.stamp_core.specs.Record.{EntrySuits};
+ghost use Rattle.stamp_core.specs.Linearized.{history_of, KeepsThreadOrder, RisesAbove, FollowsItsThread, IsAnswered, HasPointInside, MayFollow};
 ghost use Rattle.stamp_check.specs.LockReplies.{LockReplies};
 ghost use Rattle.stamp_check.specs.FirstFault.{Breaks};
 ghost use Rattle.stamp_check.specs.Judgement.{IsJudgement};
@@ -17,8 +17,8 @@ use stamp_check::{Bad, Why};
 use stamp_core::{Call, Entry, Limits, Record, Reply, Word, Words, transition};
 
 /// The point lies in the interval.
-fn is_within(entry: &Entry) -> bool
-    ensures { IsTrue result ↔ IsWithin entry.now }
+fn has_point_inside(entry: &Entry) -> bool
+    ensures { IsTrue result ↔ HasPointInside entry.now }
 {
     (entry.first..=entry.last).contains(&entry.point)
 }
@@ -130,7 +130,7 @@ fn record_answers(content: &Words, call: &Call, reply: &Reply) -> bool
 
 fn is_answered(limits: Limits, width: u64, before: &[Entry], entry: &Entry) -> bool
     requires few { width ≤ 16 }
-    requires suits { SuitsRecord width entry.now }
+    requires suits { EntrySuits width entry.now }
     ensures { IsTrue result ↔ IsAnswered limits width before.now entry.now }
 {
     if entry.call.is_lock_call() {
@@ -143,11 +143,11 @@ fn is_answered(limits: Limits, width: u64, before: &[Entry], entry: &Entry) -> b
 /// The first thing that the entry breaks after those before it.
 fn first_broken(limits: Limits, width: u64, before: &[Entry], entry: &Entry) -> Option<Why>
     requires few { width ≤ 16 }
-    requires suits { SuitsRecord width entry.now }
-    ensures { MatchOption result (Fits limits width before.now entry.now)
+    requires suits { EntrySuits width entry.now }
+    ensures { MatchOption result (MayFollow limits width before.now entry.now)
         (Breaks limits width before.now entry.now) }
 {
-    if !is_within(entry) {
+    if !has_point_inside(entry) {
         Some(Why::Interval)
     } else if !rises_above(before, entry) {
         Some(Why::Order)

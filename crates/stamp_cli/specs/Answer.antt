@@ -1,12 +1,13 @@
 -- The line that answers a command, or why there is none.
-use Rattle.std.specs.Prelude.{◌≡◌, ◌≢◌, ℕ, ◌<◌, ◌≤◌, List, Vec, length, Option, Result, Ok, Err}
+use Rattle.std.specs.Prelude.{◌≡◌, ◌≢◌, ℕ, ◌<◌, ◌≤◌, ◌++◌, ◌∷◌, [], List, Vec, length, Option, Result, Ok, Err}
+use Rattle.std.specs.Prelude.{Bool, true, false, if◌then◌else◌}
 use Rattle.std.specs.declared.alloc.Global.{Global}
 use Rattle.stamp_core.specs.Record.{Recorded}
 use Rattle.stamp_core.specs.Replayed.{WaitsAt}
 use Rattle.stamp_core.specs.declared.layout.Layout.{Layout}
 use Rattle.stamp_core.specs.declared.layout.Layout.TheVariants.{One}
 use Rattle.stamp_machines.specs.Script.{Scripted}
-use Rattle.stamp_machines.specs.RunRecord.{run_record, reported_record}
+use Rattle.stamp_machines.specs.RecordedRun.{recorded_run, reported_run}
 use Rattle.stamp_check.specs.Judgement.{IsJudgement}
 use Rattle.stamp_check.specs.Migration.{CanMigrate, IsBadReply, migrated}
 use Rattle.stamp_check.specs.declared.checking.Bad.{Bad}
@@ -35,6 +36,13 @@ pub record LineView : Type 0 where
 
 abbrev pub line_in : made.Line → LineView
 line_in line = record { text = line.text.items; verdict = line.verdict }
+
+-- a line as it is written
+abbrev pub with_line_feed : LineView → List ℕ
+with_line_feed line = line.text ++ 10 ∷ []
+
+abbrev pub IsVerdictOf : LineView → Verdict → Type 0
+IsVerdictOf line verdict = verdict ≡ line.verdict
 
 -- a call waits, and the fault names it
 pub record IsWaitFault (replay : Replay) (fault : ServeFault) : Type 0 where
@@ -89,10 +97,10 @@ abbrev pub AnswersReplay : List ℕ → Result (List ℕ) ServeFault → Type 0
 AnswersReplay input answer = IsReplayAnswer (replay_of input) answer
 
 abbrev pub AnswersRun : List ℕ → Result (List ℕ) ServeFault → Type 0
-AnswersRun input answer = answer ≡ script_answer run_record (script_of input)
+AnswersRun input answer = answer ≡ script_answer recorded_run (script_of input)
 
 abbrev pub AnswersReportedRun : List ℕ → Result (List ℕ) ServeFault → Type 0
-AnswersReportedRun input answer = answer ≡ script_answer reported_record (script_of input)
+AnswersReportedRun input answer = answer ≡ script_answer reported_run (script_of input)
 
 abbrev pub AnswersCheck : List ℕ → Result LineView ServeFault → Type 0
 AnswersCheck input answer = IsCheckAnswer (recorded_of input) answer
@@ -125,35 +133,27 @@ AnswersOrder (order.StampIn layout n) input answer = IsAccepted (IsStampAnswer l
 abbrev pub IsOrderAnswer : Order → List ℕ → Result LineView ServeFault → Type 0
 IsOrderAnswer order input answer = IsInputAnswer (AnswersOrder order) input answer
 
--- input is what a command reads of a source
-abbrev pub OrderReads : Order → Option (List ℕ) → Option (List ℕ) → List ℕ → Type 0
-OrderReads order.Replay old new input = Reads old new input
-OrderReads order.Run old new input = Reads old new input
-OrderReads order.RunReported old new input = Reads old new input
-OrderReads order.Check old new input = Reads old new input
-OrderReads order.Migrate old new input = Reads old new input
-OrderReads (order.Stamp n) old new input = ReadsNone old new input
-OrderReads (order.StampIn layout n) old new input = ReadsNone old new input
+-- a stamp has its input in the command; the others read theirs
+abbrev pub reads_input : Order → Bool
+reads_input (order.Stamp n) = false
+reads_input (order.StampIn layout n) = false
+reads_input _ = true
 
--- a stamp makes no read
+-- input is what a command reads of a source, or is empty where it reads none
+abbrev pub ReadsIf : Bool → Option (List ℕ) → Option (List ℕ) → List ℕ → Type 0
+ReadsIf true old new input = Reads old new input
+ReadsIf false old new input = ReadsNone old new input
+
+abbrev pub OrderReads : Order → Option (List ℕ) → Option (List ℕ) → List ℕ → Type 0
+OrderReads order old new input = ReadsIf (reads_input order) old new input
+
+-- it makes no read then
 abbrev pub most_reads_of : Order → ℕ
-most_reads_of order.Replay = most_reads
-most_reads_of order.Run = most_reads
-most_reads_of order.RunReported = most_reads
-most_reads_of order.Check = most_reads
-most_reads_of order.Migrate = most_reads
-most_reads_of (order.Stamp n) = 0
-most_reads_of (order.StampIn layout n) = 0
+most_reads_of order = if reads_input order then most_reads else 0
 
 -- and takes nothing
 abbrev pub most_taken_of : Order → ℕ
-most_taken_of order.Replay = most_taken
-most_taken_of order.Run = most_taken
-most_taken_of order.RunReported = most_taken
-most_taken_of order.Check = most_taken
-most_taken_of order.Migrate = most_taken
-most_taken_of (order.Stamp n) = 0
-most_taken_of (order.StampIn layout n) = 0
+most_taken_of order = if reads_input order then most_taken else 0
 
 -- input was read so, by reads that took this many bytes, and all of them are answered so
 pub record AnswersRead {A : Type 0} (WasRead : List ℕ → Type 0) (IsAnswer : List ℕ → A → Type 0) (taken : ℕ)

@@ -3,7 +3,7 @@
 ghost use Rattle.std.specs.Prelude.{◌≡◌, Some, Ok, Err, IfOk};
 ghost use Rattle.stamp_cli.specs.CheckText.{why_text, bad_text, ok_text, judgement_text, verdict_of};
 
-use crate::line::{Line, Verdict, accepted};
+use crate::line::{Line, accepted, rejected};
 use stamp_history::{Bad, Why};
 use std::alloc::{AllocError, Global};
 use std::fmt;
@@ -53,9 +53,6 @@ pub(crate) fn line_of_judgement(alloc: Global, found: Result<u64, Bad>) -> Resul
 {
     match found {
         Ok(count) => Ok(accepted(OkText(count).to_string(alloc)?.into_bytes())),
-        Err(bad) => Ok(Line {
-            text: BadText(bad).to_string(alloc)?.into_bytes(),
-            verdict: Verdict::Bad,
-        }),
+        Err(bad) => Ok(rejected(BadText(bad).to_string(alloc)?.into_bytes())),
     }
 }

@@ -19,7 +19,7 @@ mod stamp_text;
 pub use answer::within;
 pub use faults::{ServeFault, fault_line};
 pub use input::{MOST_BYTES, read_input};
-pub use line::{Line, Verdict, accepted};
+pub use line::{Line, Verdict, accepted, rejected};
 pub use orders::{CommandFault, Order, number_in, order_of};
 pub use output::write_text;
 pub use serving::serve;

@@ -7,7 +7,7 @@ ghost use Rattle.std.specs.Prelude.{◌≡◌};
 pub enum Verdict {
     /// The line is an answer.
     Accepted,
-    /// The line says that a history is bad.
+    /// The line says that a history is bad, or isn't known to be good.
     Bad,
 }
 
@@ -28,5 +28,16 @@ pub fn accepted(text: Vec<u8>) -> Line
     Line {
         text,
         verdict: Verdict::Accepted,
+    }
+}
+
+/// The line which says that a history is bad, or isn't known to be good.
+pub fn rejected(text: Vec<u8>) -> Line
+    ensures text { result.text ≡ text }
+    ensures verdict { result.verdict ≡ Verdict.Bad }
+{
+    Line {
+        text,
+        verdict: Verdict::Bad,
     }
 }

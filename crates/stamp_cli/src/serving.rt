@@ -1,11 +1,8 @@
 //! A command from the bytes that come in to the line that goes out.
 
-ghost use Rattle.std.specs.Prelude.{◌≡◌, ◌≢◌, ◌++◌, ◌∷◌, ◌+◌, [], length, IfOk, IfErr, Ok, Err};
-ghost use Rattle.std.specs.Io.KnownBytes.{Appends};
-ghost use Rattle.stamp_cli.specs.Sink.{AppendsFront};
-ghost use Rattle.stamp_cli.specs.Results.{Makes, MakesAtMost, taken_since};
-ghost use Rattle.stamp_cli.specs.Serving.{HasRead, HasWritten};
-ghost use Rattle.stamp_cli.specs.Answer.{LineView, AnswersSource, most_reads_of, most_taken_of};
+ghost use Rattle.stamp_cli.specs.Results.{taken_since};
+ghost use Rattle.stamp_cli.specs.Serving.{HasRead, HasWritten, WritesAnswer, RefusesAsDue, WritesFront};
+ghost use Rattle.stamp_cli.specs.Answer.{AnswersSource, IsVerdictOf, most_reads_of, most_taken_of, with_line_feed};
 
 use crate::answer::line_of_order;
 use crate::faults::ServeFault;
@@ -33,25 +30,21 @@ pub fn serve<S: Source, K: Sink>(
         (S.reads source.old) (S.reads source.new) (most_reads_of order) (most_taken_of order) result }
 
     // The answer to all that was read is written with a line feed, and nothing else; the verdict is its.
-    ensures ok { IfOk result (λ verdict. (line : LineView)
-        × AnswersSource order (S.left source.old) (S.left source.new)
-        (taken_since (S.reads source.old) (S.reads source.new)) (Ok line) × (verdict ≡ line.verdict)
-        × Appends (K.sent sink.old) (K.sent sink.new) (line.text ++ 10 ∷ [])
-        × Makes (K.writes sink.old) (K.writes sink.new) (length line.text + 1)) }
+    ensures ok { WritesAnswer (AnswersSource order (S.left source.old) (S.left source.new)
+        (taken_since (S.reads source.old) (S.reads source.new))) IsVerdictOf with_line_feed
+        (K.sent sink.old) (K.sent sink.new) (K.writes sink.old) (K.writes sink.new) result }
 
     // All that was read is refused so.
-    ensures refused { IfErr result (λ e. e ≢ ServeFault.ReadFault → e ≢ ServeFault.WriteFault
-        → e ≢ ServeFault.Memory → AnswersSource order (S.left source.old) (S.left source.new)
-        (taken_since (S.reads source.old) (S.reads source.new)) (Err e)) }
+    ensures refused { RefusesAsDue ServeFault.ReadFault ServeFault.WriteFault ServeFault.Memory
+        (AnswersSource order (S.left source.old) (S.left source.new)
+        (taken_since (S.reads source.old) (S.reads source.new))) result }
 
     // A write that failed leaves a front of the line and is the last, and no other refusal writes.
     ensures writes { HasWritten ServeFault.WriteFault (K.sent sink.old) (K.sent sink.new)
         (K.writes sink.old) (K.writes sink.new) result }
-    ensures front { result ≡ Err ServeFault.WriteFault → ((line : LineView)
-        × AnswersSource order (S.left source.old) (S.left source.new)
-        (taken_since (S.reads source.old) (S.reads source.new)) (Ok line)
-        × AppendsFront (K.sent sink.old) (K.sent sink.new) (line.text ++ 10 ∷ [])
-        × MakesAtMost (K.writes sink.old) (K.writes sink.new) (length line.text + 1) (length line.text + 1)) }
+    ensures front { WritesFront ServeFault.WriteFault (AnswersSource order (S.left source.old) (S.left source.new)
+        (taken_since (S.reads source.old) (S.reads source.new))) with_line_feed
+        (K.sent sink.old) (K.sent sink.new) (K.writes sink.old) (K.writes sink.new) result }
 {
     let Line { mut text, verdict } = line_of_order(alloc, order, source)?;
     text.push(b'\n')?;

@@ -6,12 +6,12 @@ use Rattle.std.specs.Prelude.{◌&&◌, ◌==◌, nat_lt, IsTrue}
 use Rattle.stamp_core.specs.LockEvent.{LockEvent, Counts, counts}
 use Rattle.stamp_core.specs.Layout.{units_of}
 use Rattle.stamp_core.specs.Limits.{Bounds, AreInRange, units}
-use Rattle.stamp_core.specs.IsWellFormed.{Within}
+use Rattle.stamp_core.specs.IsWellFormed.{CountsAreWithin}
 use Rattle.stamp_core.specs.Stamp.{optimistic_stamp, is_held_write, is_held_read, IsStamp}
 use Rattle.stamp_core.specs.Word.{LockWord, word_at, word_number, IsAdmitted}
 use Rattle.stamp_core.specs.Call.{is_lock_call}
 use Rattle.stamp_core.specs.Transition.{Transition, transition, row, may_write, may_read}
-use Rattle.stamp_core.specs.Decision.{Decides, stamp_in, FitsInStamp}
+use Rattle.stamp_core.specs.Decision.{Decides, stamp_in, StampIsBelowTop}
 use Rattle.stamp_core.specs.Decoded.{counts_in, after_events}
 use Rattle.stamp_core.specs.CountedDecision.{by_events, by_transition, decision_of, decision}
 use Rattle.stamp_core.specs.Laws.{DecisionsAreTransitions, OnlyLockingWaits}
@@ -103,20 +103,20 @@ stamp_fits limits c t (Count n) e issued = omega arith
 stamp_fits limits c t (Content words) e issued = omega arith
 
 transition_fits : (limits : Bounds) (c : Counts) (t : Option Transition) → IssuesBy (units limits) c t →
-    FitsInStamp (by_transition limits c t)
+    StampIsBelowTop (by_transition limits c t)
 transition_fits limits c None issued = tt
 transition_fits limits c (Some t) issued = by t.appended
   where
-    by : (appended : List LockEvent) → FitsInStamp (by_events limits c appended t.reply)
+    by : (appended : List LockEvent) → StampIsBelowTop (by_events limits c appended t.reply)
     by [] = stamp_fits limits c t t.reply refl issued
     by (event ∷ appended) = stamp_fits limits c t t.reply refl issued
 
 pub decision_fits : (limits : Bounds) (word : LockWord) (call : Call) → AreInRange limits → IsAdmitted limits word →
-    FitsInStamp (decision_of limits word call)
+    StampIsBelowTop (decision_of limits word call)
 decision_fits limits word call range admitted =
     let same : counts_in word ≡ counts admitted.events =
     counts_in-represented limits word admitted.events range admitted.represented in
-    let within : Within limits (counts_in word) =
+    let within : CountsAreWithin limits (counts_in word) =
     rw same (obeys_now limits admitted.events admitted.represented.well_formed).within in
     transition_fits limits (counts_in word) (row limits (counts_in word) call)
     (row_issues limits (counts_in word) range within call).issued

@@ -13,7 +13,7 @@ use Rattle.stamp_core.specs.History.{History, appended_by, IsReply, IsLegal, IsL
 use Rattle.stamp_core.specs.History.{content_from, events_from, events_of, content_after}
 use Rattle.stamp_core.specs.Content.{zeros, content_next}
 use Rattle.stamp_core.specs.Laws.{LinearizedByEntries}
-use Rattle.stamp_core.specs.Linearized.{history_of, IsWithin, KeepsThreadOrder, AreLinearized, Fits}
+use Rattle.stamp_core.specs.Linearized.{history_of, HasPointInside, KeepsThreadOrder, AreLinearized, MayFollow}
 use Rattle.stamp_core.specs.declared.entry.Entry.{Entry}
 use Rattle.stamp_core.specs.declared.call.Call.{Call}
 use Rattle.stamp_core.specs.declared.reply.Reply.{Reply}
@@ -98,21 +98,21 @@ content_push width xs e = ap (λ (h : History). content_after width h) (history_
 pub linearized_first : (limits : Bounds) (width : ℕ) (xs ys : List Entry) → AreLinearized limits width (xs ++ ys) →
     AreLinearized limits width xs
 linearized_first limits width xs ys all = record {
-  within = all_first IsWithin xs ys all.within;
+  within = all_first HasPointInside xs ys all.within;
   rising = adjacent_first (λ (e f : Entry). e.point < f.point) xs ys all.rising;
   apart = pairs_first KeepsThreadOrder xs ys all.apart;
   legal = legal_first limits [] (zeros width) (history_of xs) (history_of ys)
       (subst (λ (h : History). IsLegal limits width h) (history_append xs ys) all.legal);
 }
 
--- each entry of one fits after those before it
+-- each entry of one may follow those before it
 pub linearized_fits : (limits : Bounds) (width : ℕ) (before after : List Entry) (e : Entry) →
-    AreLinearized limits width (before ++ e ∷ after) → Fits limits width before e
+    AreLinearized limits width (before ++ e ∷ after) → MayFollow limits width before e
 linearized_fits limits width before after e all =
     let whole = before ++ e ∷ after in
     let size : length before < length whole = omega (arith, length-append before (e ∷ after)) in
     record {
-      within = subst IsWithin (get_or-append_seam before e after e) (all.within (length before) e size);
+      within = subst HasPointInside (get_or-append_seam before e after e) (all.within (length before) e size);
       rises = λ d some.
           let n : length before - 1 + 1 ≡ length before = omega arith in
           let lt : length before - 1 + 1 < length whole = omega arith in
@@ -128,9 +128,9 @@ linearized_fits limits width before after e all =
     }
 
 pub linearized_more : (limits : Bounds) (width : ℕ) (before : List Entry) (e : Entry) →
-    AreLinearized limits width before → Fits limits width before e → AreLinearized limits width (before ++ e ∷ [])
+    AreLinearized limits width before → MayFollow limits width before e → AreLinearized limits width (before ++ e ∷ [])
 linearized_more limits width before e all fits = record {
-  within = All-push IsWithin before e all.within fits.within;
+  within = All-push HasPointInside before e all.within fits.within;
   rising = adjacent_push (λ (x y : Entry). x.point < y.point) before e all.rising fits.rises;
   apart = all_pairs_push KeepsThreadOrder before e all.apart fits.follows;
   legal = subst (λ (h : History). IsLegal limits width h) (sym (history_append before (e ∷ [])))

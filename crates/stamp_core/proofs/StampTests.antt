@@ -7,7 +7,7 @@ use Rattle.std.proofs.lemmas.Bool.{eqb-true, eq-eqb, ltb-true, lt-ltb}
 use Rattle.stamp_core.specs.LockEvent.{counts}
 use Rattle.stamp_core.specs.Layout.{Units}
 use Rattle.stamp_core.specs.Limits.{units}
-use Rattle.stamp_core.specs.IsWellFormed.{Within}
+use Rattle.stamp_core.specs.IsWellFormed.{CountsAreWithin}
 use Rattle.stamp_core.specs.Stamp.{optimistic_stamp, IsWriteStamp, IsReadStamp, IsStamp}
 use Rattle.stamp_core.specs.Stamp.{IsHeldWrite, IsHeldRead, IsValid, is_write_stamp, is_read_stamp}
 use Rattle.stamp_core.specs.Stamp.{is_stamp, is_valid, is_held_write, is_held_read}
@@ -53,7 +53,7 @@ pub tests_are_exact : TestsAreExact
 tests_are_exact limits events s range well_formed =
     ((valid_of, of_valid), (write_held, of_write_held), (read_held, of_read_held))
   where
-    within : Within limits (counts events)
+    within : CountsAreWithin limits (counts events)
     within = (obeys_now limits events well_formed).within
 
     most : (counts events).write_count ≤ (units limits).versions

@@ -14,7 +14,7 @@ use Rattle.stamp_core.specs.LockEvent.{is_write_acquired, is_write_released}
 use Rattle.stamp_core.specs.LockEvent.LockEvent.{WriteAcquired, ReadAcquired}
 use Rattle.stamp_core.specs.Limits.{Bounds, AreInRange, units}
 use Rattle.stamp_core.specs.Layout.{units_of, Units}
-use Rattle.stamp_core.specs.IsWellFormed.{Within, IsWellFormed}
+use Rattle.stamp_core.specs.IsWellFormed.{CountsAreWithin, IsWellFormed}
 use Rattle.stamp_core.specs.Stamp.{write_stamp, optimistic_stamp, read_stamp, IsWriteStamp, IsStamp}
 use Rattle.stamp_core.specs.Stamp.{IsValid, is_held_write, is_held_read}
 use Rattle.stamp_core.specs.Transition.{Transition, row, transition, answer, change, next_write}
@@ -113,7 +113,7 @@ gets_write l c range may = let room : c.write_count < l.versions = grind (arith,
     issues (λ _. as_write (units l) (c.write_count + 1) 1 (write_stamp (units l) (c.write_count + 1)) (omega arith)
     (omega arith) refl)
 
-gets_read : (l : Bounds) (c : Counts) → AreInRange l → Within l c → may_read l c ≡ true →
+gets_read : (l : Bounds) (c : Counts) → AreInRange l → CountsAreWithin l c → may_read l c ≡ true →
     Issues (units l) c (change (ReadAcquired ∷ []) (next_read (units l) c))
 gets_read l c range within may =
     let free : c.writers ≡ 0 = grind (arith, nat_tests) in
@@ -133,7 +133,7 @@ observed_of : (u : Units) (c : Counts) (s : ℕ) → ((s == optimistic_stamp u c
     true → (s ≡ optimistic_stamp u c.write_count) × (c.writers ≡ 0)
 observed_of u c s h = grind (arith, nat_tests)
 
-optimistic_issues : (l : Bounds) (c : Counts) → AreInRange l → Within l c → (b : Bool) →
+optimistic_issues : (l : Bounds) (c : Counts) → AreInRange l → CountsAreWithin l c → (b : Bool) →
     (b ≡ true → c.writers ≡ 0) → Issues (units l) c
     (answer (Stamp (if b then optimistic_stamp (units l) c.write_count else 0)))
 optimistic_issues l c range within true free =
@@ -144,10 +144,10 @@ optimistic_issues l c range within false free = zero_stamp
 is_none : (c : Counts) → (c.writers == 0) ≡ true → c.writers ≡ 0
 is_none c h = grind (arith, nat_tests)
 
-no_writer : (l : Bounds) (c : Counts) → Within l c → 0 < c.readers → c.writers ≡ 0
+no_writer : (l : Bounds) (c : Counts) → CountsAreWithin l c → 0 < c.readers → c.writers ≡ 0
 no_writer l c within some = grind arith
 
-pub row_issues : (limits : Bounds) (c : Counts) → AreInRange limits → Within limits c → (call : Call) →
+pub row_issues : (limits : Bounds) (c : Counts) → AreInRange limits → CountsAreWithin limits c → (call : Call) →
     Issues (units limits) c (row limits c call)
 row_issues l c range within TryWrite = issues_if (units l) c (may_write l c) (λ h. gets_write l c range h)
     (λ _. zero_stamp)

@@ -8,7 +8,7 @@ use Rattle.stamp_core.specs.LockEvent.{LockEvent, Counts}
 use Rattle.stamp_core.specs.LockEvent.LockEvent.{WriteAcquired, WriteReleased, ReadAcquired, ReadReleased}
 use Rattle.stamp_core.specs.Limits.{Bounds, units}
 use Rattle.stamp_core.specs.Word.{word_number}
-use Rattle.stamp_core.specs.IsWellFormed.{Within}
+use Rattle.stamp_core.specs.IsWellFormed.{CountsAreWithin}
 use Rattle.stamp_core.specs.Stamp.{optimistic_stamp, is_held_write, is_held_read}
 use Rattle.stamp_core.specs.Transition.{Transition, row, answer, change, may_write, may_read}
 use Rattle.stamp_core.specs.Decoded.{after_events}
@@ -59,17 +59,19 @@ got_write limits c may = let e = either_layout limits.layout in grind (arith, na
 got_read : (limits : Bounds) (c : Counts) → may_read limits c ≡ true → IsAllowed limits c (ReadAcquired ∷ [])
 got_read limits c may = let e = either_layout limits.layout in grind (arith, nat_tests)
 
-end_write : (limits : Bounds) (c : Counts) → Within limits c → c.writers ≡ 1 → IsAllowed limits c (WriteReleased ∷ [])
+end_write : (limits : Bounds) (c : Counts) → CountsAreWithin limits c → c.writers ≡ 1 →
+    IsAllowed limits c (WriteReleased ∷ [])
 end_write limits c within writers = let e = either_layout limits.layout in grind (arith, nat_tests)
 
-end_read : (limits : Bounds) (c : Counts) → Within limits c → 0 < c.readers → IsAllowed limits c (ReadReleased ∷ [])
+end_read : (limits : Bounds) (c : Counts) → CountsAreWithin limits c → 0 < c.readers →
+    IsAllowed limits c (ReadReleased ∷ [])
 end_read limits c within some = let e = either_layout limits.layout in grind (arith, nat_tests)
 
-read_to_write : (limits : Bounds) (c : Counts) → Within limits c → c.readers ≡ 1 → c.write_count < limits.versions →
-    IsAllowed limits c (ReadReleased ∷ WriteAcquired ∷ [])
+read_to_write : (limits : Bounds) (c : Counts) → CountsAreWithin limits c → c.readers ≡ 1 →
+    c.write_count < limits.versions → IsAllowed limits c (ReadReleased ∷ WriteAcquired ∷ [])
 read_to_write limits c within one room = let e = either_layout limits.layout in grind (arith, nat_tests)
 
-write_to_read : (limits : Bounds) (c : Counts) → Within limits c → 1 ≤ limits.readers → c.writers ≡ 1 →
+write_to_read : (limits : Bounds) (c : Counts) → CountsAreWithin limits c → 1 ≤ limits.readers → c.writers ≡ 1 →
     IsAllowed limits c (WriteReleased ∷ ReadAcquired ∷ [])
 write_to_read limits c within some writers = let e = either_layout limits.layout in grind (arith, nat_tests)
 
@@ -85,7 +87,7 @@ pub sole_reader : (limits : Bounds) (c : Counts) (s : ℕ) →
 sole_reader limits c s held = grind (arith, nat_tests)
 
 -- the rows
-pub row_keeps : (limits : Bounds) (c : Counts) → 1 ≤ limits.readers → Within limits c → (call : Call) →
+pub row_keeps : (limits : Bounds) (c : Counts) → 1 ≤ limits.readers → CountsAreWithin limits c → (call : Call) →
     Keeps limits c (row limits c call)
 row_keeps l c some within TryWrite = keeps_if l c (may_write l c) (λ h. moves (got_write l c h)) (λ _. stays)
 row_keeps l c some within TryRead = keeps_if l c (may_read l c) (λ h. moves (got_read l c h)) (λ _. stays)

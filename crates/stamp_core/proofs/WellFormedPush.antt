@@ -11,7 +11,7 @@ use Rattle.stamp_core.specs.LockEvent.{is_write_acquired, is_write_released, is_
 use Rattle.stamp_core.specs.LockEvent.{is_read_released}
 use Rattle.stamp_core.specs.LockEvent.LockEvent.{WriteAcquired, WriteReleased, ReadAcquired, ReadReleased}
 use Rattle.stamp_core.specs.Limits.{Bounds}
-use Rattle.stamp_core.specs.IsWellFormed.{Within, Obeys, IsWellFormed}
+use Rattle.stamp_core.specs.IsWellFormed.{CountsAreWithin, Obeys, IsWellFormed}
 use Rattle.stamp_core.specs.Decoded.{after_event, after_events}
 
 -- the event may come next
@@ -56,7 +56,7 @@ same_counts c k w r e f g =
 settle : (limits : Bounds) (events : List LockEvent) (c : Counts) →
     count_by is_write_released events ≤ write_count events →
     count_by is_read_released events ≤ count_by is_read_acquired events → write_count events ≡ c.write_count →
-    writers events ≡ c.writers → readers events ≡ c.readers → Within limits c → Obeys limits events ×
+    writers events ≡ c.writers → readers events ≡ c.readers → CountsAreWithin limits c → Obeys limits events ×
     (counts events ≡ c)
 settle limits events c ended read_ended k w r within =
     let same : counts events ≡ c = same_counts (counts events) c.write_count c.writers c.readers k w r in (
@@ -64,7 +64,7 @@ settle limits events c ended read_ended k w r within =
         write_acquired = ended;
         read_acquired = read_ended;
         within =
-            subst (λ (d : Counts). Within limits d) (sym same) within;
+            subst (λ (d : Counts). CountsAreWithin limits d) (sym same) within;
       },
       same,
     )

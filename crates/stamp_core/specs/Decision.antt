@@ -61,7 +61,7 @@ stamp_in (Stamp s) = s
 stamp_in _ = 0
 
 -- the stamp that is answered is below 2^63
-abbrev pub FitsInStamp : Decision → Type 0
-FitsInStamp (Answer reply) = stamp_in reply < 2 ^ 63
-FitsInStamp (Change new reply) = stamp_in reply < 2 ^ 63
-FitsInStamp Wait = Unit {0}
+abbrev pub StampIsBelowTop : Decision → Type 0
+StampIsBelowTop (Answer reply) = stamp_in reply < 2 ^ 63
+StampIsBelowTop (Change new reply) = stamp_in reply < 2 ^ 63
+StampIsBelowTop Wait = Unit {0}

@@ -6,7 +6,7 @@ use Rattle.stamp_core.specs.LockEvent.{is_read_acquired, is_read_released}
 use Rattle.stamp_core.specs.Limits.{Bounds}
 
 -- one writer or readers alone, and no more than the limits allow
-pub record Within (limits : Bounds) (c : Counts) : Type 0 where
+pub record CountsAreWithin (limits : Bounds) (c : Counts) : Type 0 where
   pub one_writer : c.writers ≤ 1
   pub readers : c.readers ≤ limits.readers
   pub apart : 0 < c.writers → c.readers ≡ 0
@@ -16,7 +16,7 @@ pub record Within (limits : Bounds) (c : Counts) : Type 0 where
 pub record Obeys (limits : Bounds) (events : List LockEvent) : Type 0 where
   pub write_acquired : count_by is_write_released events ≤ write_count events
   pub read_acquired : count_by is_read_released events ≤ count_by is_read_acquired events
-  pub within : Within limits (counts events)
+  pub within : CountsAreWithin limits (counts events)
 
 -- so it was at every moment: of each beginning of the list
 pub record IsWellFormed (limits : Bounds) (events : List LockEvent) : Type 0 where

@@ -10,7 +10,7 @@ use Rattle.stamp_core.specs.Transition.{transition}
 use Rattle.stamp_core.specs.Decision.{Decides}
 use Rattle.stamp_core.specs.CountedDecision.{decision}
 use Rattle.stamp_core.specs.History.{History, appended_by, events_of, IsLegal}
-use Rattle.stamp_core.specs.Linearized.{AreLinearized, Fits}
+use Rattle.stamp_core.specs.Linearized.{AreLinearized, MayFollow}
 use Rattle.stamp_core.specs.declared.entry.Entry.{Entry}
 use Rattle.stamp_core.specs.declared.call.Call.{Call}
 use Rattle.stamp_core.specs.declared.call.Call.TheVariants.{WriteLock, ReadLock}
@@ -63,8 +63,9 @@ OnlyLockingWaits =
     transition limits events call ≡ None →
     (call ≡ WriteLock) ⊎ (call ≡ ReadLock)
 
--- Entries are linearized exactly where those before the last are, and the last fits after them.
+-- Entries are linearized exactly where those before the last are, and the last may follow them.
 abbrev pub LinearizedByEntries : Type 0
 LinearizedByEntries =
     (limits : Bounds) (width : ℕ) (before : List Entry) (e : Entry) →
-    AreLinearized limits width (before ++ e ∷ []) ↔ (AreLinearized limits width before × Fits limits width before e)
+    AreLinearized limits width (before ++ e ∷ []) ↔
+    (AreLinearized limits width before × MayFollow limits width before e)

@@ -11,7 +11,7 @@ abbrev pub history_of : List Entry → History
 history_of entries = map (λ (e : Entry). (e.call, e.reply)) entries
 
 -- the point lies between the first and the last position
-pub record IsWithin (e : Entry) : Type 0 where
+pub record HasPointInside (e : Entry) : Type 0 where
   pub begun : e.first ≤ e.point
   pub ended : e.point ≤ e.last
 
@@ -22,7 +22,7 @@ KeepsThreadOrder earlier later = earlier.thread ≡ later.thread → earlier.las
 -- points lie in their intervals and rise, the entries of a thread do not overlap, and the history
 -- in this order is legal
 pub record AreLinearized (limits : Bounds) (width : ℕ) (entries : List Entry) : Type 0 where
-  pub within : All IsWithin entries
+  pub within : All HasPointInside entries
   pub rising : AllAdjacentBelow (λ (e f : Entry). e.point < f.point) entries (length entries)
   pub apart : AllPairs KeepsThreadOrder entries
   pub legal : IsLegal limits width (history_of entries)
@@ -42,8 +42,8 @@ IsAnswered limits width before e = IsReply limits (events_of limits (history_of 
     (content_after width (history_of before)) e.call e.reply
 
 -- the entry may come after those before it
-pub record Fits (limits : Bounds) (width : ℕ) (before : List Entry) (e : Entry) : Type 0 where
-  pub within : IsWithin e
+pub record MayFollow (limits : Bounds) (width : ℕ) (before : List Entry) (e : Entry) : Type 0 where
+  pub within : HasPointInside e
   pub rises : RisesAbove before e
   pub follows : FollowsItsThread before e
   pub answered : IsAnswered limits width before e

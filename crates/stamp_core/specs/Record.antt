@@ -18,7 +18,7 @@ abbrev pub recorded : Bounds → ℕ → List Entry → List (ℕ × ℕ) → Re
 recorded limits width entries report = record { limits = limits; width = width; entries = entries; report = report }
 
 -- the thread is one of 64, and the call suits the width
-pub record SuitsRecord (width : ℕ) (entry : Entry) : Type 0 where
+pub record EntrySuits (width : ℕ) (entry : Entry) : Type 0 where
   pub thread : entry.thread < 64
   pub call : IsTrue (call_suits width entry.call)
 
@@ -27,12 +27,12 @@ pub record IsRecorded (r : Recorded) : Type 0 where
   pub width : r.width ≤ 16
   pub entries : length r.entries ≤ 640000
   pub report : (length r.report ≡ 0) ⊎ (length r.report ≡ length r.entries)
-  pub suit : All (SuitsRecord r.width) r.entries
+  pub suit : All (EntrySuits r.width) r.entries
 
 -- words are 1 to 16, as those of each program value are
-abbrev pub ReplyFits : Reply → Type 0
-ReplyFits (Content words) = (1 ≤ length words) × (length words ≤ 16)
-ReplyFits _ = Unit {0}
+abbrev pub HasFewWords : Reply → Type 0
+HasFewWords (Content words) = (1 ≤ length words) × (length words ≤ 16)
+HasFewWords _ = Unit {0}
 
 abbrev pub RepliesFit : List Entry → Type 0
-RepliesFit entries = All (λ (e : Entry). ReplyFits e.reply) entries
+RepliesFit entries = All (λ (e : Entry). HasFewWords e.reply) entries

@@ -113,7 +113,7 @@ fn optimistic(limits: Limits, word: Word) -> LockDecision
     if word.has_writer() {
         zero()
     } else {
-        LockDecision::Answer(LockReply::Stamp(word.observed()))
+        LockDecision::Answer(LockReply::Stamp(word.optimistic_stamp()))
     }
 }
 
@@ -171,7 +171,7 @@ fn to_write(limits: Limits, word: Word, stamp: u64) -> LockDecision
         && word.write_count() < limits.versions()
     {
         gets(word.without_reader().with_writer())
-    } else if word.may_write(limits) && stamp == word.observed() {
+    } else if word.may_write(limits) && stamp == word.optimistic_stamp() {
         gets(word.with_writer())
     } else {
         zero()
@@ -187,7 +187,7 @@ fn to_read(limits: Limits, word: Word, stamp: u64) -> LockDecision
         gets(word.without_writer().with_reader())
     } else if word.holds_read(stamp) {
         LockDecision::Answer(LockReply::Stamp(stamp))
-    } else if word.may_read(limits) && stamp == word.observed() {
+    } else if word.may_read(limits) && stamp == word.optimistic_stamp() {
         gets(word.with_reader())
     } else {
         zero()
@@ -204,8 +204,8 @@ fn to_optimistic(limits: Limits, word: Word, stamp: u64) -> LockDecision
         LockDecision::Change(next, LockReply::Stamp(next.bits()))
     } else if word.holds_read(stamp) {
         let next = word.without_reader();
-        LockDecision::Change(next, LockReply::Stamp(next.observed()))
-    } else if !word.has_writer() && stamp == word.observed() {
+        LockDecision::Change(next, LockReply::Stamp(next.optimistic_stamp()))
+    } else if !word.has_writer() && stamp == word.optimistic_stamp() {
         LockDecision::Answer(LockReply::Stamp(stamp))
     } else {
         zero()

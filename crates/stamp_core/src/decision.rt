@@ -2,7 +2,7 @@
 ghost use Rattle.std.specs.Prelude.{◌≡◌, IsTrue};
 ghost use Rattle.stamp_core.specs.Call.{is_lock_call};
 ghost use Rattle.stamp_core.specs.Word.{IsAdmitted};
-ghost use Rattle.stamp_core.specs.Decision.{Decides, IsTransition, FitsInStamp};
+ghost use Rattle.stamp_core.specs.Decision.{Decides, IsTransition, StampIsBelowTop};
 ghost use Rattle.stamp_core.specs.CountedDecision.{decision};
 
 use crate::call::Call;
@@ -31,7 +31,7 @@ pub fn decide(limits: Limits, word: Word, call: Call) -> Decision
 
     // For the crates above: the decision is a function of the number, and its stamp leaves room.
     ensures number { result ≡ decision limits word.bits call }
-    ensures fits { FitsInStamp result }
+    ensures fits { StampIsBelowTop result }
 {
     decide_lock(limits, word, &call).as_decision()
 }

@@ -34,7 +34,7 @@ pub fn only_locking_waits()
     ensures { OnlyLockingWaits }
 {}
 
-/// Entries are linearized exactly where those before the last are and the last fits after them.
+/// Entries are linearized exactly where those before the last are and the last may follow them.
 pub fn linearized_by_entries()
     ensures { LinearizedByEntries }
 {}

@@ -67,7 +67,7 @@ impl Layout {
 
     /// How many times the unit of a version fits into a number.
     #[inline(always)]
-    pub(crate) fn versions_of(self, number: u64) -> u64
+    pub(crate) fn version_units_in(self, number: u64) -> u64
         ensures { result ≡ number / (units_of self).version }
     {
         match self {
@@ -93,9 +93,9 @@ impl Layout {
             then number / u.version else number / u.version - 1) }
     {
         if self.has_writer(number) {
-            self.versions_of(number)
+            self.version_units_in(number)
         } else {
-            self.versions_of(number) - 1
+            self.version_units_in(number) - 1
         }
     }
 

@@ -172,7 +172,7 @@ impl Limits {
         ensures { IsTrue result ↔ IsWithinLimits self.now bits }
     {
         let holders = self.layout.holders_of(bits);
-        let begun = self.layout.versions_of(bits);
+        let begun = self.layout.version_units_in(bits);
         if holders == self.layout.writer_unit() {
             begun > 0 && begun <= self.versions
         } else {

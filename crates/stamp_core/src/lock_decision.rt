@@ -3,7 +3,7 @@
 ghost use Rattle.std.specs.Prelude.{◌≡◌, IsTrue};
 ghost use Rattle.stamp_core.specs.Call.{is_lock_call};
 ghost use Rattle.stamp_core.specs.Word.{IsAdmitted};
-ghost use Rattle.stamp_core.specs.Decision.{Decides, FitsInStamp};
+ghost use Rattle.stamp_core.specs.Decision.{Decides, StampIsBelowTop};
 ghost use Rattle.stamp_core.specs.CountedDecision.{decision};
 ghost use Rattle.stamp_core.specs.LockDecision.{reply_as, decision_as};
 
@@ -83,7 +83,7 @@ pub fn decide_lock(limits: Limits, word: Word, call: &Call) -> LockDecision
 
     // For the crates above: the decision is a function of the number, and its stamp leaves room.
     ensures number { decision_as result ≡ decision limits word.bits call.now }
-    ensures fits { FitsInStamp (decision_as result) }
+    ensures fits { StampIsBelowTop (decision_as result) }
 {
     limits.known();
     decided(limits, word, call)

@@ -1,7 +1,7 @@
 //! Recorded histories.
 ghost use Rattle.std.specs.Prelude.{◌≡◌, ◌≤◌, ◌↔◌, [], length, IsSome, IfSome, IsTrue};
 ghost use Rattle.std.specs.List.{All};
-ghost use Rattle.stamp_core.specs.Record.{recorded, IsRecorded, SuitsRecord, ReplyFits, RepliesFit};
+ghost use Rattle.stamp_core.specs.Record.{recorded, IsRecorded, EntrySuits, HasFewWords, RepliesFit};
 
 use crate::entry::Entry;
 use crate::limits::Limits;
@@ -39,7 +39,7 @@ impl Model for Record {
 
 /// Touches the words of a reply, by which the prover knows how many there are.
 fn known_reply(reply: &Reply)
-    ensures { ReplyFits reply.now }
+    ensures { HasFewWords reply.now }
 {
     if let Reply::Content(words) = reply {
         let _ = words.len();
@@ -48,15 +48,15 @@ fn known_reply(reply: &Reply)
 
 /// The entry can stand in a recorded history of this width.
 fn entry_suits(width: u64, entry: &Entry) -> bool
-    ensures suits { IsTrue result ↔ SuitsRecord width entry.now }
-    ensures reply { ReplyFits entry.now.reply }
+    ensures suits { IsTrue result ↔ EntrySuits width entry.now }
+    ensures reply { HasFewWords entry.now.reply }
 {
     known_reply(&entry.reply);
     entry.thread < MOST_THREADS && entry.call.suits(width)
 }
 
 fn all_suit(width: u64, entries: &[Entry]) -> bool
-    ensures suit { IsTrue result ↔ All (SuitsRecord width) entries.now }
+    ensures suit { IsTrue result ↔ All (EntrySuits width) entries.now }
     ensures replies { IsTrue result → RepliesFit entries.now }
 {
     for entry in entries {

@@ -23,7 +23,7 @@ pub enum Reply {
     Content(Words),
 }
 
-fn is_stamp(reply: &Reply, stamp: u64) -> bool
+fn is_this_stamp(reply: &Reply, stamp: u64) -> bool
     ensures { IsTrue result ↔ (reply.now ≡ Reply.Stamp stamp) }
 {
     match *reply {
@@ -32,7 +32,7 @@ fn is_stamp(reply: &Reply, stamp: u64) -> bool
     }
 }
 
-fn is_count(reply: &Reply, count: u64) -> bool
+fn is_this_count(reply: &Reply, count: u64) -> bool
     ensures { IsTrue result ↔ (reply.now ≡ Reply.Count count) }
 {
     match *reply {
@@ -41,7 +41,7 @@ fn is_count(reply: &Reply, count: u64) -> bool
     }
 }
 
-fn is_content(reply: &Reply, words: &Words) -> bool
+fn is_this_content(reply: &Reply, words: &Words) -> bool
     ensures { IsTrue result ↔ (reply.now ≡ Reply.Content words.now) }
 {
     match reply {
@@ -56,13 +56,13 @@ impl Reply {
         ensures { IsTrue result ↔ (self.now ≡ other.now) }
     {
         match other {
-            Reply::Stamp(stamp) => is_stamp(self, *stamp),
+            Reply::Stamp(stamp) => is_this_stamp(self, *stamp),
             Reply::Yes => matches!(self, Reply::Yes),
             Reply::No => matches!(self, Reply::No),
             Reply::Done => matches!(self, Reply::Done),
             Reply::Mismatch => matches!(self, Reply::Mismatch),
-            Reply::Count(count) => is_count(self, *count),
-            Reply::Content(words) => is_content(self, words),
+            Reply::Count(count) => is_this_count(self, *count),
+            Reply::Content(words) => is_this_content(self, words),
         }
     }
 }

@@ -189,7 +189,7 @@ impl Word {
     }
 
     /// The optimistic stamp of this version.
-    pub(crate) fn observed(&self) -> u64
+    pub(crate) fn optimistic_stamp(&self) -> u64
         requires { (counts_in self.now).writers ≡ 0 }
         ensures { result
             ≡ optimistic_stamp (units_of self.now.layout) (counts_in self.now).write_count }
@@ -203,7 +203,7 @@ impl Word {
         ensures { result
             ≡ write_stamp (units_of self.now.layout) (counts_in self.now).write_count }
     {
-        self.observed() - self.layout.writer_unit()
+        self.optimistic_stamp() - self.layout.writer_unit()
     }
 
     /// The stamp is that of the writer that is there.
@@ -218,8 +218,8 @@ impl Word {
         ensures { result ≡ is_held_read (units_of self.now.layout) (counts_in self.now) stamp }
     {
         0 < self.reader_count()
-            && stamp > self.observed()
-            && stamp - self.observed() < self.layout.writer_unit()
+            && stamp > self.optimistic_stamp()
+            && stamp - self.optimistic_stamp() < self.layout.writer_unit()
     }
 
     /// No writer came since the stamp was issued.
@@ -229,7 +229,7 @@ impl Word {
         if self.has_writer() {
             self.holds_write(stamp)
         } else {
-            let seen = self.observed();
+            let seen = self.optimistic_stamp();
             (stamp >= seen && stamp - seen < self.layout.writer_unit())
                 || (self.write_count() > 0 && stamp == self.last_write())
         }

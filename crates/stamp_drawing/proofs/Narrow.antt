@@ -9,9 +9,9 @@ use Rattle.stamp_drawing.specs.Rows.{row_text, shortened, cut_text, AreNarrow}
 use Rattle.stamp_drawing.specs.Rows.AreNarrow.{none, line}
 
 -- the rows, and a last line behind them
-pub rows_joined : (width : ℕ) (p : Drawn) (times : List ℕ) (last : List ℕ) →
-    concat (map (cut_text width) (map (row_text p) times ++ last ∷ [])) ≡
-    concat (map (λ (t : ℕ). cut_text width (row_text p t)) times) ++ cut_text width last
+pub rows_joined : (width : ℕ) (p : Drawn) (positions : List ℕ) (last : List ℕ) →
+    concat (map (cut_text width) (map (row_text p) positions ++ last ∷ [])) ≡
+    concat (map (λ (t : ℕ). cut_text width (row_text p t)) positions) ++ cut_text width last
 rows_joined width p [] last = append-nil (cut_text width last)
 rows_joined width p (t ∷ ts) last =
     ap (λ (rest : List ℕ). cut_text width (row_text p t) ++ rest) (rows_joined width p ts last)

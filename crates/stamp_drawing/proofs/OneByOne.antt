@@ -11,39 +11,39 @@ use Rattle.std.proofs.lemmas.List.FromFn.{map-range_with_len_more}
 use Rattle.stamp_picture.specs.declared.bar.Bar.{Bar}
 use Rattle.stamp_picture.specs.declared.state.Moment.{Moment}
 use Rattle.stamp_drawing.specs.declared.sheet.LabelledBox.{LabelledBox}
-use Rattle.stamp_drawing.specs.Frames.{ends_in, ends_of, lanes_in, point_x}
+use Rattle.stamp_drawing.specs.Frames.{positions_in, positions_of, lanes_in, point_x}
 use Rattle.stamp_drawing.specs.Sheet.{Box, box_of, boxes_of, point_box, point_boxes, same_content}
 use Rattle.stamp_drawing.specs.Sheet.{content_box, change_boxes}
 
-ends_push : (xs : List Bar) (b : Bar) → ends_of (xs ++ b ∷ []) ≡ ends_of xs ++ ends_in b
-ends_push [] b = append-nil (ends_in b)
-ends_push (x ∷ xs) b = ap (λ (ends : List ℕ). ends_in x ++ ends) (ends_push xs b)
-    ∙ sym (append_assoc (ends_in x) (ends_of xs) (ends_in b))
+positions_push : (xs : List Bar) (b : Bar) → positions_of (xs ++ b ∷ []) ≡ positions_of xs ++ positions_in b
+positions_push [] b = append-nil (positions_in b)
+positions_push (x ∷ xs) b = ap (λ (positions : List ℕ). positions_in x ++ positions) (positions_push xs b)
+    ∙ sym (append_assoc (positions_in x) (positions_of xs) (positions_in b))
 
-pub ends_more : (xs : List Bar) (i : ℕ) (b : Bar) → i < length xs → b ≡ get_or xs i b →
-    ends_of (take (i + 1) xs) ≡ ends_of (take i xs) ++ ends_in b
-ends_more xs i b lt is = ap (λ (ys : List Bar). ends_of ys) (take_more xs i b lt) ∙
-    ap (λ (x : Bar). ends_of (take i xs ++ x ∷ [])) (sym is) ∙ ends_push (take i xs) b
+pub positions_more : (xs : List Bar) (i : ℕ) (b : Bar) → i < length xs → b ≡ get_or xs i b →
+    positions_of (take (i + 1) xs) ≡ positions_of (take i xs) ++ positions_in b
+positions_more xs i b lt is = ap (λ (ys : List Bar). positions_of ys) (take_more xs i b lt) ∙
+    ap (λ (x : Bar). positions_of (take i xs ++ x ∷ [])) (sym is) ∙ positions_push (take i xs) b
 
-few_ends : (b : Bool) (x y z : ℕ) → length (x ∷ (if b then y ∷ z ∷ [] else z ∷ [])) ≤ 3
-few_ends true x y z = omega arith
-few_ends false x y z = omega arith
+few_positions : (b : Bool) (x y z : ℕ) → length (x ∷ (if b then y ∷ z ∷ [] else z ∷ [])) ≤ 3
+few_positions true x y z = omega arith
+few_positions false x y z = omega arith
 
-pub three_ends : (xs : List Bar) → length (ends_of xs) ≤ 3 * length xs
-three_ends [] = omega arith
-three_ends (x ∷ xs) = rw length-append
-    (omega (arith, few_ends x.point_shown x.begin x.point x.end, three_ends xs))
+pub three_positions : (xs : List Bar) → length (positions_of xs) ≤ 3 * length xs
+three_positions [] = omega arith
+three_positions (x ∷ xs) = rw length-append
+    (omega (arith, few_positions x.point_shown x.begin x.point x.end, three_positions xs))
 
--- the ends of a bar whose point is shown, and of one whose point is not
-pub shown_ends : (b : Bar) (old new : List ℕ) → b.point_shown ≡ true →
-    new ≡ ((old ++ b.begin ∷ []) ++ b.point ∷ []) ++ b.end ∷ [] → new ≡ old ++ ends_in b
-shown_ends b old new on is = is ∙ append_assoc (old ++ b.begin ∷ []) (b.point ∷ []) (b.end ∷ [])
+-- the positions of a bar whose point is shown, and of one whose point is not
+pub shown_positions : (b : Bar) (old new : List ℕ) → b.point_shown ≡ true →
+    new ≡ ((old ++ b.begin ∷ []) ++ b.point ∷ []) ++ b.end ∷ [] → new ≡ old ++ positions_in b
+shown_positions b old new on is = is ∙ append_assoc (old ++ b.begin ∷ []) (b.point ∷ []) (b.end ∷ [])
     ∙ append_assoc old (b.begin ∷ []) (b.point ∷ b.end ∷ [])
     ∙ ap (λ (m : Bool). old ++ b.begin ∷ (if m then b.point ∷ b.end ∷ [] else b.end ∷ [])) (sym on)
 
-pub unshown_ends : (b : Bar) (old new : List ℕ) → b.point_shown ≡ false →
-    new ≡ (old ++ b.begin ∷ []) ++ b.end ∷ [] → new ≡ old ++ ends_in b
-unshown_ends b old new off is = is ∙ append_assoc old (b.begin ∷ []) (b.end ∷ [])
+pub unshown_positions : (b : Bar) (old new : List ℕ) → b.point_shown ≡ false →
+    new ≡ (old ++ b.begin ∷ []) ++ b.end ∷ [] → new ≡ old ++ positions_in b
+unshown_positions b old new off is = is ∙ append_assoc old (b.begin ∷ []) (b.end ∷ [])
     ∙ ap (λ (m : Bool). old ++ b.begin ∷ (if m then b.point ∷ b.end ∷ [] else b.end ∷ [])) (sym off)
 
 lanes_push : (xs : List Bar) (b : Bar) → lanes_in (xs ++ b ∷ []) ≡ max (lanes_in xs) (b.lane + 1)
@@ -71,34 +71,34 @@ boxed_more {X} box xs i x old new labelled front lt is before more at =
 
 -- one bar more, whose point is shown or not
 abbrev one_point : List ℕ → Bool → Bar → List Box
-one_point ends shown b = map (point_box ends) (cond shown (b ∷ []) [])
+one_point positions shown b = map (point_box positions) (cond shown (b ∷ []) [])
 
-points_more : (ends : List ℕ) (xs : List Bar) (i : ℕ) (b : Bar) → i < length xs → b ≡ get_or xs i b →
-    point_boxes ends (take (i + 1) xs) ≡ point_boxes ends (take i xs) ++ one_point ends b.point_shown b
-points_more ends xs i b lt is =
-    ap (λ (bars : List Bar). map (point_box ends) bars) (filter_more (λ (x : Bar). x.point_shown) xs i b lt)
-    ∙ map-append (point_box ends) (filter (λ (x : Bar). x.point_shown) (take i xs)) _
-    ∙ ap (λ (x : Bar). point_boxes ends (take i xs) ++ one_point ends x.point_shown x) (sym is)
+points_more : (positions : List ℕ) (xs : List Bar) (i : ℕ) (b : Bar) → i < length xs → b ≡ get_or xs i b →
+    point_boxes positions (take (i + 1) xs) ≡ point_boxes positions (take i xs) ++ one_point positions b.point_shown b
+points_more positions xs i b lt is =
+    ap (λ (bars : List Bar). map (point_box positions) bars) (filter_more (λ (x : Bar). x.point_shown) xs i b lt)
+    ∙ map-append (point_box positions) (filter (λ (x : Bar). x.point_shown) (take i xs)) _
+    ∙ ap (λ (x : Bar). point_boxes positions (take i xs) ++ one_point positions x.point_shown x) (sym is)
 
-pub shown_more : (ends : List ℕ) (xs : List Bar) (i : ℕ) (b : Bar) (old new : List LabelledBox)
+pub shown_more : (positions : List ℕ) (xs : List Bar) (i : ℕ) (b : Bar) (old new : List LabelledBox)
     (labelled : LabelledBox) →
-    i < length xs → b ≡ get_or xs i b → b.point_shown ≡ true → boxes_of old ≡ point_boxes ends (take i xs) →
-    new ≡ old ++ labelled ∷ [] → box_of labelled ≡ point_box ends b →
-    boxes_of new ≡ point_boxes ends (take (i + 1) xs)
-shown_more ends xs i b old new labelled lt is on before more at =
+    i < length xs → b ≡ get_or xs i b → b.point_shown ≡ true → boxes_of old ≡ point_boxes positions (take i xs) →
+    new ≡ old ++ labelled ∷ [] → box_of labelled ≡ point_box positions b →
+    boxes_of new ≡ point_boxes positions (take (i + 1) xs)
+shown_more positions xs i b old new labelled lt is on before more at =
     ap (λ (s : List LabelledBox). boxes_of s) more ∙ map_push box_of old labelled
     ∙ ap (λ (bs : List Box). bs ++ box_of labelled ∷ []) before
-    ∙ ap (λ (x : Box). point_boxes ends (take i xs) ++ x ∷ []) at
-    ∙ ap (λ (m : Bool). point_boxes ends (take i xs) ++ one_point ends m b) (sym on)
-    ∙ sym (points_more ends xs i b lt is)
+    ∙ ap (λ (x : Box). point_boxes positions (take i xs) ++ x ∷ []) at
+    ∙ ap (λ (m : Bool). point_boxes positions (take i xs) ++ one_point positions m b) (sym on)
+    ∙ sym (points_more positions xs i b lt is)
 
-pub unshown_more : (ends : List ℕ) (xs : List Bar) (i : ℕ) (b : Bar) (old new : List LabelledBox) →
-    i < length xs → b ≡ get_or xs i b → b.point_shown ≡ false → boxes_of old ≡ point_boxes ends (take i xs) →
-    new ≡ old → boxes_of new ≡ point_boxes ends (take (i + 1) xs)
-unshown_more ends xs i b old new lt is off before same =
-    ap (λ (s : List LabelledBox). boxes_of s) same ∙ before ∙ sym (append-nil (point_boxes ends (take i xs)))
-    ∙ ap (λ (m : Bool). point_boxes ends (take i xs) ++ one_point ends m b) (sym off)
-    ∙ sym (points_more ends xs i b lt is)
+pub unshown_more : (positions : List ℕ) (xs : List Bar) (i : ℕ) (b : Bar) (old new : List LabelledBox) →
+    i < length xs → b ≡ get_or xs i b → b.point_shown ≡ false → boxes_of old ≡ point_boxes positions (take i xs) →
+    new ≡ old → boxes_of new ≡ point_boxes positions (take (i + 1) xs)
+unshown_more positions xs i b old new lt is off before same =
+    ap (λ (s : List LabelledBox). boxes_of s) same ∙ before ∙ sym (append-nil (point_boxes positions (take i xs)))
+    ∙ ap (λ (m : Bool). point_boxes positions (take i xs) ++ one_point positions m b) (sym off)
+    ∙ sym (points_more positions xs i b lt is)
 
 -- one lane more
 pub laned_more : (box : ℕ → Box) (n : ℕ) (old new : List LabelledBox) (labelled : LabelledBox) →
@@ -110,13 +110,13 @@ laned_more box n old new labelled before more at =
     ∙ ap (λ (b : Box). map box (range_with_len 0 n) ++ b ∷ []) at
     ∙ sym (map-range_with_len_more box 0 n n (omega arith))
 
-change_boxes_at : (ends : List ℕ) (held : Option (List ℕ)) (ms : List Moment) (i : ℕ) (m : Moment) →
+change_boxes_at : (positions : List ℕ) (held : Option (List ℕ)) (ms : List Moment) (i : ℕ) (m : Moment) →
     i < length ms → m ≡ get_or ms i m →
-    change_boxes ends held (drop i ms) ≡ change_boxes ends held (m ∷ drop (i + 1) ms)
-change_boxes_at ends held ms i m lt is =
-    ap (λ (rest : List Moment). change_boxes ends held rest)
+    change_boxes positions held (drop i ms) ≡ change_boxes positions held (m ∷ drop (i + 1) ms)
+change_boxes_at positions held ms i m lt is =
+    ap (λ (rest : List Moment). change_boxes positions held rest)
     (drop-cons ms i m lt ∙ ap (λ (n : ℕ). get_or ms i m ∷ drop n ms) (sym (add-one i)))
-    ∙ ap (λ (x : Moment). change_boxes ends held (x ∷ drop (i + 1) ms)) (sym is)
+    ∙ ap (λ (x : Moment). change_boxes positions held (x ∷ drop (i + 1) ms)) (sym is)
 
 chosen : (b : Bool) (x y : List Box) → b ≡ true → (if b then x else y) ≡ x
 chosen b x y is = ap (λ (c : Bool). if c then x else y) is
@@ -125,26 +125,27 @@ refused : (b : Bool) (x y : List Box) → b ≡ false → (if b then x else y) �
 refused b x y is = ap (λ (c : Bool). if c then x else y) is
 
 -- the content stayed the same at one moment more
-pub kept_more : (ends : List ℕ) (held : Option (List ℕ)) (ms : List Moment) (i : ℕ) (m : Moment) (old all : List Box) →
+pub kept_more : (positions : List ℕ) (held : Option (List ℕ)) (ms : List Moment) (i : ℕ) (m : Moment)
+    (old all : List Box) →
     i < length ms → m ≡ get_or ms i m → same_content held m.state.content ≡ true →
-    old ++ change_boxes ends held (drop i ms) ≡ all → old ++ change_boxes ends held (drop (i + 1) ms) ≡ all
-kept_more ends held ms i m old all lt is same before =
-    ap (λ (bs : List Box). old ++ bs) (sym (change_boxes_at ends held ms i m lt is
+    old ++ change_boxes positions held (drop i ms) ≡ all → old ++ change_boxes positions held (drop (i + 1) ms) ≡ all
+kept_more positions held ms i m old all lt is same before =
+    ap (λ (bs : List Box). old ++ bs) (sym (change_boxes_at positions held ms i m lt is
     ∙ chosen (same_content held m.state.content) _ _ same)) ∙ before
 
 -- it changed
-pub changed_more : (ends : List ℕ) (held : Option (List ℕ)) (ms : List Moment) (i : ℕ) (m : Moment)
+pub changed_more : (positions : List ℕ) (held : Option (List ℕ)) (ms : List Moment) (i : ℕ) (m : Moment)
     (old new : List LabelledBox) (labelled : LabelledBox) (all : List Box) →
     i < length ms → m ≡ get_or ms i m → same_content held m.state.content ≡ false →
-    new ≡ old ++ labelled ∷ [] → box_of labelled ≡ content_box ends (point_x ends m.point) m.state.content →
-    boxes_of old ++ change_boxes ends held (drop i ms) ≡ all →
-    boxes_of new ++ change_boxes ends m.state.content (drop (i + 1) ms) ≡ all
-changed_more ends held ms i m old new labelled all lt is same more at before =
-    let rest = change_boxes ends m.state.content (drop (i + 1) ms) in
-    let box = content_box ends (point_x ends m.point) m.state.content in
+    new ≡ old ++ labelled ∷ [] → box_of labelled ≡ content_box positions (point_x positions m.point) m.state.content →
+    boxes_of old ++ change_boxes positions held (drop i ms) ≡ all →
+    boxes_of new ++ change_boxes positions m.state.content (drop (i + 1) ms) ≡ all
+changed_more positions held ms i m old new labelled all lt is same more at before =
+    let rest = change_boxes positions m.state.content (drop (i + 1) ms) in
+    let box = content_box positions (point_x positions m.point) m.state.content in
     ap (λ (s : List LabelledBox). boxes_of s ++ rest) more
     ∙ ap (λ (bs : List Box). bs ++ rest) (map_push box_of old labelled)
     ∙ append_assoc (boxes_of old) (box_of labelled ∷ []) rest
     ∙ ap (λ (b : Box). boxes_of old ++ (b ∷ rest)) at
-    ∙ ap (λ (bs : List Box). boxes_of old ++ bs) (sym (change_boxes_at ends held ms i m lt is
+    ∙ ap (λ (bs : List Box). boxes_of old ++ bs) (sym (change_boxes_at positions held ms i m lt is
     ∙ refused (same_content held m.state.content) _ (box ∷ rest) same)) ∙ before

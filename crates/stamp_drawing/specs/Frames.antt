@@ -13,20 +13,20 @@ use Rattle.stamp_drawing.specs.declared.frames.Class.TheVariants as class
 use Rattle.stamp_drawing.specs.declared.frames.Frame.{Frame}
 
 -- where the part of a bar that is drawn begins, takes effect if its point is shown, and ends
-abbrev pub ends_in : Bar → List ℕ
-ends_in b = b.begin ∷ (if b.point_shown then b.point ∷ b.end ∷ [] else b.end ∷ [])
+abbrev pub positions_in : Bar → List ℕ
+positions_in b = b.begin ∷ (if b.point_shown then b.point ∷ b.end ∷ [] else b.end ∷ [])
 
-abbrev pub ends_of : List Bar → List ℕ
-ends_of [] = []
-ends_of (b ∷ bs) = ends_in b ++ ends_of bs
+abbrev pub positions_of : List Bar → List ℕ
+positions_of [] = []
+positions_of (b ∷ bs) = positions_in b ++ positions_of bs
 
 -- how many of them are before the position, and how many are not behind it: positions that no bar has
 -- take no room, and those of several bars take more
 abbrev pub column : List ℕ → ℕ → ℕ
-column ends position = count_by (λ end. nat_lt end position) ends
+column positions position = count_by (λ other. nat_lt other position) positions
 
 abbrev pub column_after : List ℕ → ℕ → ℕ
-column_after ends position = count_by (λ end. nat_le end position) ends
+column_after positions position = count_by (λ other. nat_le other position) positions
 
 -- in pixels: a column, the border with the lanes' names, the first column, a lane, the first lane
 abbrev pub unit : ℕ
@@ -60,23 +60,23 @@ bar_class verdict bar = if is_bad verdict bar then class.Bad else class.Bar
 
 -- in its thread's lane, from the column where the part that is drawn begins to behind that where it ends
 abbrev pub bar_frame : Result ℕ Fault → List ℕ → Bar → Frame
-bar_frame verdict ends bar = record {
+bar_frame verdict positions bar = record {
   class = bar_class verdict bar;
-  x = x_of (column ends bar.begin);
+  x = x_of (column positions bar.begin);
   y = lane_y bar.lane + 4;
-  width = unit * (column_after ends bar.end - column ends bar.begin);
+  width = unit * (column_after positions bar.end - column positions bar.begin);
   height = 36;
 }
 
 -- the middle of the column of a point
 abbrev pub point_x : List ℕ → ℕ → ℕ
-point_x ends point = x_of (column ends point) + 20
+point_x positions point = x_of (column positions point) + 20
 
 -- at its point, on the lower side of the bar
 abbrev pub point_frame : List ℕ → Bar → Frame
-point_frame ends bar = record {
+point_frame positions bar = record {
   class = class.Point;
-  x = point_x ends bar.point - 3;
+  x = point_x positions bar.point - 3;
   y = lane_y bar.lane + 33;
   width = 6;
   height = 11;
@@ -94,39 +94,39 @@ lanes_in (b ∷ bs) = max (b.lane + 1) (lanes_in bs)
 
 -- the right border
 abbrev pub right_of : List ℕ → ℕ
-right_of ends = x_of (length ends)
+right_of positions = x_of (length positions)
 
 -- from its point to the right border; the moments behind it cover it
 abbrev pub moment_frame : List ℕ → Moment → Frame
-moment_frame ends moment = record {
+moment_frame positions moment = record {
   class = class_of moment.state.mode;
-  x = point_x ends moment.point;
+  x = point_x positions moment.point;
   y = 32;
-  width = right_of ends - point_x ends moment.point;
+  width = right_of positions - point_x positions moment.point;
   height = 36;
 }
 
 -- the state before the first of them, from the border
 abbrev pub opening_frame : List ℕ → State → Frame
-opening_frame ends state = record {
+opening_frame positions state = record {
   class = class_of state.mode;
   x = border;
   y = 32;
-  width = right_of ends - border;
+  width = right_of positions - border;
   height = 36;
 }
 
 -- what the record holds, from here to the right border
 abbrev pub content_frame : List ℕ → ℕ → Frame
-content_frame ends x = record { class = class.Content; x = x; y = 72; width = right_of ends - x; height = 22 }
+content_frame positions x = record { class = class.Content; x = x; y = 72; width = right_of positions - x; height = 22 }
 
 -- a lane, from side to side
 abbrev pub lane_frame : List ℕ → ℕ → Frame
-lane_frame ends lane = record {
+lane_frame positions lane = record {
   class = class.Lane;
   x = 4;
   y = lane_y lane;
-  width = right_of ends;
+  width = right_of positions;
   height = lane_height;
 }
 

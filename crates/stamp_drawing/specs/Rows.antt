@@ -11,17 +11,17 @@ use Rattle.stamp_picture.specs.declared.picture.Fault.{Fault}
 use Rattle.stamp_picture.specs.declared.state.State.{State}
 use Rattle.stamp_picture.specs.declared.state.Moment.{Moment}
 use Rattle.stamp_picture.specs.Picture.{Drawn}
-use Rattle.stamp_drawing.specs.Frames.{ends_of, is_bad, lanes_in}
+use Rattle.stamp_drawing.specs.Frames.{positions_of, is_bad, lanes_in}
 use Rattle.stamp_drawing.specs.Labels.{call_text, reply_text, answered_text, brief_text, verdict_text}
 
 -- the positions at which the drawn part of a bar begins or ends, and the points that are shown: each of
 -- them once, in rising order
-pub record AreTimes (bars : List Bar) (times : List ℕ) : Type 0 where
-  pub rising : IsStrictlyIncreasing times
-  pub all : (t : ℕ) → Contains (ends_of bars) t → Contains times t
-  pub no_more : (t : ℕ) → Contains times t → Contains (ends_of bars) t
+pub record ArePositionsInOrder (bars : List Bar) (positions : List ℕ) : Type 0 where
+  pub rising : IsStrictlyIncreasing positions
+  pub all : (t : ℕ) → Contains (positions_of bars) t → Contains positions t
+  pub no_more : (t : ℕ) → Contains positions t → Contains (positions_of bars) t
 
--- the bar is there at that time: in the part that is drawn, or at its point
+-- the bar is there at that position: in the part that is drawn, or at its point
 abbrev pub is_at : ℕ → Bar → Bool
 is_at t bar = nat_le bar.begin t && nat_le t bar.end || bar.point == t
 
@@ -46,8 +46,8 @@ abbrev pub lanes_text : Result ℕ Fault → ℕ → List Bar → ℕ → List �
 lanes_text verdict t there lanes = concat (map (lane_text verdict t there) (range_with_len 0 lanes))
 
 -- a position, right-aligned in six characters
-abbrev pub time_text : ℕ → List ℕ
-time_text t = padded_integral (format_spec 32 3 0 6 (2 ^ 64 - 1)) false [] (decimal t)
+abbrev pub position_text : ℕ → List ℕ
+position_text t = padded_integral (format_spec 32 3 0 6 (2 ^ 64 - 1)) false [] (decimal t)
 
 -- what is told of a bar: its call where it begins, its call and reply at its point, its reply where it ends
 abbrev pub told_text : ℕ → Bar → List ℕ
@@ -62,10 +62,10 @@ told_text t bar =
 abbrev pub left_text : ℕ → Moment → List ℕ
 left_text t moment = if moment.point == t then codes " -> " ++ brief_text moment.state else []
 
--- the line of a time: the lanes, the position, what is told of the bars, and what the point left
+-- the line of a position: the lanes, the position, what is told of the bars, and what the point left
 unfoldable pub row_text : Drawn → ℕ → List ℕ
 row_text p t =
-    lanes_text p.verdict t (bars_at t p.bars) (lanes_in p.bars) ++ (time_text t ++
+    lanes_text p.verdict t (bars_at t p.bars) (lanes_in p.bars) ++ (position_text t ++
     (concat (map (told_text t) (bars_at t p.bars)) ++ concat (map (left_text t) p.ribbon)))
 
 abbrev pub legend_text : List ℕ
@@ -78,17 +78,17 @@ at_first_text s = codes "at first: " ++ brief_text s
 abbrev pub number_text : ℕ → List ℕ
 number_text lane = decimal lane ++ (if nat_lt lane 10 then codes "  " else codes " ")
 
-abbrev pub tail_text : List ℕ
-tail_text = codes "    at  thread: call = reply -> what the lock was then (v: its version)"
+abbrev pub heading_tail_text : List ℕ
+heading_tail_text = codes "    at  thread: call = reply -> what the lock was then (v: its version)"
 
 abbrev pub heading_text : ℕ → List ℕ
-heading_text lanes = concat (map number_text (range_with_len 0 lanes)) ++ tail_text
+heading_text lanes = concat (map number_text (range_with_len 0 lanes)) ++ heading_tail_text
 
--- the lines: a legend, what was before, the threads' numbers, a line for each time, and the verdict
+-- the lines: a legend, what was before, the threads' numbers, a line for each position, and the verdict
 abbrev pub lines_of : Drawn → List ℕ → List (List ℕ)
-lines_of p times =
+lines_of p positions =
     legend_text ∷ at_first_text p.opening ∷ heading_text (lanes_in p.bars) ∷
-    (map (row_text p) times ++ verdict_text p.verdict ∷ [])
+    (map (row_text p) positions ++ verdict_text p.verdict ∷ [])
 
 -- a line; one that is longer than the width is cut off there, and ends in a sign of it
 abbrev pub shortened : ℕ → List ℕ → List ℕ
@@ -101,9 +101,9 @@ cut_text width line = shortened width line ++ 10 ∷ []
 
 -- the text of the picture, in so many columns
 pub record IsRows (width : ℕ) (p : Drawn) (text : List ℕ) : Type 0 where
-  pub times : List ℕ
-  pub are_times : AreTimes p.bars times
-  pub is : text ≡ concat (map (cut_text width) (lines_of p times))
+  pub positions : List ℕ
+  pub are_in_order : ArePositionsInOrder p.bars positions
+  pub is : text ≡ concat (map (cut_text width) (lines_of p positions))
 
 -- lines of at most so many characters, each with its line feed
 pub data AreNarrow (width : ℕ) : List ℕ → Type 0 where

@@ -14,7 +14,7 @@ use Rattle.stamp_drawing.specs.declared.frames.Class.TheVariants as class
 use Rattle.stamp_drawing.specs.declared.frames.Frame.{Frame}
 use Rattle.stamp_drawing.specs.declared.sheet.LabelledBox.{LabelledBox}
 use Rattle.stamp_drawing.specs.declared.sheet.Sheet.{Sheet}
-use Rattle.stamp_drawing.specs.Frames.{ends_of, lanes_in, right_of, border, point_x, bar_frame, point_frame}
+use Rattle.stamp_drawing.specs.Frames.{positions_of, lanes_in, right_of, border, point_x, bar_frame, point_frame}
 use Rattle.stamp_drawing.specs.Frames.{moment_frame, opening_frame, content_frame, lane_frame, foot_of}
 use Rattle.stamp_drawing.specs.Labels.{call_text, reply_text, answered_text, state_text, short_mode_text, content_text}
 use Rattle.stamp_drawing.specs.Labels.{verdict_text}
@@ -39,7 +39,7 @@ boxes_of boxes = map box_of boxes
 
 -- a box that says the same as its title
 abbrev pub plain_box : Frame → List ℕ → Box
-plain_box frame words = record { frame = frame; title = words; upper = words; lower = [] }
+plain_box frame label = record { frame = frame; title = label; upper = label; lower = [] }
 
 -- all of a call: its entry, its thread, its reply and its positions
 unfoldable pub bar_title : Bar → List ℕ
@@ -50,19 +50,19 @@ bar_title bar =
 
 -- the call above its reply
 abbrev pub bar_box : Result ℕ Fault → List ℕ → Bar → Box
-bar_box verdict ends bar = record {
-  frame = bar_frame verdict ends bar;
+bar_box verdict positions bar = record {
+  frame = bar_frame verdict positions bar;
   title = bar_title bar;
   upper = call_text bar.call;
   lower = codes "= " ++ reply_text bar.reply;
 }
 
 abbrev pub point_box : List ℕ → Bar → Box
-point_box ends bar = record { frame = point_frame ends bar; title = bar_title bar; upper = []; lower = [] }
+point_box positions bar = record { frame = point_frame positions bar; title = bar_title bar; upper = []; lower = [] }
 
 -- one for each bar whose point is in the window
 abbrev pub point_boxes : List ℕ → List Bar → List Box
-point_boxes ends bars = map (point_box ends) (filter (λ (b : Bar). b.point_shown) bars)
+point_boxes positions bars = map (point_box positions) (filter (λ (b : Bar). b.point_shown) bars)
 
 -- who holds the lock above its version
 abbrev pub state_box : Frame → State → Box
@@ -74,10 +74,10 @@ state_box frame s = record {
 }
 
 abbrev pub moment_box : List ℕ → Moment → Box
-moment_box ends moment = state_box (moment_frame ends moment) moment.state
+moment_box positions moment = state_box (moment_frame positions moment) moment.state
 
 abbrev pub content_box : List ℕ → ℕ → Option (List ℕ) → Box
-content_box ends x content = plain_box (content_frame ends x) (content_text content)
+content_box positions x content = plain_box (content_frame positions x) (content_text content)
 
 abbrev pub same_content : Option (List ℕ) → Option (List ℕ) → Bool
 same_content None None = true
@@ -87,10 +87,10 @@ same_content (Some a) (Some b) = same_words a b
 
 -- a box at each of these moments at which the content changes, where this was held before
 abbrev pub change_boxes : List ℕ → Option (List ℕ) → List Moment → List Box
-change_boxes ends held [] = []
-change_boxes ends held (m ∷ ms) =
-    if same_content held m.state.content then change_boxes ends held ms
-    else content_box ends (point_x ends m.point) m.state.content ∷ change_boxes ends m.state.content ms
+change_boxes positions held [] = []
+change_boxes positions held (m ∷ ms) =
+    if same_content held m.state.content then change_boxes positions held ms
+    else content_box positions (point_x positions m.point) m.state.content ∷ change_boxes positions m.state.content ms
 
 -- a name in the border
 abbrev pub name_box : ℕ → List ℕ → Box
@@ -98,14 +98,15 @@ name_box y name = plain_box (record { class = class.Note; x = 4; y = y; width = 
 
 -- what the record holds at first, and where it changes; nothing without a record
 abbrev pub content_boxes : List ℕ → Option (List ℕ) → List Moment → List Box
-content_boxes ends None ribbon = []
-content_boxes ends (Some words) ribbon =
-    name_box 72 (codes "record") ∷ content_box ends border (Some words) ∷ change_boxes ends (Some words) ribbon
+content_boxes positions None ribbon = []
+content_boxes positions (Some words) ribbon =
+    name_box 72 (codes "record") ∷ content_box positions border (Some words) ∷
+    change_boxes positions (Some words) ribbon
 
 -- a lane with its thread's name
 abbrev pub lane_box : List ℕ → ℕ → Box
-lane_box ends lane = record {
-  frame = lane_frame ends lane;
+lane_box positions lane = record {
+  frame = lane_frame positions lane;
   title = codes "thread " ++ decimal lane;
   upper = [];
   lower = codes "thread " ++ decimal lane;
@@ -117,7 +118,7 @@ verdict_class (Err fault) = class.Bad
 
 -- in a row of the legend
 abbrev pub legend_box : ℕ → Class → ℕ → ℕ → List ℕ → Box
-legend_box y c x width words = plain_box (record { class = c; x = x; y = y; width = width; height = 22 }) words
+legend_box y c x width label = plain_box (record { class = c; x = x; y = y; width = width; height = 22 }) label
 
 abbrev pub verdict_box : Result ℕ Fault → Box
 verdict_box verdict = legend_box 4 (verdict_class verdict) border 620 (verdict_text verdict)
@@ -138,12 +139,13 @@ note_boxes verdict y =
 -- a box for each lane, bar, point in the window and moment, in their order, and the notes; the sheet is as
 -- large as they need
 pub record IsSheet (p : Drawn) (sheet : Sheet) : Type 0 where
-  pub width : sheet.width ≡ max (right_of (ends_of p.bars)) 716 + 12
+  pub width : sheet.width ≡ max (right_of (positions_of p.bars)) 716 + 12
   pub height : sheet.height ≡ foot_of p.bars + 32
-  pub lanes : boxes_of sheet.lanes.items ≡ map (lane_box (ends_of p.bars)) (range_with_len 0 (lanes_in p.bars))
+  pub lanes : boxes_of sheet.lanes.items ≡ map (lane_box (positions_of p.bars)) (range_with_len 0 (lanes_in p.bars))
   pub ribbon : boxes_of sheet.ribbon.items ≡
-      state_box (opening_frame (ends_of p.bars) p.opening) p.opening ∷ map (moment_box (ends_of p.bars)) p.ribbon
-  pub content : boxes_of sheet.content.items ≡ content_boxes (ends_of p.bars) p.opening.content p.ribbon
-  pub bars : boxes_of sheet.bars.items ≡ map (bar_box p.verdict (ends_of p.bars)) p.bars
-  pub points : boxes_of sheet.points.items ≡ point_boxes (ends_of p.bars) p.bars
+      state_box (opening_frame (positions_of p.bars) p.opening) p.opening ∷
+      map (moment_box (positions_of p.bars)) p.ribbon
+  pub content : boxes_of sheet.content.items ≡ content_boxes (positions_of p.bars) p.opening.content p.ribbon
+  pub bars : boxes_of sheet.bars.items ≡ map (bar_box p.verdict (positions_of p.bars)) p.bars
+  pub points : boxes_of sheet.points.items ≡ point_boxes (positions_of p.bars) p.bars
   pub notes : boxes_of sheet.notes.items ≡ note_boxes p.verdict (foot_of p.bars)

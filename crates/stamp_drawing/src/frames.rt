@@ -1,7 +1,7 @@
 //! Where bars, points and moments stand on the sheet.
 ghost use Rattle.std.specs.Prelude.{◌≡◌, ◌≤◌, ◌<◌, ◌*◌, length, IfOk, All};
 ghost use Rattle.stamp_drawing.specs.Frames as frames;
-ghost use Rattle.stamp_drawing.specs.Frames.{ends_of};
+ghost use Rattle.stamp_drawing.specs.Frames.{positions_of};
 
 use stamp_picture::{Bar, Fault, Mode, Moment, State};
 use std::alloc::{AllocError, Global};
@@ -60,33 +60,33 @@ pub struct Frame {
 }
 
 /// The positions at which the drawn parts of the bars begin and end, and the points that are shown.
-pub(crate) fn ends_of(alloc: Global, bars: &[Bar]) -> Result<Vec<u64>, AllocError>
-    ensures ends { IfOk result (λ ends. ends.items ≡ ends_of bars.now) }
-    ensures three { IfOk result (λ ends. length ends.items ≤ 3 * length bars.now) }
+pub(crate) fn positions_of(alloc: Global, bars: &[Bar]) -> Result<Vec<u64>, AllocError>
+    ensures is { IfOk result (λ positions. positions.items ≡ positions_of bars.now) }
+    ensures three { IfOk result (λ positions. length positions.items ≤ 3 * length bars.now) }
 {
-    let mut ends = Vec::new(alloc);
+    let mut positions = Vec::new(alloc);
     for bar in bars {
-        ends.push(bar.begin)?;
+        positions.push(bar.begin)?;
         if bar.point_shown {
-            ends.push(bar.point)?;
+            positions.push(bar.point)?;
         }
-        ends.push(bar.end)?;
+        positions.push(bar.end)?;
     }
-    Ok(ends)
+    Ok(positions)
 }
 
-fn column(ends: &[u64], position: u64) -> u64
-    ensures is { result ≡ frames.column ends.now position }
-    ensures few { result ≤ length ends.now }
+fn column(positions: &[u64], position: u64) -> u64
+    ensures is { result ≡ frames.column positions.now position }
+    ensures few { result ≤ length positions.now }
 {
-    ends.iter().filter(|end| **end < position).count() as u64
+    positions.iter().filter(|other| **other < position).count() as u64
 }
 
-fn column_after(ends: &[u64], position: u64) -> u64
-    ensures is { result ≡ frames.column_after ends.now position }
-    ensures few { result ≤ length ends.now }
+fn column_after(positions: &[u64], position: u64) -> u64
+    ensures is { result ≡ frames.column_after positions.now position }
+    ensures few { result ≤ length positions.now }
 {
-    ends.iter().filter(|end| **end <= position).count() as u64
+    positions.iter().filter(|other| **other <= position).count() as u64
 }
 
 fn x_of(columns: u64) -> u64
@@ -117,11 +117,11 @@ pub(crate) fn lanes_in(bars: &[Bar]) -> u64
 }
 
 /// The right side of the picture, after the last column.
-pub(crate) fn right_of(ends: &[u64]) -> u64
-    requires { length ends.now ≤ 6000 }
-    ensures { result ≡ frames.right_of ends.now }
+pub(crate) fn right_of(positions: &[u64]) -> u64
+    requires { length positions.now ≤ 6000 }
+    ensures { result ≡ frames.right_of positions.now }
 {
-    x_of(ends.len() as u64)
+    x_of(positions.len() as u64)
 }
 
 /// Whether the bar is that of the first fault.
@@ -145,13 +145,13 @@ fn bar_class(verdict: &Result<u64, Fault>, bar: &Bar) -> Class
 }
 
 /// The box of a call, in the lane of its thread.
-pub(crate) fn bar_frame(verdict: &Result<u64, Fault>, ends: &[u64], bar: &Bar) -> Frame
-    requires few { length ends.now ≤ 6000 }
+pub(crate) fn bar_frame(verdict: &Result<u64, Fault>, positions: &[u64], bar: &Bar) -> Frame
+    requires few { length positions.now ≤ 6000 }
     requires lane { bar.now.lane < 64 }
-    ensures { result ≡ frames.bar_frame verdict.now ends.now bar.now }
+    ensures { result ≡ frames.bar_frame verdict.now positions.now bar.now }
 {
-    let begin = column(ends, bar.begin);
-    let end = column_after(ends, bar.end);
+    let begin = column(positions, bar.begin);
+    let end = column_after(positions, bar.end);
     Frame {
         class: bar_class(verdict, bar),
         x: x_of(begin),
@@ -162,22 +162,22 @@ pub(crate) fn bar_frame(verdict: &Result<u64, Fault>, ends: &[u64], bar: &Bar) -
 }
 
 /// The middle of the column of a point.
-pub(crate) fn point_x(ends: &[u64], point: u64) -> u64
-    requires { length ends.now ≤ 6000 }
-    ensures { result ≡ frames.point_x ends.now point }
+pub(crate) fn point_x(positions: &[u64], point: u64) -> u64
+    requires { length positions.now ≤ 6000 }
+    ensures { result ≡ frames.point_x positions.now point }
 {
-    x_of(column(ends, point)) + 20
+    x_of(column(positions, point)) + 20
 }
 
 /// The box at the point of a call.
-pub(crate) fn point_frame(ends: &[u64], bar: &Bar) -> Frame
-    requires few { length ends.now ≤ 6000 }
+pub(crate) fn point_frame(positions: &[u64], bar: &Bar) -> Frame
+    requires few { length positions.now ≤ 6000 }
     requires lane { bar.now.lane < 64 }
-    ensures { result ≡ frames.point_frame ends.now bar.now }
+    ensures { result ≡ frames.point_frame positions.now bar.now }
 {
     Frame {
         class: Class::Point,
-        x: point_x(ends, bar.point) - 3,
+        x: point_x(positions, bar.point) - 3,
         y: lane_y(bar.lane) + 33,
         width: 6,
         height: 11,
@@ -196,59 +196,59 @@ pub(crate) fn class_of(mode: Mode) -> Class
 }
 
 /// The box of what the lock is from a moment on, to the right side.
-pub(crate) fn moment_frame(ends: &[u64], moment: &Moment) -> Frame
-    requires { length ends.now ≤ 6000 }
-    ensures { result ≡ frames.moment_frame ends.now moment.now }
+pub(crate) fn moment_frame(positions: &[u64], moment: &Moment) -> Frame
+    requires { length positions.now ≤ 6000 }
+    ensures { result ≡ frames.moment_frame positions.now moment.now }
 {
-    let x = point_x(ends, moment.point);
+    let x = point_x(positions, moment.point);
     Frame {
         class: class_of(moment.state.mode),
         x,
         y: 32,
-        width: right_of(ends).saturating_sub(x),
+        width: right_of(positions).saturating_sub(x),
         height: 36,
     }
 }
 
 /// What lock and record are at first, from the border on.
-pub(crate) fn opening_frame(ends: &[u64], state: &State) -> Frame
-    requires { length ends.now ≤ 6000 }
-    ensures { result ≡ frames.opening_frame ends.now state.now }
+pub(crate) fn opening_frame(positions: &[u64], state: &State) -> Frame
+    requires { length positions.now ≤ 6000 }
+    ensures { result ≡ frames.opening_frame positions.now state.now }
 {
     Frame {
         class: class_of(state.mode),
         x: BORDER,
         y: 32,
-        width: right_of(ends) - BORDER,
+        width: right_of(positions) - BORDER,
         height: 36,
     }
 }
 
 /// The box of what the record holds from here on, to the right side.
-pub(crate) fn content_frame(ends: &[u64], x: u64) -> Frame
-    requires { length ends.now ≤ 6000 }
-    ensures { result ≡ frames.content_frame ends.now x }
+pub(crate) fn content_frame(positions: &[u64], x: u64) -> Frame
+    requires { length positions.now ≤ 6000 }
+    ensures { result ≡ frames.content_frame positions.now x }
 {
     Frame {
         class: Class::Content,
         x,
         y: 72,
-        width: right_of(ends).saturating_sub(x),
+        width: right_of(positions).saturating_sub(x),
         height: 22,
     }
 }
 
 /// The box of a lane.
-pub(crate) fn lane_frame(ends: &[u64], lane: u64) -> Frame
-    requires few { length ends.now ≤ 6000 }
+pub(crate) fn lane_frame(positions: &[u64], lane: u64) -> Frame
+    requires few { length positions.now ≤ 6000 }
     requires lane { lane ≤ 64 }
-    ensures { result ≡ frames.lane_frame ends.now lane }
+    ensures { result ≡ frames.lane_frame positions.now lane }
 {
     Frame {
         class: Class::Lane,
         x: 4,
         y: lane_y(lane),
-        width: right_of(ends),
+        width: right_of(positions),
         height: LANE_HEIGHT,
     }
 }

@@ -3,11 +3,11 @@ ghost use Rattle.std.specs.Prelude.{◌≡◌, ◌<◌, ◌==◌, ◌++◌, map,
 ghost use Rattle.std.specs.List.{concat, find};
 ghost use Rattle.stamp_drawing.specs.Frames.{lanes_in};
 ghost use Rattle.stamp_drawing.specs.Rows as rows;
-ghost use Rattle.stamp_drawing.specs.Rows.{AreTimes, IsRows, AreNarrow};
-ghost use Rattle.stamp_drawing.specs.Rows.{sign_text, lane_text, lanes_text, time_text, told_text, left_text};
+ghost use Rattle.stamp_drawing.specs.Rows.{ArePositionsInOrder, IsRows, AreNarrow};
+ghost use Rattle.stamp_drawing.specs.Rows.{sign_text, lane_text, lanes_text, position_text, told_text, left_text};
 ghost use Rattle.stamp_drawing.specs.Rows.{row_text, number_text, heading_text, at_first_text, cut_text};
 
-use crate::frames::{ends_of, is_bad, lanes_in};
+use crate::frames::{is_bad, lanes_in, positions_of};
 use crate::labels::{AnsweredLabel, BriefLabel, CallLabel, ReplyLabel, VerdictLabel};
 use crate::markup::push_text;
 use stamp_picture::{Bar, Fault, Moment, Picture, State};
@@ -15,44 +15,46 @@ use std::alloc::{AllocError, Global};
 
 const LEGEND: &str = ", begins  | goes on  * takes effect  ' ends; the faulty entry has ! and X";
 
-const HEADING: &str = "    at  thread: call = reply -> what the lock was then (v: its version)";
+const HEADING_TAIL: &str =
+    "    at  thread: call = reply -> what the lock was then (v: its version)";
 
-/// The positions at which the drawn part of a bar begins or ends, and the points that are shown.
-fn times_of(alloc: Global, bars: &[Bar]) -> Result<Vec<u64>, AllocError>
-    ensures { IfOk result (λ times. AreTimes bars.now times.items) }
+/// The positions at which the drawn part of a bar begins or ends, and the points that are shown: each of
+/// them once, in rising order.
+fn positions_in_order(alloc: Global, bars: &[Bar]) -> Result<Vec<u64>, AllocError>
+    ensures { IfOk result (λ positions. ArePositionsInOrder bars.now positions.items) }
 {
-    let mut times = ends_of(alloc, bars)?;
-    times.sort_unstable();
-    times.dedup();
-    Ok(times)
+    let mut positions = positions_of(alloc, bars)?;
+    positions.sort_unstable();
+    positions.dedup();
+    Ok(positions)
 }
 
-fn is_at(bar: &Bar, time: u64) -> bool
-    ensures { result ≡ rows.is_at time bar.now }
+fn is_at(bar: &Bar, position: u64) -> bool
+    ensures { result ≡ rows.is_at position bar.now }
 {
-    (bar.begin <= time && time <= bar.end) || bar.point == time
+    (bar.begin <= position && position <= bar.end) || bar.point == position
 }
 
-fn bars_at(alloc: Global, bars: &[Bar], time: u64) -> Result<Vec<Bar>, AllocError>
-    ensures { IfOk result (λ there. there.items ≡ rows.bars_at time bars.now) }
+fn bars_at(alloc: Global, bars: &[Bar], position: u64) -> Result<Vec<Bar>, AllocError>
+    ensures { IfOk result (λ there. there.items ≡ rows.bars_at position bars.now) }
 {
     bars.iter()
         .copied()
-        .filter(|bar| is_at(bar, time))
+        .filter(|bar| is_at(bar, position))
         .collect(alloc)
 }
 
-fn sign(verdict: &Result<u64, Fault>, bar: &Bar, time: u64) -> &'static str
-    ensures { result.now ≡ sign_text verdict.now time bar.now }
+fn sign(verdict: &Result<u64, Fault>, bar: &Bar, position: u64) -> &'static str
+    ensures { result.now ≡ sign_text verdict.now position bar.now }
 {
     let bad = is_bad(verdict, bar);
-    if bar.point == time {
+    if bar.point == position {
         if bad { "X  " } else { "*  " }
     } else if bad {
         "!  "
-    } else if bar.first == time {
+    } else if bar.first == position {
         ",  "
-    } else if bar.last == time {
+    } else if bar.last == position {
         "'  "
     } else {
         "|  "
@@ -67,11 +69,11 @@ fn last_in(there: &[Bar], lane: u64) -> Option<&Bar>
 }
 
 /// A lane's column, where these bars are.
-fn lane_sign(verdict: &Result<u64, Fault>, there: &[Bar], lane: u64, time: u64) -> &'static str
-    ensures { result.now ≡ lane_text verdict.now time there.now lane }
+fn lane_sign(verdict: &Result<u64, Fault>, there: &[Bar], lane: u64, position: u64) -> &'static str
+    ensures { result.now ≡ lane_text verdict.now position there.now lane }
 {
     match last_in(there, lane) {
-        Some(bar) => sign(verdict, bar, time),
+        Some(bar) => sign(verdict, bar, position),
         None => "   ",
     }
 }
@@ -80,55 +82,60 @@ fn push_lanes(
     row: &mut Vec<u8>,
     picture: &Picture,
     there: &[Bar],
-    time: u64,
+    position: u64,
 ) -> Result<(), AllocError>
     requires { All (λ bar. bar.lane < 64) picture.now.bars }
     ensures { OnOk result (row.new.items
-        ≡ row.old.items ++ lanes_text picture.now.verdict time there.now (lanes_in picture.now.bars)) }
+        ≡ row.old.items ++ lanes_text picture.now.verdict position there.now (lanes_in picture.now.bars)) }
 {
     for lane in 0..lanes_in(picture.bars()) {
-        push_text(row, lane_sign(picture.verdict(), there, lane, time))?;
+        push_text(row, lane_sign(picture.verdict(), there, lane, position))?;
     }
     Ok(())
 }
 
-fn time_text(alloc: Global, time: u64) -> Result<String, AllocError>
-    ensures { IfOk result (λ text. string_bytes text ≡ time_text time) }
+fn position_text(alloc: Global, position: u64) -> Result<String, AllocError>
+    ensures { IfOk result (λ text. string_bytes text ≡ position_text position) }
 {
-    format!(in alloc; "{time:>6}")
+    format!(in alloc; "{position:>6}")
 }
 
 /// What is told of a bar.
-fn told_text(alloc: Global, bar: &Bar, time: u64) -> Result<String, AllocError>
-    ensures { IfOk result (λ text. string_bytes text ≡ told_text time bar.now) }
+fn told_text(alloc: Global, bar: &Bar, position: u64) -> Result<String, AllocError>
+    ensures { IfOk result (λ text. string_bytes text ≡ told_text position bar.now) }
 {
     let (lane, entry) = (bar.lane, bar.entry);
-    if bar.point == time {
+    if bar.point == position {
         format!(in alloc; "  {lane}: {} (entry {entry})", AnsweredLabel(*bar))
-    } else if bar.first == time {
+    } else if bar.first == position {
         format!(in alloc; "  {lane}: {}", CallLabel(bar.call))
-    } else if bar.last == time {
+    } else if bar.last == position {
         format!(in alloc; "  {lane}: = {}", ReplyLabel(bar.reply))
     } else {
         Ok(String::new(alloc))
     }
 }
 
-fn push_told(alloc: Global, row: &mut Vec<u8>, there: &[Bar], time: u64) -> Result<(), AllocError>
-    ensures { OnOk result (row.new.items ≡ row.old.items ++ concat (map (told_text time) there.now)) }
+fn push_told(
+    alloc: Global,
+    row: &mut Vec<u8>,
+    there: &[Bar],
+    position: u64,
+) -> Result<(), AllocError>
+    ensures { OnOk result (row.new.items ≡ row.old.items ++ concat (map (told_text position) there.now)) }
 {
     for bar in there {
-        let told = told_text(alloc, bar, time)?;
+        let told = told_text(alloc, bar, position)?;
         push_text(row, &told)?;
     }
     Ok(())
 }
 
 /// What the point left.
-fn left_text(alloc: Global, moment: &Moment, time: u64) -> Result<String, AllocError>
-    ensures { IfOk result (λ text. string_bytes text ≡ left_text time moment.now) }
+fn left_text(alloc: Global, moment: &Moment, position: u64) -> Result<String, AllocError>
+    ensures { IfOk result (λ text. string_bytes text ≡ left_text position moment.now) }
 {
-    if moment.point == time {
+    if moment.point == position {
         format!(in alloc; " -> {}", BriefLabel(moment.state))
     } else {
         Ok(String::new(alloc))
@@ -139,29 +146,29 @@ fn push_left(
     alloc: Global,
     row: &mut Vec<u8>,
     ribbon: &[Moment],
-    time: u64,
+    position: u64,
 ) -> Result<(), AllocError>
-    ensures { OnOk result (row.new.items ≡ row.old.items ++ concat (map (left_text time) ribbon.now)) }
+    ensures { OnOk result (row.new.items ≡ row.old.items ++ concat (map (left_text position) ribbon.now)) }
 {
     for moment in ribbon {
-        let left = left_text(alloc, moment, time)?;
+        let left = left_text(alloc, moment, position)?;
         push_text(row, &left)?;
     }
     Ok(())
 }
 
-/// The line of a time.
-fn row_of(alloc: Global, picture: &Picture, time: u64) -> Result<Vec<u8>, AllocError>
+/// The line of a position.
+fn row_of(alloc: Global, picture: &Picture, position: u64) -> Result<Vec<u8>, AllocError>
     requires { All (λ bar. bar.lane < 64) picture.now.bars }
-    ensures { IfOk result (λ row. row.items ≡ row_text picture.now time) }
+    ensures { IfOk result (λ row. row.items ≡ row_text picture.now position) }
 {
-    let there = bars_at(alloc, picture.bars(), time)?;
+    let there = bars_at(alloc, picture.bars(), position)?;
     let mut row = Vec::new(alloc);
-    push_lanes(&mut row, picture, &there, time)?;
-    let time_text = time_text(alloc, time)?;
-    push_text(&mut row, &time_text)?;
-    push_told(alloc, &mut row, &there, time)?;
-    push_left(alloc, &mut row, picture.ribbon(), time)?;
+    push_lanes(&mut row, picture, &there, position)?;
+    let position_text = position_text(alloc, position)?;
+    push_text(&mut row, &position_text)?;
+    push_told(alloc, &mut row, &there, position)?;
+    push_left(alloc, &mut row, picture.ribbon(), position)?;
     Ok(row)
 }
 
@@ -181,7 +188,7 @@ fn heading_of(alloc: Global, lanes: u64) -> Result<Vec<u8>, AllocError>
         let number = number_text(alloc, lane)?;
         push_text(&mut heading, &number)?;
     }
-    push_text(&mut heading, HEADING)?;
+    push_text(&mut heading, HEADING_TAIL)?;
     Ok(heading)
 }
 
@@ -209,15 +216,15 @@ fn push_rows(
     alloc: Global,
     text: &mut Vec<u8>,
     picture: &Picture,
-    times: &[u64],
+    positions: &[u64],
     width: usize,
 ) -> Result<(), AllocError>
     requires { All (λ bar. bar.lane < 64) picture.now.bars }
     ensures { OnOk result (text.new.items
-        ≡ text.old.items ++ concat (map (λ t. cut_text width (row_text picture.now t)) times.now)) }
+        ≡ text.old.items ++ concat (map (λ t. cut_text width (row_text picture.now t)) positions.now)) }
 {
-    for time in times {
-        let row = row_of(alloc, picture, *time)?;
+    for position in positions {
+        let row = row_of(alloc, picture, *position)?;
         push_line(text, &row, width)?;
     }
     Ok(())
@@ -237,8 +244,8 @@ pub fn text_of(alloc: Global, picture: &Picture, width: usize) -> Result<Vec<u8>
     push_line(&mut text, first.as_bytes(), width)?;
     let heading = heading_of(alloc, lanes_in(picture.bars()))?;
     push_line(&mut text, &heading, width)?;
-    let times = times_of(alloc, picture.bars())?;
-    push_rows(alloc, &mut text, picture, &times, width)?;
+    let positions = positions_in_order(alloc, picture.bars())?;
+    push_rows(alloc, &mut text, picture, &positions, width)?;
     let verdict = VerdictLabel(*picture.verdict()).to_string(alloc)?;
     push_line(&mut text, verdict.as_bytes(), width)?;
     Ok(text)

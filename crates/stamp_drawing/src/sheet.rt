@@ -2,15 +2,15 @@
 ghost use Rattle.std.specs.Prelude.{◌≡◌, ◌≤◌, ◌<◌, ◌∷◌, [], map, length, IfOk, All, string_bytes, codes, decimal, Some};
 ghost use Rattle.std.specs.List.{range_with_len};
 ghost use Rattle.stamp_picture.specs.Picture.{most_bars};
-ghost use Rattle.stamp_drawing.specs.Frames.{ends_of, opening_frame};
+ghost use Rattle.stamp_drawing.specs.Frames.{positions_of, opening_frame};
 ghost use Rattle.stamp_drawing.specs.Sheet as spec;
 ghost use Rattle.stamp_drawing.specs.Sheet.{IsSheet, box_of, boxes_of, bar_box, point_box, point_boxes};
 ghost use Rattle.stamp_drawing.specs.Sheet.{state_box, moment_box};
 ghost use Rattle.stamp_drawing.specs.Sheet.{plain_box, content_box, content_boxes, lane_box, legend_box, note_boxes};
 
 use crate::frames::{
-    BORDER, Class, Frame, bar_frame, class_of, content_frame, ends_of, foot_of, lane_frame,
-    lanes_in, moment_frame, opening_frame, point_frame, point_x, right_of,
+    BORDER, Class, Frame, bar_frame, class_of, content_frame, foot_of, lane_frame, lanes_in,
+    moment_frame, opening_frame, point_frame, point_x, positions_of, right_of,
 };
 use crate::labels::{
     AnsweredLabel, CallLabel, ContentLabel, ReplyLabel, ShortModeLabel, StateLabel, VerdictLabel,
@@ -64,15 +64,15 @@ fn bar_title(alloc: Global, bar: &Bar) -> Result<String, AllocError>
 fn bar_box(
     alloc: Global,
     verdict: &Result<u64, Fault>,
-    ends: &[u64],
+    positions: &[u64],
     bar: &Bar,
 ) -> Result<LabelledBox, AllocError>
-    requires few { length ends.now ≤ 6000 }
+    requires few { length positions.now ≤ 6000 }
     requires lane { bar.now.lane < 64 }
-    ensures { IfOk result (λ labelled. box_of labelled ≡ bar_box verdict.now ends.now bar.now) }
+    ensures { IfOk result (λ labelled. box_of labelled ≡ bar_box verdict.now positions.now bar.now) }
 {
     Ok(LabelledBox {
-        frame: bar_frame(verdict, ends, bar),
+        frame: bar_frame(verdict, positions, bar),
         title: bar_title(alloc, bar)?,
         upper: CallLabel(bar.call).to_string(alloc)?,
         lower: format!(in alloc; "= {}", ReplyLabel(bar.reply))?,
@@ -83,26 +83,26 @@ fn bar_boxes(
     alloc: Global,
     verdict: &Result<u64, Fault>,
     bars: &[Bar],
-    ends: &[u64],
+    positions: &[u64],
 ) -> Result<Vec<LabelledBox>, AllocError>
-    requires few { length ends.now ≤ 6000 }
+    requires few { length positions.now ≤ 6000 }
     requires lanes { All (λ bar. bar.lane < 64) bars.now }
-    ensures { IfOk result (λ boxes. boxes_of boxes.items ≡ map (bar_box verdict.now ends.now) bars.now) }
+    ensures { IfOk result (λ boxes. boxes_of boxes.items ≡ map (bar_box verdict.now positions.now) bars.now) }
 {
     let mut boxes = Vec::new(alloc);
     for bar in bars {
-        boxes.push(bar_box(alloc, verdict, ends, bar)?)?;
+        boxes.push(bar_box(alloc, verdict, positions, bar)?)?;
     }
     Ok(boxes)
 }
 
-fn point_box(alloc: Global, ends: &[u64], bar: &Bar) -> Result<LabelledBox, AllocError>
-    requires few { length ends.now ≤ 6000 }
+fn point_box(alloc: Global, positions: &[u64], bar: &Bar) -> Result<LabelledBox, AllocError>
+    requires few { length positions.now ≤ 6000 }
     requires lane { bar.now.lane < 64 }
-    ensures { IfOk result (λ labelled. box_of labelled ≡ point_box ends.now bar.now) }
+    ensures { IfOk result (λ labelled. box_of labelled ≡ point_box positions.now bar.now) }
 {
     Ok(LabelledBox {
-        frame: point_frame(ends, bar),
+        frame: point_frame(positions, bar),
         title: bar_title(alloc, bar)?,
         upper: String::new(alloc),
         lower: String::new(alloc),
@@ -110,15 +110,19 @@ fn point_box(alloc: Global, ends: &[u64], bar: &Bar) -> Result<LabelledBox, Allo
 }
 
 /// A box for each point in the window.
-fn point_boxes(alloc: Global, bars: &[Bar], ends: &[u64]) -> Result<Vec<LabelledBox>, AllocError>
-    requires few { length ends.now ≤ 6000 }
+fn point_boxes(
+    alloc: Global,
+    bars: &[Bar],
+    positions: &[u64],
+) -> Result<Vec<LabelledBox>, AllocError>
+    requires few { length positions.now ≤ 6000 }
     requires lanes { All (λ bar. bar.lane < 64) bars.now }
-    ensures { IfOk result (λ boxes. boxes_of boxes.items ≡ point_boxes ends.now bars.now) }
+    ensures { IfOk result (λ boxes. boxes_of boxes.items ≡ point_boxes positions.now bars.now) }
 {
     let mut boxes = Vec::new(alloc);
     for bar in bars {
         if bar.point_shown {
-            boxes.push(point_box(alloc, ends, bar)?)?;
+            boxes.push(point_box(alloc, positions, bar)?)?;
         }
     }
     Ok(boxes)
@@ -140,28 +144,28 @@ fn ribbon_boxes(
     alloc: Global,
     opening: &State,
     ribbon: &[Moment],
-    ends: &[u64],
+    positions: &[u64],
 ) -> Result<Vec<LabelledBox>, AllocError>
-    requires { length ends.now ≤ 6000 }
+    requires { length positions.now ≤ 6000 }
     ensures { IfOk result (λ boxes. boxes_of boxes.items
-        ≡ state_box (opening_frame ends.now opening.now) opening.now ∷ map (moment_box ends.now) ribbon.now) }
+        ≡ state_box (opening_frame positions.now opening.now) opening.now ∷ map (moment_box positions.now) ribbon.now) }
 {
     let mut boxes = Vec::new(alloc);
-    boxes.push(state_box(alloc, opening_frame(ends, opening), opening)?)?;
+    boxes.push(state_box(alloc, opening_frame(positions, opening), opening)?)?;
     for moment in ribbon {
-        boxes.push(state_box(alloc, moment_frame(ends, moment), &moment.state)?)?;
+        boxes.push(state_box(alloc, moment_frame(positions, moment), &moment.state)?)?;
     }
     Ok(boxes)
 }
 
 /// A box that says the same as its title.
-fn plain_box(alloc: Global, frame: Frame, words: &str) -> Result<LabelledBox, AllocError>
-    ensures { IfOk result (λ labelled. box_of labelled ≡ plain_box frame words.now) }
+fn plain_box(alloc: Global, frame: Frame, label: &str) -> Result<LabelledBox, AllocError>
+    ensures { IfOk result (λ labelled. box_of labelled ≡ plain_box frame label.now) }
 {
     Ok(LabelledBox {
         frame,
-        title: String::from_str(alloc, words)?,
-        upper: String::from_str(alloc, words)?,
+        title: String::from_str(alloc, label)?,
+        upper: String::from_str(alloc, label)?,
         lower: String::new(alloc),
     })
 }
@@ -181,15 +185,15 @@ fn name_box(alloc: Global, y: u64, name: &str) -> Result<LabelledBox, AllocError
 
 fn content_box(
     alloc: Global,
-    ends: &[u64],
+    positions: &[u64],
     x: u64,
     content: Option<Words>,
 ) -> Result<LabelledBox, AllocError>
-    requires { length ends.now ≤ 6000 }
-    ensures { IfOk result (λ labelled. box_of labelled ≡ content_box ends.now x content) }
+    requires { length positions.now ≤ 6000 }
+    ensures { IfOk result (λ labelled. box_of labelled ≡ content_box positions.now x content) }
 {
-    let words = ContentLabel(content).to_string(alloc)?;
-    plain_box(alloc, content_frame(ends, x), &words)
+    let label = ContentLabel(content).to_string(alloc)?;
+    plain_box(alloc, content_frame(positions, x), &label)
 }
 
 fn same_content(one: &Option<Words>, other: &Option<Words>) -> bool
@@ -207,50 +211,50 @@ fn content_boxes(
     alloc: Global,
     opening: &State,
     ribbon: &[Moment],
-    ends: &[u64],
+    positions: &[u64],
 ) -> Result<Vec<LabelledBox>, AllocError>
-    requires { length ends.now ≤ 6000 }
+    requires { length positions.now ≤ 6000 }
     ensures { IfOk result (λ boxes. boxes_of boxes.items
-        ≡ content_boxes ends.now opening.now.content ribbon.now) }
+        ≡ content_boxes positions.now opening.now.content ribbon.now) }
 {
     let mut boxes = Vec::new(alloc);
     if opening.content.is_none() {
         return Ok(boxes);
     }
     boxes.push(name_box(alloc, 72, "record")?)?;
-    boxes.push(content_box(alloc, ends, BORDER, opening.content)?)?;
+    boxes.push(content_box(alloc, positions, BORDER, opening.content)?)?;
     let mut held = opening.content;
     for moment in ribbon {
         let content = moment.state.content;
         if !same_content(&held, &content) {
-            boxes.push(content_box(alloc, ends, point_x(ends, moment.point), content)?)?;
+            boxes.push(content_box(alloc, positions, point_x(positions, moment.point), content)?)?;
             held = content;
         }
     }
     Ok(boxes)
 }
 
-fn lane_box(alloc: Global, ends: &[u64], lane: u64) -> Result<LabelledBox, AllocError>
-    requires few { length ends.now ≤ 6000 }
+fn lane_box(alloc: Global, positions: &[u64], lane: u64) -> Result<LabelledBox, AllocError>
+    requires few { length positions.now ≤ 6000 }
     requires lane { lane ≤ 64 }
-    ensures { IfOk result (λ labelled. box_of labelled ≡ lane_box ends.now lane) }
+    ensures { IfOk result (λ labelled. box_of labelled ≡ lane_box positions.now lane) }
 {
     Ok(LabelledBox {
-        frame: lane_frame(ends, lane),
+        frame: lane_frame(positions, lane),
         title: format!(in alloc; "thread {lane}")?,
         upper: String::new(alloc),
         lower: format!(in alloc; "thread {lane}")?,
     })
 }
 
-fn lane_boxes(alloc: Global, lanes: u64, ends: &[u64]) -> Result<Vec<LabelledBox>, AllocError>
-    requires few { length ends.now ≤ 6000 }
+fn lane_boxes(alloc: Global, lanes: u64, positions: &[u64]) -> Result<Vec<LabelledBox>, AllocError>
+    requires few { length positions.now ≤ 6000 }
     requires lanes { lanes ≤ 64 }
-    ensures { IfOk result (λ boxes. boxes_of boxes.items ≡ map (lane_box ends.now) (range_with_len 0 lanes)) }
+    ensures { IfOk result (λ boxes. boxes_of boxes.items ≡ map (lane_box positions.now) (range_with_len 0 lanes)) }
 {
     let mut boxes = Vec::new(alloc);
     for lane in 0..lanes {
-        boxes.push(lane_box(alloc, ends, lane)?)?;
+        boxes.push(lane_box(alloc, positions, lane)?)?;
     }
     Ok(boxes)
 }
@@ -261,9 +265,9 @@ fn legend_box(
     y: u64,
     class: Class,
     at: (u64, u64),
-    words: &str,
+    label: &str,
 ) -> Result<LabelledBox, AllocError>
-    ensures { IfOk result (λ labelled. box_of labelled ≡ legend_box y class at.0 at.1 words.now) }
+    ensures { IfOk result (λ labelled. box_of labelled ≡ legend_box y class at.0 at.1 label.now) }
 {
     let (x, width) = at;
     let frame = Frame {
@@ -273,7 +277,7 @@ fn legend_box(
         width,
         height: 22,
     };
-    plain_box(alloc, frame, words)
+    plain_box(alloc, frame, label)
 }
 
 fn verdict_box(alloc: Global, verdict: &Result<u64, Fault>) -> Result<LabelledBox, AllocError>
@@ -283,8 +287,8 @@ fn verdict_box(alloc: Global, verdict: &Result<u64, Fault>) -> Result<LabelledBo
         Ok(_) => Class::Note,
         Err(_) => Class::Bad,
     };
-    let words = VerdictLabel(*verdict).to_string(alloc)?;
-    legend_box(alloc, 4, class, (BORDER, 620), &words)
+    let label = VerdictLabel(*verdict).to_string(alloc)?;
+    legend_box(alloc, 4, class, (BORDER, 620), &label)
 }
 
 /// The verdict above the picture, and the legend below it.
@@ -303,7 +307,7 @@ fn note_boxes(
     let call = legend_box(alloc, y, Class::Bar, (304, 60), "call")?;
     let fault = legend_box(alloc, y, Class::Bad, (368, 60), "fault")?;
     let point = legend_box(alloc, y, Class::Point, (440, 6), "")?;
-    let words = legend_box(
+    let note = legend_box(
         alloc,
         y,
         Class::Note,
@@ -311,7 +315,7 @@ fn note_boxes(
         "takes effect; v: the version",
     )?;
     Ok(vec![in alloc;
-        verdict, lock, free, reading, writing, call, fault, point, words,
+        verdict, lock, free, reading, writing, call, fault, point, note,
     ]?)
 }
 
@@ -324,17 +328,17 @@ pub fn sheet_of(alloc: Global, picture: &Picture) -> Result<Sheet, AllocError>
     ensures { IfOk result (λ sheet. IsSheet picture.now sheet) }
 {
     let bars = picture.bars();
-    let ends = ends_of(alloc, bars)?;
+    let positions = positions_of(alloc, bars)?;
     let foot = foot_of(bars);
     let (opening, ribbon) = (picture.opening(), picture.ribbon());
     Ok(Sheet {
-        width: right_of(&ends).max(716) + 12,
+        width: right_of(&positions).max(716) + 12,
         height: foot + 32,
-        lanes: lane_boxes(alloc, lanes_in(bars), &ends)?,
-        ribbon: ribbon_boxes(alloc, &opening, ribbon, &ends)?,
-        content: content_boxes(alloc, &opening, ribbon, &ends)?,
-        bars: bar_boxes(alloc, picture.verdict(), bars, &ends)?,
-        points: point_boxes(alloc, bars, &ends)?,
+        lanes: lane_boxes(alloc, lanes_in(bars), &positions)?,
+        ribbon: ribbon_boxes(alloc, &opening, ribbon, &positions)?,
+        content: content_boxes(alloc, &opening, ribbon, &positions)?,
+        bars: bar_boxes(alloc, picture.verdict(), bars, &positions)?,
+        points: point_boxes(alloc, bars, &positions)?,
         notes: note_boxes(alloc, picture.verdict(), foot)?,
     })
 }

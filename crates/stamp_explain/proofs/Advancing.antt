@@ -9,7 +9,7 @@ use Rattle.std.proofs.lemmas.List.Elements.{Contains-append_right, Contains-get_
 use Rattle.std.proofs.lemmas.Option.{slice_get_within}
 use Rattle.stamp_explain.specs.Observed.{ObservedHistory, IsReturnAt}
 use Rattle.stamp_explain.specs.Search.{LockState, first_state}
-use Rattle.stamp_explain.specs.Configuration.{AreOne, AwaitsNext, Configuration, GoesOnFrom}
+use Rattle.stamp_explain.specs.Configuration.{AreOne, IsSettledAt, Configuration, GoesOnFrom}
 use Rattle.stamp_explain.specs.Configuration.{Reaches, number_after}
 use Rattle.stamp_explain.specs.Configuration.Reaches.{begins, goes_past, goes_on_by}
 use Rattle.stamp_explain.specs.ExplainLaws.{AreDecided, NoDeadEndIsDecided}
@@ -75,7 +75,7 @@ passed_in_effect h returns c d g i has =
 
 -- so one more call is in effect, where the call that returns next was not
 one_further : (h : ObservedHistory) (returns : List ℕ) (k : ℕ) (c d : Configuration h None returns) →
-    ¬ AreOne h None returns c d → GoesOnFrom h returns c d → AwaitsNext h None returns c → k ≤ length c.taken →
+    ¬ AreOne h None returns c d → GoesOnFrom h returns c d → IsSettledAt h None returns c → k ≤ length c.taken →
     suc k ≤ length d.taken
 one_further h returns k c d differ g settled before = by g.later refl g.passed refl
   where

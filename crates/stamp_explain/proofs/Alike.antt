@@ -13,9 +13,9 @@ use Rattle.stamp_core.specs.History.{History}
 use Rattle.stamp_explain.specs.declared.observed.Observation.{Observation}
 use Rattle.stamp_explain.specs.declared.observed.Returned.{Returned}
 use Rattle.stamp_explain.specs.Observed.{IsBefore, AllowsReply}
-use Rattle.stamp_explain.specs.Explained.{Effect, IsEffectOf, history_of, indices_of, AreApart, RespectsBefore}
+use Rattle.stamp_explain.specs.Explained.{Effect, IsEffectOf, history_of, indices_of, AreOfTwoEntries, RespectsBefore}
 use Rattle.stamp_explain.specs.Search.{Runs, IsCompletedBy, CanComplete, MayTake, LockState, StateTransition}
-use Rattle.stamp_explain.specs.Search.{IsFirstReturn, IsAlikeSooner}
+use Rattle.stamp_explain.specs.Search.{IsFirstReturn, IsAlikeNoLater}
 use Rattle.stamp_explain.specs.ExplainLaws.{AlikeByReturn}
 use Rattle.stamp_explain.proofs.Lists.{none_in_empty, contains_cases, contains_first, contains_rest, pairs_head}
 use Rattle.stamp_explain.proofs.Lists.{pairs_tail, pairs_cons}
@@ -49,12 +49,12 @@ replaced_pairs R x y (later {w} {ys} {zs} r) before after all =
     After : Effect → Type 0
     After v = R v y → R v x
 
-replaced_apart : (x y : Effect) {ys zs : List Effect} → Replaces x y ys zs → AreApart y x → AllPairs AreApart ys →
-    All (AreApart y) zs
-replaced_apart x y (here {ys}) other all = All-cons (AreApart y) x ys other (pairs_head AreApart y ys all)
+replaced_apart : (x y : Effect) {ys zs : List Effect} → Replaces x y ys zs → AreOfTwoEntries y x →
+    AllPairs AreOfTwoEntries ys → All (AreOfTwoEntries y) zs
+replaced_apart x y (here {ys}) other all = All-cons (AreOfTwoEntries y) x ys other (pairs_head AreOfTwoEntries y ys all)
 replaced_apart x y (later {w} {ys} {zs} r) other all =
-    All-cons (AreApart y) w zs (λ e. was_there (AreApart w) x y r (pairs_head AreApart w ys all) (sym e))
-    (replaced_apart x y r other (pairs_tail AreApart w ys all))
+    All-cons (AreOfTwoEntries y) w zs (λ e. was_there (AreOfTwoEntries w) x y r (pairs_head AreOfTwoEntries w ys all)
+    (sym e)) (replaced_apart x y r other (pairs_tail AreOfTwoEntries w ys all))
 
 replaced_index : (x y : Effect) (k : ℕ) {ys zs : List Effect} → Replaces x y ys zs → Contains (indices_of ys) k →
     (y.index ≡ k) ⊎ Contains (indices_of zs) k
@@ -107,7 +107,7 @@ replaced x k (y ∷ ys) has = by (contains_cases y.index (indices_of ys) k has) 
         record { old = r.old; others = y ∷ r.others; replaces = later r.replaces; index = r.index }
 
 -- what had not returned before, if the one that returned sooner had not
-not_sooner : (e f z : Observation) → IsAlikeSooner e f → ¬ IsBefore e z → ¬ IsBefore f z
+not_sooner : (e f z : Observation) → IsAlikeNoLater e f → ¬ IsBefore e z → ¬ IsBefore f z
 not_sooner e f z alike not before = not (subst (λ (o : Option Returned). MatchOption o ⊥
     (λ (r : Returned). r.last < z.first)) (sym alike.calls.at_first) less)
   where
@@ -116,13 +116,13 @@ not_sooner e f z alike not before = not (subst (λ (o : Option Returned). MatchO
         alike.calls.at_second before
 
     less : alike.calls.first.last < z.first
-    less = omega (arith, later, alike.sooner)
+    less = omega (arith, later, alike.no_later)
 
 one_reply_of : (e : Observation) (r : Returned) (reply : Reply) → e.returned ≡ Some r → AllowsReply e reply →
     r.reply ≡ reply
 one_reply_of e r reply at may = MatchOption-at_some (Unit {0}) (λ (q : Returned). q.reply ≡ reply) r at may
 
-may_reply_alike : (e f : Observation) (reply : Reply) → IsAlikeSooner e f → AllowsReply f reply → AllowsReply e reply
+may_reply_alike : (e f : Observation) (reply : Reply) → IsAlikeNoLater e f → AllowsReply f reply → AllowsReply e reply
 may_reply_alike e f reply alike may =
     subst (λ (o : Option Returned). MatchOption o (Unit {0}) (λ (r : Returned). r.reply ≡ reply))
     (sym alike.calls.at_first) (alike.calls.reply ∙ one_reply_of f alike.calls.second reply alike.calls.at_second may)
@@ -132,11 +132,11 @@ replaced_completes : (limits : Bounds) (entries : List Observation) (a : Observa
     (s t : LockState) (taken : List ℕ) (x : Effect) (k : ℕ) (e : Observation) (xs : List Effect) →
     IsFirstReturn entries taken a → MayTake (StateTransition limits) entries a s taken x t →
     IsCompletedBy (StateTransition limits) entries to_come t (x.index ∷ taken) xs → slice_get entries k ≡ Some e →
-    IsAlikeSooner e x.entry → k ≢ x.index → (r : Replaced x k xs) →
+    IsAlikeNoLater e x.entry → k ≢ x.index → (r : Replaced x k xs) →
     IsCompletedBy (StateTransition limits) entries to_come t (k ∷ taken) r.others
 replaced_completes limits entries a to_come s t taken x k e xs first may by at alike other r = record {
   effects = replaced_all (IsEffectOf entries) x r.old r.replaces may.effect by.effects;
-  once = replaced_pairs AreApart x r.old r.replaces
+  once = replaced_pairs AreOfTwoEntries x r.old r.replaces
       (λ j d lt same. by.fresh j d lt (contains_first x.index taken (get_or xs j d).index same))
       (λ j d lt not_old same. by.fresh j d lt (contains_first x.index taken (get_or xs j d).index (sym same))) by.once;
   fresh = λ j d lt. still_fresh (get_or r.others j d) (apart j d lt) (not_taken j d lt);
@@ -164,14 +164,14 @@ replaced_completes limits entries a to_come s t taken x k e xs first may by at a
         one_reply_of e alike.calls.first x.reply alike.calls.at_first
         (may_reply_alike e x.entry x.reply alike may.effect.replies)
 
-    apart : All (AreApart r.old) r.others
+    apart : All (AreOfTwoEntries r.old) r.others
     apart = replaced_apart x r.old r.replaces (λ same. other (sym r.index ∙ same)) by.once
 
     not_taken : All (λ (w : Effect). ¬ Contains taken w.index) r.others
     not_taken = replaced_all (λ (w : Effect). ¬ Contains taken w.index) x r.old r.replaces may.fresh
         (λ j d lt has. by.fresh j d lt (contains_rest x.index taken (get_or xs j d).index has))
 
-    still_fresh : (w : Effect) → AreApart r.old w → ¬ Contains taken w.index → ¬ Contains (k ∷ taken) w.index
+    still_fresh : (w : Effect) → AreOfTwoEntries r.old w → ¬ Contains taken w.index → ¬ Contains (k ∷ taken) w.index
     still_fresh w differs misses has = neither (contains_cases k taken w.index has)
       where
         neither : (k ≡ w.index) ⊎ Contains taken w.index → ⊥
@@ -200,7 +200,7 @@ replaced_length x y (later {w} {ys} {zs} r) = ap suc (replaced_length x y r)
 -- it may take effect, too
 pub may_take_alike : (limits : Bounds) (entries : List Observation) (a : Observation) (s t : LockState)
     (taken : List ℕ) (x : Effect) (k : ℕ) (e : Observation) → MayTake (StateTransition limits) entries a s taken x t →
-    slice_get entries k ≡ Some e → IsAlikeSooner e x.entry → ¬ Contains taken k → ¬ IsBefore a e →
+    slice_get entries k ≡ Some e → IsAlikeNoLater e x.entry → ¬ Contains taken k → ¬ IsBefore a e →
     MayTake (StateTransition limits) entries a s taken (record { index = k; entry = e; reply = x.reply }) t
 may_take_alike limits entries a s t taken x k e may at alike fresh begun = record {
   effect = record { is_entry = at; replies = may_reply_alike e x.entry x.reply alike may.effect.replies };
@@ -232,7 +232,7 @@ pub alike_in_as_many : (limits : Bounds) (entries : List Observation) (a : Obser
     (s t : LockState) (taken : List ℕ) (x : Effect) (k : ℕ) (e : Observation) (n : ℕ) →
     IsFirstReturn entries taken a → MayTake (StateTransition limits) entries a s taken x t →
     CompletesIn (StateTransition limits) entries to_come t (x.index ∷ taken) n → slice_get entries k ≡ Some e →
-    IsAlikeSooner e x.entry → k ≢ x.index → ¬ Contains taken k → Contains to_come k →
+    IsAlikeNoLater e x.entry → k ≢ x.index → ¬ Contains taken k → Contains to_come k →
     CompletesIn (StateTransition limits) entries to_come t (k ∷ taken) n
 alike_in_as_many limits entries a to_come s t taken x k e n first may can at alike other fresh due =
     let r : Replaced x k can.rest =

@@ -22,11 +22,11 @@ use Rattle.stamp_explain.specs.declared.timeline.Timeline.{Timeline}
 use Rattle.stamp_explain.specs.Observed.{ObservedHistory, HasReturned, IsReturnAt}
 use Rattle.stamp_explain.specs.Explained.{Effect}
 use Rattle.stamp_explain.specs.Search.{LockState, StateTransition, MayTake, AreReturns, ReturnsNoLater}
-use Rattle.stamp_explain.specs.Node.{IsNext, HasNext, AreTaken, IsStateBy, StandsFor, words_put, words_put_at}
+use Rattle.stamp_explain.specs.Node.{IsFirstLeft, HasFirstLeft, AreTaken, IsStateBy, StandsFor, words_put, words_put_at}
 use Rattle.stamp_explain.specs.Node.{content_by}
 use Rattle.stamp_explain.specs.Node.{IsFirstNode}
 use Rattle.stamp_explain.specs.Timeline.{IsTimeline, IsOpenAt, AreOpen}
-use Rattle.stamp_explain.specs.Expand.{Took, Takes}
+use Rattle.stamp_explain.specs.Expand.{IsTakeOf, Takes}
 use Rattle.stamp_explain.specs.Expand.{ComesByReturn, PassesTo}
 use Rattle.stamp_explain.specs.Expand.PassesTo.{passes_none, passes_more}
 use Rattle.stamp_explain.specs.Possible.{with_reply, without_return, returned_with}
@@ -93,7 +93,7 @@ other_there h g i k e is other at =
     ap (λ (o : Observation). Some o) (is.others k e other ∙ get_or_from_slice_get h.entries k e e at)
 
 next_alike : (h g : ObservedHistory) (i : ℕ) (past : List ℕ) (k : ℕ) (e f : Observation) → AreAlike h g i →
-    slice_get g.entries k ≡ Some f → IsAlike e f → IsNext h.entries past k e → IsNext g.entries past k f
+    slice_get g.entries k ≡ Some f → IsAlike e f → IsFirstLeft h.entries past k e → IsFirstLeft g.entries past k f
 next_alike h g i past k e f is at alike next = record {
   is_entry = at;
   still = next.still;
@@ -112,13 +112,13 @@ taken_alike h g i past threads taken is are = record {
       there g h i k f (turned h g i is) at in
       which k f e.0 at (alike_turned f e.0 e.1.1) (are.only k e.0 e.1.0 has);
   all_past = are.all_past;
-  each_next = λ k f next bit.
+  each_first = λ k f next bit.
       let e : (e : Observation) × ((slice_get h.entries k ≡ Some e) × IsAlike f e) =
       there g h i k f (turned h g i is) next.is_entry in
-      are.each_next k e.0 (next_alike g h i past k f e.0 (turned h g i is) e.1.0 e.1.1 next)
+      are.each_first k e.0 (next_alike g h i past k f e.0 (turned h g i is) e.1.0 e.1.1 next)
       (ap (λ (t : ℕ). bit_at threads t) e.1.1.thread ∙ bit);
-  has_next = λ t bit.
-      let had : HasNext h.entries past t = are.has_next t bit in
+  has_first = λ t bit.
+      let had : HasFirstLeft h.entries past t = are.has_first t bit in
       let f : (f : Observation) × ((slice_get g.entries had.index ≡ Some f) × IsAlike had.entry f) =
       there h g i had.index had.entry is had.is.is_entry in
       record {
@@ -130,8 +130,8 @@ taken_alike h g i past threads taken is are = record {
 }
   where
     which : (k : ℕ) (f e : Observation) → slice_get g.entries k ≡ Some f → IsAlike e f →
-        Contains past k ⊎ ((bit_at threads e.thread ≡ 1) × IsNext h.entries past k e) →
-        Contains past k ⊎ ((bit_at threads f.thread ≡ 1) × IsNext g.entries past k f)
+        Contains past k ⊎ ((bit_at threads e.thread ≡ 1) × IsFirstLeft h.entries past k e) →
+        Contains past k ⊎ ((bit_at threads f.thread ≡ 1) × IsFirstLeft g.entries past k f)
     which k f e at alike (inl has) = inl has
     which k f e at alike (inr both) = inr (
       ap (λ (t : ℕ). bit_at threads t) alike.thread ∙ both.0,
@@ -341,7 +341,7 @@ may_alike h g i a b s u taken x is alike other may = record {
 
 -- what was found of another call
 pub took_alike : (h g : ObservedHistory) (i : ℕ) (returns : List ℕ) (node : Node) (k : ℕ) (found : Option Next) →
-    AreAlike h g i → k ≢ i → Took h returns node k found → Took g returns node k found
+    AreAlike h g i → k ≢ i → IsTakeOf h returns node k found → IsTakeOf g returns node k found
 took_alike h g i returns node k found is other took = record {
   takes = λ b s taken awaited stands.
       let a : (a : Observation) × ((slice_get h.entries (slice_index returns node.past) ≡ Some a) × IsAlike b a) =

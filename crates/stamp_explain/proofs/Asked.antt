@@ -13,13 +13,13 @@ use Rattle.stamp_explain.specs.declared.store.Store.{Store}
 use Rattle.stamp_explain.specs.declared.asking.Asking.{Asking}
 use Rattle.stamp_explain.specs.Observed.{ObservedHistory}
 use Rattle.stamp_explain.specs.Search.{LockState}
-use Rattle.stamp_explain.specs.Configuration.{AwaitsNext, Configuration, ReachesMoreBeside}
+use Rattle.stamp_explain.specs.Configuration.{IsSettledAt, Configuration, ReachesMoreBeside}
 use Rattle.stamp_explain.specs.Node.{IsReached, IsFirstNode}
-use Rattle.stamp_explain.specs.Expand.{ComesNextBy, AddsNew, nodes_of}
+use Rattle.stamp_explain.specs.Expand.{ComesByMove, AddsNew, nodes_of}
 use Rattle.stamp_explain.specs.Expand.{ComesByReturn, PassesTo}
 use Rattle.stamp_explain.specs.Expand.PassesTo.{passes_none, passes_more}
-use Rattle.stamp_explain.specs.Asking.{ComeAfterBeside, AreMore, AreReplies, Gets, GetsMore}
-use Rattle.stamp_explain.specs.Asking.{IsSeenWith, IsAsking, IsReachedBeside, ComesAfterBeside}
+use Rattle.stamp_explain.specs.Asking.{ComeNextBeside, AreMore, AreReplies, Gets, GetsMore}
+use Rattle.stamp_explain.specs.Asking.{IsSeenWith, IsAsking, IsReachedBeside, ComesNextBeside}
 use Rattle.stamp_explain.specs.Asking.{SufficeUnless}
 use Rattle.stamp_explain.proofs.Lists.{none_in_empty, contains_cases, pairs_none}
 use Rattle.stamp_explain.proofs.Answering.{timeline_alike}
@@ -61,7 +61,7 @@ passed_reached asking v w taken is (passes_more {u} before step) =
     }
 
 leads_beside : (asking : Asking) (node : Node) (next : Next) → IsReachedBeside asking node →
-    ComesAfterBeside asking node next → IsReachedBeside asking next.node
+    ComesNextBeside asking node next → IsReachedBeside asking next.node
 leads_beside asking node next is leads = by next.took refl (leads.leads.comes.leads s taken is.reached.stands)
   where
     h : ObservedHistory
@@ -89,7 +89,7 @@ leads_beside asking node next is leads = by next.took refl (leads.leads.comes.le
           settled = leads.leads.settled;
         }
 
-    by : (o : Option ℕ) → next.took ≡ o → ComesNextBy h (Some asking.index) returns node via s taken o →
+    by : (o : Option ℕ) → next.took ≡ o → ComesByMove h (Some asking.index) returns node via s taken o →
         IsReachedBeside asking next.node
     by None at l = then taken (record {
       reached = reached_past h (Some asking.index) returns node via is.reached leads.leads.comes.inside l;
@@ -143,7 +143,7 @@ asked_first asking old new waiting next empty is adds = record {
 
 pub asked_more : (asking : Asking) (looked : ℕ) (old new : Store) (before popped after : List ℕ) (nexts : List Next)
     (replies more : List Reply) (index : ℕ) (v : Node) → AsksSoFar asking looked old before replies →
-    before ≡ popped ++ index ∷ [] → slice_get old.nodes.items index ≡ Some v → ComeAfterBeside asking v nexts →
+    before ≡ popped ++ index ∷ [] → slice_get old.nodes.items index ≡ Some v → ComeNextBeside asking v nexts →
     AreMore replies more → GetsMore asking replies more → SufficeUnless asking v nexts more →
     AddsNew old new index popped after nexts → AsksSoFar asking (looked + 1) new after more
 asked_more asking looked old new before popped after nexts replies more index v is split at led grows gets suffice
@@ -205,7 +205,7 @@ asked_on asking most looked store waiting replies asks is all waits = record {
   };
   settled = each_has asking.seen (Some asking.index) asking.timeline.returns.items store.nodes.items
       (λ v has. (is.reached v has).reached)
-      (AwaitsNext asking.seen (Some asking.index) asking.timeline.returns.items)
+      (IsSettledAt asking.seen (Some asking.index) asking.timeline.returns.items)
       (λ v has. awaits_next asking.seen (Some asking.index) asking.timeline.returns.items v
       (configuration_of asking.seen (Some asking.index) asking.timeline.returns.items v (is.reached v has).reached)
       (record { observed = asks.observed; are = asks.timeline.are; once = asks.timeline.once })

@@ -11,7 +11,7 @@ use Rattle.stamp_core.specs.declared.reply.Reply.{Reply}
 use Rattle.stamp_explain.specs.declared.observed.Observation.{Observation}
 use Rattle.stamp_explain.specs.declared.observed.Returned.{Returned}
 use Rattle.stamp_explain.specs.Observed.{AllowsReply, HasReturned}
-use Rattle.stamp_explain.specs.Explained.{Effect, IsEffectOf, history_of, indices_of, AreApart, RespectsBefore}
+use Rattle.stamp_explain.specs.Explained.{Effect, IsEffectOf, history_of, indices_of, AreOfTwoEntries, RespectsBefore}
 use Rattle.stamp_explain.specs.Search.{Runs, IsCompletedBy, StateTransition}
 use Rattle.stamp_explain.specs.ExplainLaws.{UnchangingCallsAtOnce}
 use Rattle.stamp_explain.proofs.Lists.{none_in_empty, contains_cases, contains_first, contains_rest, pairs_head}
@@ -129,7 +129,7 @@ at_once {S} Goes entries to_come s taken x rest is returned nothing by = record 
   others = left.others;
   by = record {
     effects = part_all (IsEffectOf entries) left.part by.effects;
-    once = part_pairs AreApart left.part by.once;
+    once = part_pairs AreOfTwoEntries left.part by.once;
     fresh = λ k d lt. fresh (get_or left.others k d) (left.misses k d lt)
         (part_all (λ (y : Effect). ¬ Contains taken y.index) left.part by.fresh k d lt);
     returned = All-weaker (λ (j : ℕ). Contains taken j ⊎ Contains (indices_of rest) j)

@@ -16,11 +16,11 @@ use Rattle.stamp_explain.specs.declared.timeline.Timeline.{Timeline}
 use Rattle.stamp_explain.specs.Observed.{ObservedHistory, IsObserved, HasReturned, IsReturnAt}
 use Rattle.stamp_explain.specs.Search.{AreInOrder, LockState, StateTransition}
 use Rattle.stamp_explain.specs.Configuration.{IsTried}
-use Rattle.stamp_explain.specs.Node.{IsNext, AreTaken, StandsFor}
+use Rattle.stamp_explain.specs.Node.{IsFirstLeft, AreTaken, StandsFor}
 use Rattle.stamp_explain.specs.Timeline.{IsTimeline, IsAwaitedAt, IsOpenAt, AreOpen}
 use Rattle.stamp_explain.specs.Node.{ClearsBit}
-use Rattle.stamp_explain.specs.Expand.{Hope, GoesOn, ComesNext, ComesNextBy, IsTakenTo}
-use Rattle.stamp_explain.specs.Expand.{IsNotInEffect}
+use Rattle.stamp_explain.specs.Expand.{Hope, GoesOn, ComesByOneMove, ComesByMove, IsTakenTo}
+use Rattle.stamp_explain.specs.Expand.{IsSettled}
 use Rattle.stamp_explain.specs.Expand.{Suffice}
 use Rattle.stamp_explain.proofs.Finding.{ArePending, not_before_itself}
 use Rattle.stamp_explain.proofs.Completing.{IsAwaited}
@@ -43,7 +43,7 @@ pub awaited_at : (h : ObservedHistory) (timeline : Timeline) (node : Node) (a : 
 awaited_at h timeline node a is = record { inside = is.inside; is_entry = is.at }
 
 pub the_next : (h : ObservedHistory) (timeline : Timeline) (node : Node) (a : Observation) → Awaits h timeline node a →
-    IsNext h.entries (take node.past timeline.returns.items) (get_or timeline.returns.items node.past 0) a
+    IsFirstLeft h.entries (take node.past timeline.returns.items) (get_or timeline.returns.items node.past 0) a
 the_next h timeline node a is = next_awaited h timeline.returns.items node.past a is.observed is.timeline_is.are
     is.timeline_is.once
     is.inside is.at
@@ -85,9 +85,9 @@ pub leads_by_call : (h : ObservedHistory) (asked : Option ℕ) (timeline : Timel
     bit_at node.threads a.thread ≢ 1 → StandsFor h timeline.returns.items node s taken →
     (to : IsTakenTo h timeline.returns.items node a i s taken w) → IsTried h asked timeline.returns.items a s taken
     to.effect →
-    ComesNextBy h asked timeline.returns.items node w.node s taken w.took
+    ComesByMove h asked timeline.returns.items node w.node s taken w.took
 leads_by_call h asked timeline node a i s taken w is bit stands to tried =
-    subst (λ (o : Option ℕ). ComesNextBy h asked timeline.returns.items node w.node s taken o) (sym to.took) (record {
+    subst (λ (o : Option ℕ). ComesByMove h asked timeline.returns.items node w.node s taken o) (sym to.took) (record {
       past = to.past;
       awaited = a;
       is_awaited = is.at;
@@ -144,7 +144,7 @@ pub awaited_in_effect : (h : ObservedHistory) (timeline : Timeline) (node : Node
     (taken : List ℕ) → Awaits h timeline node a → bit_at node.threads a.thread ≡ 1 →
     StandsFor h timeline.returns.items node s taken → Contains taken (get_or timeline.returns.items node.past 0)
 awaited_in_effect h timeline node a s taken is bit stands =
-    stands.in_effect.each_next (get_or timeline.returns.items node.past 0) a (the_next h timeline node a is) bit
+    stands.in_effect.each_first (get_or timeline.returns.items node.past 0) a (the_next h timeline node a is) bit
 
 pub stands_past : (h : ObservedHistory) (timeline : Timeline) (node : Node) (a : Observation) (threads : ℕ) (s :
     LockState)
@@ -164,7 +164,7 @@ stands_past h timeline node a threads s taken is bit clears stands = record {
 -- where the call is in effect, its return is past
 pub leads_past : (h : ObservedHistory) (asked : Option ℕ) (timeline : Timeline) (node : Node) (a : Observation)
     (threads : ℕ) → Awaits h timeline node a → bit_at node.threads a.thread ≡ 1 →
-    ClearsBit node.threads threads a.thread → ComesNext h asked timeline.returns.items node (past_of node threads)
+    ClearsBit node.threads threads a.thread → ComesByOneMove h asked timeline.returns.items node (past_of node threads)
 leads_past h asked timeline node a threads is bit clears = record {
   inside = is.inside;
   leads = λ s taken stands. record {
@@ -314,7 +314,7 @@ pub record AwaitsOne (h : ObservedHistory) (timeline : Timeline) (node : Node) :
   pub bit : bit_at node.threads entry.thread ≢ 1
 
 pub awaits_one : (h : ObservedHistory) (timeline : Timeline) (node : Node) → IsObserved h → IsTimeline h timeline →
-    node.past < length timeline.returns.items → IsNotInEffect h timeline.returns.items node → AwaitsOne h timeline node
+    node.past < length timeline.returns.items → IsSettled h timeline.returns.items node → AwaitsOne h timeline node
 awaits_one h timeline node observed is inside awaited =
     let there : IsReturnAt h.entries (get_or timeline.returns.items node.past 0) = is.are.each node.past 0 inside in
     let awaits : Awaits h timeline node there.entry = record {

@@ -23,16 +23,17 @@ use Rattle.stamp_explain.specs.declared.node.CallTransition.{CallTransition}
 use Rattle.stamp_explain.specs.declared.asking.Asking.{Asking}
 use Rattle.stamp_explain.specs.Observed.{ObservedHistory, IsObserved, IsBefore, AllowsReply, AreOfOneObject}
 use Rattle.stamp_explain.specs.Observed.{IsReturnAt}
-use Rattle.stamp_explain.specs.Unchanging.{is_open_question_at, open_question_in, is_unchanging_at, unchanging_in}
+use Rattle.stamp_explain.specs.Unchanging.{is_question_under_way_at, question_under_way_in, is_unchanging_at}
+use Rattle.stamp_explain.specs.Unchanging.{unchanging_in}
 use Rattle.stamp_explain.specs.Search.{LockState, StateTransition, after_call}
-use Rattle.stamp_explain.specs.Node.{IsReached, IsStateBy, HasGone}
+use Rattle.stamp_explain.specs.Node.{IsReached, IsStateBy, IsTransitionOf}
 use Rattle.stamp_explain.specs.Timeline.{AreOpen, IsAwaitedAt}
-use Rattle.stamp_explain.specs.Expand.{Suffice, Took, IsNotInEffect, IsTakenTo}
+use Rattle.stamp_explain.specs.Expand.{Suffice, IsTakeOf, IsSettled, IsTakenTo}
 use Rattle.stamp_explain.specs.Expand.{IsChoiceOf, IsNoChoice, PassesTo}
 use Rattle.stamp_explain.specs.Expand.IsNoChoice.{of_other, questions, comes_later, stays}
 use Rattle.stamp_explain.specs.Possible.{without_return, returned_with}
-use Rattle.stamp_explain.specs.Asking.{Adds, AreAsked, ComeAfterBeside, AreMore, Gets}
-use Rattle.stamp_explain.specs.Asking.{IsSeenWith, IsAsking, IsReachedBeside, ComesAfterBeside, NoneIsAtOnceBeside}
+use Rattle.stamp_explain.specs.Asking.{Adds, AreAsked, ComeNextBeside, AreMore, Gets}
+use Rattle.stamp_explain.specs.Asking.{IsSeenWith, IsAsking, IsReachedBeside, ComesNextBeside, NoneIsAtOnceBeside}
 use Rattle.stamp_explain.specs.Asking.{SufficeBeside}
 use Rattle.stamp_explain.specs.Ahead.{GivesWay}
 use Rattle.stamp_explain.proofs.Lists.{each_push, none_in_empty}
@@ -149,7 +150,7 @@ awaits_too asking reply h node a asks is awaits =
 pub took_other : (asking : Asking) (node : Node) (i : ℕ) (w : Next) (a : Observation) →
     Awaits asking.seen asking.timeline node a → IsReached asking.seen (Some asking.index)
     asking.timeline.returns.items node →
-    Took asking.seen asking.timeline.returns.items node i (Some w) → i ≢ asking.index → w.took ≢ Some asking.index
+    IsTakeOf asking.seen asking.timeline.returns.items node i (Some w) → i ≢ asking.index → w.took ≢ Some asking.index
 took_other asking node i w a awaits reached took other same =
     let to : IsTakenTo asking.seen asking.timeline.returns.items node a i reached.state reached.taken w =
     took.takes a reached.state reached.taken (awaited_at asking.seen asking.timeline node a awaits) reached.stands in
@@ -159,7 +160,7 @@ took_other asking node i w a awaits reached took other same =
 pub record Settles (asking : Asking) (w next : Next) : Type 0 where
   pub passes : PassesTo asking.seen asking.timeline.returns.items w.node next.node
   pub took : next.took ≡ w.took
-  pub settled : IsNotInEffect asking.seen asking.timeline.returns.items next.node
+  pub settled : IsSettled asking.seen asking.timeline.returns.items next.node
 
 pub at_once_leads : (asking : Asking) (node : Node) (a : Observation) (calls : List ℕ) (k : ℕ) (w next : Next) →
     Awaits asking.seen asking.timeline node a →
@@ -167,8 +168,8 @@ pub at_once_leads : (asking : Asking) (node : Node) (a : Observation) (calls : L
     bit_at node.threads a.thread ≢ 1 → AreOpen asking.seen asking.timeline.returns.items node.past calls →
     NoneOfFirst asking.seen (Some asking.index) asking.timeline.returns.items node calls k → k < length calls →
     is_unchanging_at asking.seen.entries (get_or calls k 0) ≡ true →
-    Took asking.seen asking.timeline.returns.items node (get_or calls k 0) (Some w) →
-    get_or calls k 0 ≢ asking.index → Settles asking w next → ComesAfterBeside asking node next
+    IsTakeOf asking.seen asking.timeline.returns.items node (get_or calls k 0) (Some w) →
+    get_or calls k 0 ≢ asking.index → Settles asking w next → ComesNextBeside asking node next
 at_once_leads asking node a calls k w next awaits reached bit are before inside still took other settles = record {
   leads = follows_of asking.seen (Some asking.index) asking.timeline.returns.items node w next
       (leads_at_once asking.seen (Some asking.index) asking.timeline node a calls k w awaits bit are before inside
@@ -179,7 +180,7 @@ at_once_leads asking node a calls k w next awaits reached bit are before inside 
 
 pub at_once_suffices : (asking : Asking) (node : Node) (a : Observation) (i : ℕ) (w next : Next) → IsAsking asking →
     Awaits asking.seen asking.timeline node a → (e : Observation) → slice_get asking.seen.entries i ≡ Some e →
-    is_unchanging_at asking.seen.entries i ≡ true → Took asking.seen asking.timeline.returns.items node i (Some w) →
+    is_unchanging_at asking.seen.entries i ≡ true → IsTakeOf asking.seen asking.timeline.returns.items node i (Some w) →
     i ≢ asking.index → Settles asking w next → SufficeBeside asking node (next ∷ [])
 at_once_suffices asking node a i w next asks awaits e at still took other settles reply h is =
     let alike : AreAlike asking.seen h asking.index = alike_of asking reply h is in
@@ -202,9 +203,9 @@ awaited_inside asking node i asks inside read =
 
 -- of the last k of these calls, those beside the one asked were tried
 pub record TriesBeside (asking : Asking) (node : Node) (calls : List ℕ) (k : ℕ) (nexts : List Next) : Type 0 where
-  pub led : ComeAfterBeside asking node nexts
+  pub led : ComeNextBeside asking node nexts
   pub tries : (reply : Reply) (h : ObservedHistory) → IsSeenWith asking reply h →
-      Took h asking.timeline.returns.items node asking.index None →
+      IsTakeOf h asking.timeline.returns.items node asking.index None →
       Tries h (Some asking.index) asking.timeline.returns.items node calls k nexts
 
 pub beside_first : (asking : Asking) (node : Node) (calls : List ℕ) → TriesBeside asking node calls 0 []
@@ -220,13 +221,13 @@ beside_asked asking node calls k nexts is more here = record {
   led = is.led;
   tries = λ reply h answered none. tried_none h (Some asking.index) asking.timeline.returns.items node calls k nexts
       (is.tries reply h answered none) more
-      (subst (λ (i : ℕ). Took h asking.timeline.returns.items node i None) (sym here) none);
+      (subst (λ (i : ℕ). IsTakeOf h asking.timeline.returns.items node i None) (sym here) none);
 }
 
 pub beside_none : (asking : Asking) (node : Node) (calls : List ℕ) (k : ℕ) (nexts : List Next) →
     TriesBeside asking node calls k nexts → k < length calls →
     get_or calls (length calls - 1 - k) 0 ≢ asking.index →
-    Took asking.seen asking.timeline.returns.items node (get_or calls (length calls - 1 - k) 0) None →
+    IsTakeOf asking.seen asking.timeline.returns.items node (get_or calls (length calls - 1 - k) 0) None →
     TriesBeside asking node calls (k + 1) nexts
 beside_none asking node calls k nexts is more other took = record {
   led = is.led;
@@ -313,12 +314,12 @@ beside_other asking node calls k nexts is more other = record {
 beside_question : (asking : Asking) (node : Node) (calls : List ℕ) (k : ℕ) (nexts : List Next) →
     TriesBeside asking node calls k nexts → k < length calls →
     get_or calls (length calls - 1 - k) 0 ≢ asking.index →
-    is_open_question_at asking.seen.entries (get_or calls (length calls - 1 - k) 0) ≡ true →
+    is_question_under_way_at asking.seen.entries (get_or calls (length calls - 1 - k) 0) ≡ true →
     TriesBeside asking node calls (k + 1) nexts
 beside_question asking node calls k nexts is more other question = record {
   led = is.led;
   tries = λ reply h answered none. tried_question h (Some asking.index) asking.timeline.returns.items node calls k
-      nexts (is.tries reply h answered none) more (λ e at. ap open_question_in (sym
+      nexts (is.tries reply h answered none) more (λ e at. ap question_under_way_in (sym
       (other_there h asking.seen asking.index
       (get_or calls (length calls - 1 - k) 0) e
       (turned asking.seen h asking.index (alike_of asking reply h answered)) other at)) ∙ question);
@@ -355,7 +356,7 @@ beside_some asking node a calls k nexts w next awaits reached bit none_at_once a
     settles =
     record {
       led = record {
-        each = each_push (ComesAfterBeside asking node) nexts next is.led.each (record {
+        each = each_push (ComesNextBeside asking node) nexts next is.led.each (record {
           leads = follows_of asking.seen (Some asking.index) asking.timeline.returns.items node w next
               (choice_leads asking.seen (Some asking.index) asking.timeline node a calls
               (get_or calls (length calls - 1 - k) 0) w awaits bit none_at_once are awaited at choice) settles.passes
@@ -374,7 +375,7 @@ beside_some asking node a calls k nexts w next awaits reached bit none_at_once a
 
 pub suffice_beside : (asking : Asking) (node : Node) (calls : List ℕ) (k : ℕ) (nexts : List Next) (reply : Reply)
     (h : ObservedHistory) → IsAsking asking → node.past < length asking.timeline.returns.items →
-    IsNotInEffect asking.seen asking.timeline.returns.items node →
+    IsSettled asking.seen asking.timeline.returns.items node →
     AreOpen h asking.timeline.returns.items node.past calls → length calls ≤ k → IsSeenWith asking reply h →
     Tries h (Some asking.index) asking.timeline.returns.items node calls k nexts →
     Suffice h asking.timeline.returns.items node nexts
@@ -413,7 +414,7 @@ asked_entry asking reply h f is at = same_Some f y (sym at ∙
 pub not_begun : (asking : Asking) (node : Node) (a e : Observation) (reply : Reply) (h : ObservedHistory) →
     IsAsking asking → IsSeenWith asking reply h → Awaits asking.seen asking.timeline node a →
     slice_get asking.seen.entries asking.index ≡ Some e → IsBefore a e →
-    Took h asking.timeline.returns.items node asking.index None
+    IsTakeOf h asking.timeline.returns.items node asking.index None
 not_begun asking node a e reply h asks is awaits at before = record {
   takes = λ b s taken awaited stands x u may same.
       let alike : AreAlike asking.seen h asking.index = alike_of asking reply h is in
@@ -433,12 +434,12 @@ not_begun asking node a e reply h asks is awaits at before = record {
 abbrev pub WentBefore : Asking → Node → Option CallTransition → Type 0
 WentBefore asking node found = (e : Observation) (s : LockState) →
     slice_get asking.unreturned.entries asking.index ≡ Some e → IsStateBy asking.unreturned node.bits node.put s →
-    HasGone asking.unreturned asking.index e node.put s found
+    IsTransitionOf asking.unreturned asking.index e node.put s found
 
 -- it gets no other reply
 pub asked_takes : (asking : Asking) (node : Node) (found : Option CallTransition) (reply : Reply)
     (h : ObservedHistory) → IsAsking asking → IsSeenWith asking reply h → WentBefore asking node found →
-    ((did : CallTransition) → found ≡ Some did → did.reply ≢ reply) → Took h asking.timeline.returns.items node
+    ((did : CallTransition) → found ≡ Some did → did.reply ≢ reply) → IsTakeOf h asking.timeline.returns.items node
     asking.index None
 asked_takes asking node found reply h asks is went others = record {
   takes = λ b s taken awaited stands x u may same.
@@ -456,8 +457,8 @@ asked_takes asking node found reply h asks is went others = record {
       subst (λ (o : Observation). StateTransition asking.seen.limits s (o.call, x.reply) u) is_x
       (subst (λ (l : Bounds). StateTransition l s (x.entry.call, x.reply) u) alike.limits may.goes) in
       by found refl s u x.reply replied steps
-      (subst (λ (g : ObservedHistory). HasGone g asking.index y node.put s found) unreturned (went y s here (subst (λ
-      (g : ObservedHistory).
+      (subst (λ (g : ObservedHistory). IsTransitionOf g asking.index y node.put s found) unreturned (went y s here
+      (subst (λ (g : ObservedHistory).
       IsStateBy g node.bits node.put s) (sym unreturned) at)));
 }
   where
@@ -481,7 +482,7 @@ asked_takes asking node found reply h asks is went others = record {
 
     by : (o : Option CallTransition) → found ≡ o → (s u : LockState) (r : Reply) → reply ≡ r →
         StateTransition asking.seen.limits s (is.at.entry.call, r) u →
-        HasGone (without_return asking.index is.at.entry asking.seen) asking.index y node.put s o → ⊥
+        IsTransitionOf (without_return asking.index is.at.entry asking.seen) asking.index y node.put s o → ⊥
     by None at s u r replied steps gone = gone r u tt steps
     by (Some did) at s u r replied steps gone = others did at
         (one_reply asking.seen.limits s.0 s.1 is.at.entry.call did.reply r gone.goes.replies steps.replies ∙
@@ -528,7 +529,7 @@ asked_gets asking node did a asks is awaits begun went = record {
       begun = begun asks.at.entry asks.at.is_entry;
     };
     next = after_call asking.seen.limits is.reached.state (asks.at.entry.call, did.reply);
-    goes = (subst (λ (g : ObservedHistory). HasGone g asking.index y node.put is.reached.state (Some did))
+    goes = (subst (λ (g : ObservedHistory). IsTransitionOf g asking.index y node.put is.reached.state (Some did))
         asks.unreturned
         (went y is.reached.state here (subst (λ (g : ObservedHistory). IsStateBy g node.bits node.put
         is.reached.state)

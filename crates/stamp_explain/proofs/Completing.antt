@@ -9,7 +9,7 @@ use Rattle.stamp_core.specs.declared.call.Call.{Call}
 use Rattle.stamp_core.specs.declared.reply.Reply.{Reply}
 use Rattle.stamp_explain.specs.declared.observed.Observation.{Observation}
 use Rattle.stamp_explain.specs.Observed.{IsBefore}
-use Rattle.stamp_explain.specs.Explained.{Effect, IsEffectOf, history_of, indices_of, AreApart, RespectsBefore}
+use Rattle.stamp_explain.specs.Explained.{Effect, IsEffectOf, history_of, indices_of, AreOfTwoEntries, RespectsBefore}
 use Rattle.stamp_explain.specs.Search.{Runs, IsCompletedBy, IsFirstReturn, MayTake}
 use Rattle.stamp_explain.proofs.Lists.{none_in_empty, contains_cases, contains_first, contains_rest, pairs_head}
 use Rattle.stamp_explain.proofs.Lists.{pairs_tail, pairs_cons, pairs_none}
@@ -19,7 +19,7 @@ pub completed_by_none : {S : Type 0} (Goes : S → Call × Reply → S →
     Type 0) (entries : List Observation) (s : S) (taken : List ℕ) → IsCompletedBy Goes entries [] s taken []
 completed_by_none Goes entries s taken = record {
   effects = All-nil (IsEffectOf entries);
-  once = pairs_none AreApart;
+  once = pairs_none AreOfTwoEntries;
   fresh = All-nil (λ (x : Effect). ¬ Contains taken x.index);
   returned = All-nil (λ (i : ℕ). Contains taken i ⊎ Contains (indices_of []) i);
   ordered = pairs_none RespectsBefore;
@@ -96,12 +96,12 @@ behind_pairs P R x (at_first {xs}) all = pairs_tail R x xs all
 behind_pairs P R x (behind {y} {xs} {ys} p b) all = pairs_cons R y ys
     (behind_all P (R y) x b (pairs_head R y xs all)).1 (behind_pairs P R x b (pairs_tail R y xs all))
 
-behind_apart : (P : Effect → Type 0) (x : Effect) {xs ys : List Effect} → IsBehind P x xs ys → AllPairs AreApart xs →
-    All (AreApart x) ys
-behind_apart P x (at_first {xs}) all = pairs_head AreApart x xs all
-behind_apart P x (behind {y} {xs} {ys} p b) all = All-cons (AreApart x) y ys
-    (λ e. (behind_all P (AreApart y) x b (pairs_head AreApart y xs all)).0 (sym e))
-    (behind_apart P x b (pairs_tail AreApart y xs all))
+behind_apart : (P : Effect → Type 0) (x : Effect) {xs ys : List Effect} → IsBehind P x xs ys →
+    AllPairs AreOfTwoEntries xs → All (AreOfTwoEntries x) ys
+behind_apart P x (at_first {xs}) all = pairs_head AreOfTwoEntries x xs all
+behind_apart P x (behind {y} {xs} {ys} p b) all = All-cons (AreOfTwoEntries x) y ys
+    (λ e. (behind_all P (AreOfTwoEntries y) x b (pairs_head AreOfTwoEntries y xs all)).0 (sym e))
+    (behind_apart P x b (pairs_tail AreOfTwoEntries y xs all))
 
 behind_index : (P : Effect → Type 0) (x : Effect) (j : ℕ) {xs ys : List Effect} → IsBehind P x xs ys →
     Contains (indices_of xs) j → (x.index ≡ j) ⊎ Contains (indices_of ys) j
@@ -201,7 +201,7 @@ takes_next Goes entries i a returns s t taken P x {rest} {others} awaited not_ye
     left : IsCompletedBy Goes entries (i ∷ returns) t (x.index ∷ taken) others
     left = record {
       effects = effects.1;
-      once = behind_pairs P AreApart x b by.once;
+      once = behind_pairs P AreOfTwoEntries x b by.once;
       fresh = λ k d lt. still_fresh (get_or others k d) (behind_apart P x b by.once k d lt) (fresh.1 k d lt);
       returned = All-weaker (λ (j : ℕ). Contains taken j ⊎ Contains (indices_of rest) j)
           (λ (j : ℕ). Contains (x.index ∷ taken) j ⊎ Contains (indices_of others) j) moved (i ∷ returns) by.returned;
@@ -239,7 +239,7 @@ pub puts_first : {S : Type 0} (Goes : S → Call × Reply → S →
     IsCompletedBy Goes entries returns t (x.index ∷ taken) rest → IsCompletedBy Goes entries returns s taken (x ∷ rest)
 puts_first {S} Goes entries a returns s t taken x rest first may by = record {
   effects = All-cons (IsEffectOf entries) x rest may.effect by.effects;
-  once = pairs_cons AreApart x rest (λ k d lt. apart (get_or rest k d) (by.fresh k d lt)) by.once;
+  once = pairs_cons AreOfTwoEntries x rest (λ k d lt. apart (get_or rest k d) (by.fresh k d lt)) by.once;
   fresh = All-cons (λ (y : Effect). ¬ Contains taken y.index) x rest may.fresh
       (λ k d lt. fresh (get_or rest k d) (by.fresh k d lt));
   returned = All-weaker (λ (j : ℕ). Contains (x.index ∷ taken) j ⊎ Contains (indices_of rest) j)

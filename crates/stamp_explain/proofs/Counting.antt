@@ -10,7 +10,7 @@ use Rattle.std.proofs.lemmas.List.{length-drop}
 use Rattle.stamp_explain.specs.declared.node.Node.{Node}
 use Rattle.stamp_explain.specs.Observed.{ObservedHistory}
 use Rattle.stamp_explain.specs.Configuration.{Configuration, AreOne}
-use Rattle.stamp_explain.specs.Node.{HasNext, StandsFor, IsReached}
+use Rattle.stamp_explain.specs.Node.{HasFirstLeft, StandsFor, IsReached}
 use Rattle.stamp_explain.proofs.Lists.{contains_first, contains_rest}
 use Rattle.stamp_explain.proofs.Standing.{taken_by_bit}
 
@@ -52,8 +52,8 @@ bit_as_well : (h : ObservedHistory) (asked : Option ℕ) (returns : List ℕ) (v
     ((i : ℕ) → Contains c.taken i → Contains d.taken i) → (t : ℕ) → bit_at v.threads t ≡ 1 →
     bit_at w.threads t ≡ 1
 bit_as_well h asked returns v w c d one other past has t bit =
-    let next : HasNext h.entries (take v.past returns) t = one.stands.in_effect.has_next t bit in
-    let in_effect : Contains c.taken next.index = one.stands.in_effect.each_next next.index next.entry next.is
+    let next : HasFirstLeft h.entries (take v.past returns) t = one.stands.in_effect.has_first t bit in
+    let in_effect : Contains c.taken next.index = one.stands.in_effect.each_first next.index next.entry next.is
     (ap (λ (k : ℕ). bit_at v.threads k) next.same ∙ bit) in
     let still : ¬ Contains (take w.past returns) next.index =
     subst (λ (n : ℕ). ¬ Contains (take n returns) next.index) past next.is.still in

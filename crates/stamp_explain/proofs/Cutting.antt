@@ -13,7 +13,7 @@ use Rattle.stamp_core.specs.declared.reply.Reply.{Reply}
 use Rattle.stamp_explain.specs.declared.observed.Observation.{Observation}
 use Rattle.stamp_explain.specs.declared.observed.Returned.{Returned}
 use Rattle.stamp_explain.specs.Observed.{ObservedHistory, IsBefore, AllowsReply}
-use Rattle.stamp_explain.specs.Explained.{Effect, IsEffectOf, history_of, indices_of, AreApart, RespectsBefore}
+use Rattle.stamp_explain.specs.Explained.{Effect, IsEffectOf, history_of, indices_of, AreOfTwoEntries, RespectsBefore}
 use Rattle.stamp_explain.specs.Explained.{IsExplainedBy, IsExplained}
 use Rattle.stamp_explain.specs.Cut.{returned_by, cut_entries, cut, IsStuck}
 use Rattle.stamp_explain.specs.ExplainLaws.{CutsStayExplained, ExplainedIsNotStuck, OneStuck}
@@ -106,7 +106,8 @@ less_known h ks all explained = record {
   order = map (relaxed ks) order;
   by = record {
     effects = All-map (IsEffectOf ks) (relaxed ks) order (λ k d lt. effect (get_or order k d) (by.effects k d lt));
-    once = pairs_map AreApart AreApart (AreRelaxed ks) (relaxed ks) order (λ x y _ _ apart. apart) each by.once;
+    once = pairs_map AreOfTwoEntries AreOfTwoEntries (AreRelaxed ks) (relaxed ks) order (λ x y _ _ apart. apart) each
+        by.once;
     returned = λ i k at returned.
         let was : (e : Observation) × ((slice_get h.entries i ≡ Some e) × IsLessKnown e k) =
         zip_back IsLessKnown h.entries ks i k all at in

@@ -16,9 +16,9 @@ use Rattle.stamp_explain.specs.Search.{first_state}
 use Rattle.stamp_explain.specs.Configuration.{Configuration, GoesOnFrom, IsBeginning, MovesFromOne}
 use Rattle.stamp_explain.specs.Node.{IsFirstNode}
 use Rattle.stamp_explain.specs.Store.{Keeps, BeginsWith}
-use Rattle.stamp_explain.specs.Expand.{Hope, GoesOn, ComesAfter, Expands}
+use Rattle.stamp_explain.specs.Expand.{Hope, GoesOn, ComesNext, Expands}
 use Rattle.stamp_explain.specs.Expand.{AreLinked, waiting_from}
-use Rattle.stamp_explain.proofs.AddingUnseen.{read_left, read_right}
+use Rattle.stamp_explain.proofs.AddingNew.{read_left, read_right}
 use Rattle.stamp_explain.proofs.Counting.{IsFor}
 use Rattle.stamp_explain.proofs.Exploring.{opening_stands, opening_way}
 use Rattle.stamp_explain.proofs.GoingOn.{read_both, at_contains, same_goes_on}
@@ -35,7 +35,7 @@ pub record AreFor (h : ObservedHistory) (returns : List ℕ) (nodes : List Node)
 pub record IsLedFrom (h : ObservedHistory) (returns : List ℕ) (nodes : List Node) (w : Waiting) : Type 0 where
   pub node : Node
   pub is_node : slice_get nodes w.origin.from ≡ Some node
-  pub leads : ComesAfter h None returns node (record { node = w.node; took = w.origin.took })
+  pub leads : ComesNext h None returns node (record { node = w.node; took = w.origin.took })
 
 -- from this height on something waits that can be completed in fewer moves
 pub record WaitsAbove (h : ObservedHistory) (returns : List ℕ) (waiting : List Waiting) (height n : ℕ) : Type 0 where
@@ -257,9 +257,9 @@ deepens_expanded h returns store waiting expanded nexts is inside expands = reco
         record {
           node = is.last;
           is_node = ap (λ (n : ℕ). slice_get store.nodes.items n) from.1.1.1.0 ∙ is.is_last;
-          leads = subst (λ (u : Node). ComesAfter h None returns is.last (record { node = u; took = w.origin.took }))
+          leads = subst (λ (u : Node). ComesNext h None returns is.last (record { node = u; took = w.origin.took }))
               (sym from.1.1.0)
-              (subst (λ (o : Option ℕ). ComesAfter h None returns is.last (record { node = from.0.node; took = o }))
+              (subst (λ (o : Option ℕ). ComesNext h None returns is.last (record { node = from.0.node; took = o }))
               (sym from.1.1.1.1) (expands.each from.0 from.1.0));
         }
 

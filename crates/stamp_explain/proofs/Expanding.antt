@@ -25,7 +25,7 @@ use Rattle.stamp_explain.specs.declared.node.CallTransition.{CallTransition}
 use Rattle.stamp_explain.specs.Observed.{ObservedHistory, IsObserved, IsBefore, IsInterval, DoNotOverlap}
 use Rattle.stamp_explain.specs.Explained.{Effect}
 use Rattle.stamp_explain.specs.Search.{LockState, StateTransition, MayTake, AreReturns, after_call}
-use Rattle.stamp_explain.specs.Node.{IsNext, AreTaken, StandsFor, Does, HasGone}
+use Rattle.stamp_explain.specs.Node.{IsFirstLeft, AreTaken, StandsFor, Does, IsTransitionOf}
 use Rattle.stamp_explain.specs.Timeline.{IsOpenAt, IsAwaitedAt}
 use Rattle.stamp_explain.specs.Node.{SetsBit}
 use Rattle.stamp_explain.specs.Expand.{Takes}
@@ -108,7 +108,7 @@ open_may h returns past threads a s u taken x at in_effect may = record {
 -- and one that is open is the next of its thread
 pub next_open : (h : ObservedHistory) (returns : List ℕ) (past : ℕ) (a : Observation) (i : ℕ) → IsObserved h →
     AreReturns h.entries returns → past < length returns → slice_get h.entries (get_or returns past 0) ≡ Some a →
-    (it : IsOpenAt h returns past i) → IsNext h.entries (take past returns) i it.entry
+    (it : IsOpenAt h returns past i) → IsFirstLeft h.entries (take past returns) i it.entry
 next_open h returns past a i observed are lt at it = record {
   is_entry = it.is_entry;
   still = it.still;
@@ -125,7 +125,7 @@ next_open h returns past a i observed are lt at it = record {
 -- and so is the awaited one
 pub next_awaited : (h : ObservedHistory) (returns : List ℕ) (past : ℕ) (a : Observation) → IsObserved h →
     AreReturns h.entries returns → AllPairs (λ (i j : ℕ). i ≢ j) returns → past < length returns →
-    slice_get h.entries (get_or returns past 0) ≡ Some a → IsNext h.entries (take past returns)
+    slice_get h.entries (get_or returns past 0) ≡ Some a → IsFirstLeft h.entries (take past returns)
     (get_or returns past 0) a
 next_awaited h returns past a observed are once lt at = record {
   is_entry = at;
@@ -199,7 +199,7 @@ trying observed are awaited stands it = record {
 }
 
 next_of : (h : ObservedHistory) (returns : List ℕ) (node : Node) (a : Observation) (i : ℕ) (s : LockState)
-    (taken : List ℕ) → (is : Trying h returns node a i s taken) → IsNext h.entries (take node.past returns) i
+    (taken : List ℕ) → (is : Trying h returns node a i s taken) → IsFirstLeft h.entries (take node.past returns) i
     is.it.entry
 next_of h returns node a i s taken is = next_open h returns node.past a i is.observed is.are is.inside is.at is.it
 
@@ -208,13 +208,13 @@ pub none_by_bit : (h : ObservedHistory) (returns : List ℕ) (node : Node) (a : 
     (s : LockState) (taken : List ℕ) → (is : Trying h returns node a i s taken) →
     bit_at node.threads is.it.entry.thread ≡ 1 → Takes h returns node a i s taken None
 none_by_bit h returns node a i s taken is bit x u may same =
-    may.fresh (subst (Contains taken) (sym same) (is.stands.in_effect.each_next i is.it.entry
+    may.fresh (subst (Contains taken) (sym same) (is.stands.in_effect.each_first i is.it.entry
     (next_of h returns node a i s taken is) bit))
 
 -- it gives another reply
 pub none_by_reply : (h : ObservedHistory) (returns : List ℕ) (node : Node) (a : Observation) (i : ℕ)
     (s : LockState) (taken : List ℕ) → Trying h returns node a i s taken →
-    ((e : Observation) → slice_get h.entries i ≡ Some e → HasGone h i e node.put s None) →
+    ((e : Observation) → slice_get h.entries i ≡ Some e → IsTransitionOf h i e node.put s None) →
     Takes h returns node a i s taken None
 none_by_reply h returns node a i s taken is gone x u may same =
     gone x.entry (ap (λ (k : ℕ). slice_get h.entries k) (sym same) ∙ may.effect.is_entry) x.reply u
@@ -224,7 +224,7 @@ none_by_reply h returns node a i s taken is gone x u may same =
 pub taken_to : (h : ObservedHistory) (returns : List ℕ) (node : Node) (a : Observation) (i : ℕ) (s : LockState)
     (taken : List ℕ) (threads : ℕ) (did : CallTransition) → (is : Trying h returns node a i s taken) →
     bit_at node.threads is.it.entry.thread ≢ 1 →
-    ((e : Observation) → slice_get h.entries i ≡ Some e → HasGone h i e node.put s (Some did)) →
+    ((e : Observation) → slice_get h.entries i ≡ Some e → IsTransitionOf h i e node.put s (Some did)) →
     SetsBit node.threads threads is.it.entry.thread → Takes h returns node a i s taken
     (Some (record {
       node = record { past = node.past; bits = did.bits; put = did.put; threads = threads };

@@ -29,7 +29,7 @@ use Rattle.stamp_explain.specs.Expand.{Hope, GoesOn, Suffice, AddsNew, IsIndexed
 use Rattle.stamp_explain.proofs.Lists.{none_in_empty, contains_cases, contains_first, contains_rest}
 use Rattle.stamp_explain.proofs.Finding.{runs_legal, legal_runs}
 use Rattle.stamp_explain.proofs.Searching.{Waits, Follows, LosesNothing, node_kept, none_left}
-use Rattle.stamp_explain.proofs.AddingUnseen.{read_left}
+use Rattle.stamp_explain.proofs.AddingNew.{read_left}
 
 -- what an order of the whole history is to a search
 pub completed_from : (h : ObservedHistory) (returns : List ℕ) (rest : List Effect) → AreReturns h.entries returns →
@@ -85,8 +85,8 @@ opening_stands h returns node is = record {
       (subst (λ (n : ℕ). AreTaken h.entries (take 0 returns) n []) (sym is.threads) (record {
         only = λ i e at has. absurd (none_in_empty i has);
         all_past = λ i has. absurd (none_in_empty i has);
-        each_next = λ i e next bit. absurd (no_bit e.thread bit);
-        has_next = λ t bit. absurd (no_bit t bit);
+        each_first = λ i e next bit. absurd (no_bit e.thread bit);
+        has_first = λ t bit. absurd (no_bit t bit);
       }));
 }
   where
@@ -173,12 +173,12 @@ pub searches_first : (h : ObservedHistory) (returns : List ℕ) (old new : Store
     Searches h returns new waiting
 searches_first h returns old new waiting next empty is adds = record {
   loses = record {
-    kept = λ u n seen hope. record {
+    kept = λ u n visited hope. record {
       node = u;
       moves = n;
       waiting = subst (λ (ps : List ℕ). IsIndexed new.nodes.items ps u) (sym adds.to_do)
           (adds.indexed u (subst (λ (ns : List Node). Contains ns u)
-          (first_nodes old new waiting next empty adds) seen));
+          (first_nodes old new waiting next empty adds) visited));
       no_more = omega arith;
       hope = hope;
     };
@@ -239,9 +239,9 @@ pub searches_more : (h : ObservedHistory) (returns : List ℕ) (old new : Store)
     AddsNew old new index popped after nexts → Searches h returns new after
 searches_more h returns old new before popped after nexts index v is split at suffice adds = record {
   loses = record {
-    kept = λ u n seen hope. turned (kept.kept u n
+    kept = λ u n visited hope. turned (kept.kept u n
         (Contains-append_cases old.nodes.items (nodes_of adds.added) u
-        (subst (λ (ns : List Node). Contains ns u) adds.nodes seen)) hope);
+        (subst (λ (ns : List Node). Contains ns u) adds.nodes visited)) hope);
   };
   first = is.first;
   is_first = is.is_first;
@@ -265,8 +265,8 @@ searches_more h returns old new before popped after nexts index v is split at su
     had : LosesNothing (Hope h returns) (Contains old.nodes.items) (λ (w : Node). (w ≡ v) ⊎
         IsIndexed old.nodes.items popped w)
     had = record {
-      kept = λ u n seen hope.
-          let w : Waits (Hope h returns) (IsIndexed old.nodes.items before) n = is.loses.kept u n seen hope in
+      kept = λ u n visited hope.
+          let w : Waits (Hope h returns) (IsIndexed old.nodes.items before) n = is.loses.kept u n visited hope in
           record {
             node = w.node;
             moves = w.moves;

@@ -10,19 +10,19 @@ use Rattle.std.proofs.lemmas.Bool.{false≢true, cases_order}
 use Rattle.stamp_explain.specs.declared.observed.Observation.{Observation}
 use Rattle.stamp_explain.specs.declared.observed.Returned.{Returned}
 use Rattle.stamp_explain.specs.declared.found.SearchEnd.{SearchEnd}
-use Rattle.stamp_explain.specs.declared.found.SearchEnd.TheVariants.{Linearization, Nothing, Undecided}
+use Rattle.stamp_explain.specs.declared.found.SearchEnd.TheVariants.{Linearization, Nothing, GaveUp}
 use Rattle.stamp_explain.specs.Observed.{ObservedHistory, IsObserved, HasReturned, IsReturnAt}
-use Rattle.stamp_explain.specs.Explained.{IsEffectOf, AreApart, RespectsBefore, IsExplained, IsExplainedBy}
+use Rattle.stamp_explain.specs.Explained.{IsEffectOf, AreOfTwoEntries, RespectsBefore, IsExplained, IsExplainedBy}
 use Rattle.stamp_explain.specs.Cut.{cut_entry, cut_entries, returned_by, cut, seen_at, IsStuck}
-use Rattle.stamp_explain.specs.TimelineKeys.{IsSooner, AreEnds, EndsAt}
-use Rattle.stamp_explain.specs.Configuration.{IsGivenUp}
+use Rattle.stamp_explain.specs.TimelineKeys.{IsSooner, AreReturnKeys, ReturnsAt}
+use Rattle.stamp_explain.specs.Configuration.{GivesUpApart}
 use Rattle.stamp_explain.specs.Linearization.{IsLinearizationOf}
 use Rattle.stamp_explain.specs.Expand.{IsFoundApart}
 use Rattle.stamp_explain.specs.Answer.{IsUndecided, IsLastOrGivesUp, IsUnexplained, IsNotFound}
 use Rattle.stamp_explain.proofs.Lists.{pairs_none, none_in_empty}
 use Rattle.stamp_explain.proofs.Cutting.{IsLessKnown, cuts_stay_explained, less_known, zip_back}
 use Rattle.stamp_explain.proofs.Seeing.{seen_explains_as_much}
-use Rattle.stamp_explain.specs.declared.linearization.Taken.{Taken}
+use Rattle.stamp_explain.specs.declared.linearization.OrderedCall.{OrderedCall}
 
 -- a call known by one test, and known so far by another
 returned_then : (l b i : ℕ) (e : Observation) (r : Returned) → (cut_entry l b i e).returned ≡ Some r →
@@ -138,14 +138,14 @@ explained_by_none : (h : ObservedHistory) → ((i : ℕ) (e : Observation) → s
     ¬ HasReturned e) → IsExplainedBy h []
 explained_by_none h none = record {
   effects = All-nil (IsEffectOf h.entries);
-  once = pairs_none AreApart;
+  once = pairs_none AreOfTwoEntries;
   returned = λ i e at has. absurd (none i e at has);
   ordered = pairs_none RespectsBefore;
   legal = tt;
 }
 
 -- where no call returned
-pub order_of_none : (h : ObservedHistory) (ends : List (ℕ × ℕ)) → AreEnds h.entries ends → length ends ≡ 0 →
+pub order_of_none : (h : ObservedHistory) (ends : List (ℕ × ℕ)) → AreReturnKeys h.entries ends → length ends ≡ 0 →
     IsLinearizationOf h []
 order_of_none h ends are none = record {
   order = [];
@@ -237,7 +237,7 @@ to_zero : (l b k : ℕ) (r : Returned) → returned_by l b k (Some r) ≡ true �
 to_zero l b k r is = subst (λ (n : ℕ). returned_by l b n (Some r) ≡ true) (omega arith) is
 
 -- until the first return nothing is known
-explained_at_first : (h : ObservedHistory) (ends : List (ℕ × ℕ)) (p : ℕ × ℕ) → AreEnds h.entries ends →
+explained_at_first : (h : ObservedHistory) (ends : List (ℕ × ℕ)) (p : ℕ × ℕ) → AreReturnKeys h.entries ends →
     slice_get ends 0 ≡ Some p → IsExplained (cut p.0 p.1 h)
 unfolding Knows
 explained_at_first h ends p are at = less_known (cut 0 0 h) (cut_entries p.0 p.1 0 h.entries)
@@ -263,7 +263,7 @@ explained_at_first h ends p are at = less_known (cut 0 0 h) (cut_entries p.0 p.1
                 (later_at ends n 0 p (r.last, k) are.in_order at lt same more)
 
 -- what is known before a return was known after the one before it
-explained_at_next : (h : ObservedHistory) (ends : List (ℕ × ℕ)) (m : ℕ) (p q : ℕ × ℕ) → AreEnds h.entries ends →
+explained_at_next : (h : ObservedHistory) (ends : List (ℕ × ℕ)) (m : ℕ) (p q : ℕ × ℕ) → AreReturnKeys h.entries ends →
     slice_get ends m ≡ Some p → slice_get ends (m + 1) ≡ Some q → IsExplained (cut p.0 (p.1 + 1) h) →
     IsExplained (cut q.0 q.1 h)
 unfolding Knows
@@ -290,7 +290,7 @@ explained_at_next h ends m p q are at next explained = less_known (cut p.0 (p.1 
                 (later_at ends n (m + 1) q (r.last, k) are.in_order next lt same more))
 
 -- after the last return all is known
-known_at_last : (h : ObservedHistory) (ends : List (ℕ × ℕ)) (m : ℕ) (p : ℕ × ℕ) → AreEnds h.entries ends →
+known_at_last : (h : ObservedHistory) (ends : List (ℕ × ℕ)) (m : ℕ) (p : ℕ × ℕ) → AreReturnKeys h.entries ends →
     slice_get ends m ≡ Some p → length ends ≤ m + 1 → cut p.0 (p.1 + 1) h ≡ h
 unfolding KnowsAll
 known_at_last h ends m p are at last = ap (λ (es : List Observation). record h { entries = es })
@@ -307,7 +307,7 @@ known_at_last h ends m p are at last = ap (λ (es : List Observation). record h 
 -- no order was found after this return
 abbrev pub IsAbove : ObservedHistory → ℕ → ℕ × ℕ → Bool → Bool → Type 0
 IsAbove h most p unexplained true = ¬ IsExplained (cut p.0 (p.1 + 1) h)
-IsAbove h most p true false = IsGivenUp (seen_at p.0 (p.1 + 1) h) most
+IsAbove h most p true false = GivesUpApart (seen_at p.0 (p.1 + 1) h) most
 IsAbove h most p false false = IsLastOrGivesUp h most p.0 (p.1 + 1)
 
 contained : (ends : List (ℕ × ℕ)) (k : ℕ) (p : ℕ × ℕ) → slice_get ends k ≡ Some p → Contains ends p
@@ -325,7 +325,7 @@ pub record IsBetween (h : ObservedHistory) (most : ℕ) (unexplained : Bool) (en
     pub whole : IsNotFound h most unexplained
 
 pub between_at_first : (h : ObservedHistory) (most : ℕ) (ends : List (ℕ × ℕ)) (high : ℕ) (stuck : Bool) →
-    AreEnds h.entries ends → IsNotFound h most stuck → high + 1 ≡ length ends →
+    AreReturnKeys h.entries ends → IsNotFound h most stuck → high + 1 ≡ length ends →
     IsBetween h most stuck ends 0 high stuck
 between_at_first h most ends high stuck are not_found last = record {
   order = omega arith;
@@ -342,8 +342,8 @@ between_at_first h most ends high stuck are not_found last = record {
 
 pub between_above : (h : ObservedHistory) (most : ℕ) (unexplained : Bool) (ends : List (ℕ × ℕ)) (low high middle :
     ℕ) (stuck : Bool)
-    (p : ℕ × ℕ) → IsObserved h → AreEnds h.entries ends → IsBetween h most unexplained ends low high stuck → middle
-    < high →
+    (p : ℕ × ℕ) → IsObserved h → AreReturnKeys h.entries ends → IsBetween h most unexplained ends low high stuck →
+    middle < high →
     slice_get ends middle ≡ Some p → IsExplained (seen_at p.0 (p.1 + 1) h) →
     IsBetween h most unexplained ends (middle + 1) high stuck
 between_above h most unexplained ends low high middle stuck p observed are is less at explained = record {
@@ -373,18 +373,18 @@ between_below h most unexplained ends low high middle stuck p observed is le les
 pub between_undecided : (h : ObservedHistory) (most : ℕ) (unexplained : Bool) (ends : List (ℕ × ℕ)) (low high middle
     : ℕ) (stuck : Bool)
     (p : ℕ × ℕ) → IsBetween h most unexplained ends low high stuck → low ≤ middle → middle < high →
-    slice_get ends middle ≡ Some p → IsGivenUp (seen_at p.0 (p.1 + 1) h) most →
+    slice_get ends middle ≡ Some p → GivesUpApart (seen_at p.0 (p.1 + 1) h) most →
     IsBetween h most unexplained ends low middle false
 between_undecided h most unexplained ends low high middle stuck p is le less at given_up = record {
   order = le;
   inside = omega (arith, less, is.inside);
   below = is.below;
-  above = λ q here. by q unexplained (subst (λ (x : ℕ × ℕ). IsGivenUp (seen_at x.0 (x.1 + 1) h) most)
+  above = λ q here. by q unexplained (subst (λ (x : ℕ × ℕ). GivesUpApart (seen_at x.0 (x.1 + 1) h) most)
       (same_Some p q (sym at ∙ here)) given_up);
   whole = is.whole;
 }
   where
-    by : (q : ℕ × ℕ) (b : Bool) → IsGivenUp (seen_at q.0 (q.1 + 1) h) most → IsAbove h most q b false
+    by : (q : ℕ × ℕ) (b : Bool) → GivesUpApart (seen_at q.0 (q.1 + 1) h) most → IsAbove h most q b false
     by q true given_up = given_up
     by q false given_up = inr given_up
 
@@ -395,10 +395,10 @@ record IsMet (h : ObservedHistory) (most : ℕ) (unexplained stuck : Bool) (p : 
   above : IsAbove h most (at.return.last, p.1) unexplained stuck
 
 is_met : (h : ObservedHistory) (most : ℕ) (unexplained stuck : Bool) (ends : List (ℕ × ℕ)) (low high : ℕ) (p : ℕ × ℕ) →
-    AreEnds h.entries ends → IsBetween h most unexplained ends low high stuck → high ≤ low →
+    AreReturnKeys h.entries ends → IsBetween h most unexplained ends low high stuck → high ≤ low →
     slice_get ends low ≡ Some p → IsMet h most unexplained stuck p
 is_met h most unexplained stuck ends low high p are is le at =
-    let found : (e : Observation) × ((slice_get h.entries p.1 ≡ Some e) × EndsAt e p.0) =
+    let found : (e : Observation) × ((slice_get h.entries p.1 ≡ Some e) × ReturnsAt e p.0) =
     are.each p (contained ends low p at) in
     let last : found.1.1.0.last ≡ p.0 = found.1.1.1.1 in
     let same : low ≡ high = omega (arith, le, is.order) in
@@ -410,7 +410,7 @@ is_met h most unexplained stuck ends low high p are is le at =
     }
 
 pub stuck_between : (h : ObservedHistory) (most : ℕ) (unexplained : Bool) (ends : List (ℕ × ℕ)) (low high : ℕ)
-    (p : ℕ × ℕ) → AreEnds h.entries ends → IsBetween h most unexplained ends low high true → high ≤ low →
+    (p : ℕ × ℕ) → AreReturnKeys h.entries ends → IsBetween h most unexplained ends low high true → high ≤ low →
     slice_get ends low ≡ Some p → IsStuck h p.1
 stuck_between h most unexplained ends low high p are is le at =
     let met : IsMet h most unexplained true p = is_met h most unexplained true ends low high p are is le at in
@@ -421,8 +421,8 @@ stuck_between h most unexplained ends low high p are is le at =
     }
 
 pub undecided_between : (h : ObservedHistory) (most : ℕ) (ends : List (ℕ × ℕ)) (low high : ℕ) (p : ℕ × ℕ) →
-    AreEnds h.entries ends → IsBetween h most false ends low high false → high ≤ low → slice_get ends low ≡ Some p →
-    IsUndecided h most p.1
+    AreReturnKeys h.entries ends → IsBetween h most false ends low high false → high ≤ low →
+    slice_get ends low ≡ Some p → IsUndecided h most p.1
 undecided_between h most ends low high p are is le at =
     let met : IsMet h most false false p = is_met h most false false ends low high p are is le at in
     record {
@@ -433,8 +433,8 @@ undecided_between h most ends low high p are is le at =
     }
 
 pub unexplained_between : (h : ObservedHistory) (most : ℕ) (ends : List (ℕ × ℕ)) (low high : ℕ) (p : ℕ × ℕ) →
-    AreEnds h.entries ends → IsBetween h most true ends low high false → high ≤ low → slice_get ends low ≡ Some p →
-    IsUnexplained h most p.1
+    AreReturnKeys h.entries ends → IsBetween h most true ends low high false → high ≤ low →
+    slice_get ends low ≡ Some p → IsUnexplained h most p.1
 unexplained_between h most ends low high p are is le at =
     let met : IsMet h most true false p = is_met h most true false ends low high p are is le at in
     record {
@@ -446,11 +446,11 @@ unexplained_between h most ends low high p are is le at =
 
 -- what becomes of the two, and of what is known, by what was found between them
 pub data Narrows (low high : ℕ) (unexplained stuck : Bool) (middle l u : ℕ) (x s : Bool) : SearchEnd → Type 0 where
-  above : {order : Vec Taken Global} → l ≡ middle + 1 → u ≡ high → x ≡ unexplained → s ≡ stuck →
+  above : {order : Vec OrderedCall Global} → l ≡ middle + 1 → u ≡ high → x ≡ unexplained → s ≡ stuck →
       Narrows low high unexplained stuck middle l u x s (Linearization order)
   below : l ≡ low → u ≡ middle → x ≡ true → s ≡ true → Narrows low high unexplained stuck middle l u x s Nothing
   at_least : l ≡ low → u ≡ middle → x ≡ unexplained → s ≡ false →
-      Narrows low high unexplained stuck middle l u x s Undecided
+      Narrows low high unexplained stuck middle l u x s GaveUp
 
 pub narrows_so : {low high : ℕ} {unexplained stuck : Bool} {middle l u : ℕ} {x s : Bool} {found it : SearchEnd} →
     found ≡ it → Narrows low high unexplained stuck middle l u x s it →
@@ -465,11 +465,11 @@ pub end_at : (ends : List (ℕ × ℕ)) (k : ℕ) → k < length ends →
     slice_get ends k ≡ Some (get_or ends k (0, 0))
 end_at ends k lt = slice_get-get_or ends k (0, 0) lt
 
-pub end_is_entry : (entries : List Observation) (ends : List (ℕ × ℕ)) (k : ℕ) → AreEnds entries ends →
+pub end_is_entry : (entries : List Observation) (ends : List (ℕ × ℕ)) (k : ℕ) → AreReturnKeys entries ends →
     k < length ends → (get_or ends k (0, 0)).1 < length entries
 end_is_entry entries ends k are lt =
     let p : ℕ × ℕ = get_or ends k (0, 0) in
-    let found : (e : Observation) × ((slice_get entries p.1 ≡ Some e) × EndsAt e p.0) =
+    let found : (e : Observation) × ((slice_get entries p.1 ≡ Some e) × ReturnsAt e p.0) =
     are.each p (contained ends k p (end_at ends k lt)) in
     slice_get_within entries p.1 found.0 found.1.0
 
@@ -483,7 +483,7 @@ same h most unexplained ends low high stuck l u x s l_is u_is x_is s_is is =
     (subst (λ (b : Bool). IsBetween h most unexplained ends low high b) (sym s_is) is)))
 
 narrowed : (h : ObservedHistory) (most : ℕ) (unexplained : Bool) (ends : List (ℕ × ℕ)) (low high middle : ℕ)
-    (stuck : Bool) (found : SearchEnd) (l u : ℕ) (x s : Bool) → IsObserved h → AreEnds h.entries ends →
+    (stuck : Bool) (found : SearchEnd) (l u : ℕ) (x s : Bool) → IsObserved h → AreReturnKeys h.entries ends →
     IsBetween h most unexplained ends low high stuck → low ≤ middle → middle < high →
     IsFoundApart (seen_at (get_or ends middle (0, 0)).0 ((get_or ends middle (0, 0)).1 + 1) h) most found →
     Narrows low high unexplained stuck middle l u x s found → IsBetween h most x ends l u s
@@ -497,7 +497,7 @@ narrowed h most unexplained ends low high middle stuck Nothing l u x s observed 
     same h most true ends low middle true l u x s l_is u_is x_is s_is
     (between_below h most unexplained ends low high middle stuck (get_or ends middle (0, 0)) observed is le less
     (end_at ends middle (omega (arith, less, is.inside))) found)
-narrowed h most unexplained ends low high middle stuck Undecided l u x s observed are is le less found
+narrowed h most unexplained ends low high middle stuck GaveUp l u x s observed are is le less found
     (at_least l_is u_is x_is s_is) =
     same h most unexplained ends low middle false l u x s l_is u_is x_is s_is
     (between_undecided h most unexplained ends low high middle stuck (get_or ends middle (0, 0)) is le less
@@ -505,7 +505,7 @@ narrowed h most unexplained ends low high middle stuck Undecided l u x s observe
 
 -- they are narrowed by what was found at the middle
 pub halved : {h : ObservedHistory} {most : ℕ} {unexplained : Bool} {ends : List (ℕ × ℕ)} {low high : ℕ}
-    {stuck : Bool} {found : SearchEnd} {l u : ℕ} {x s : Bool} → IsObserved h → AreEnds h.entries ends →
+    {stuck : Bool} {found : SearchEnd} {l u : ℕ} {x s : Bool} → IsObserved h → AreReturnKeys h.entries ends →
     IsBetween h most unexplained ends low high stuck → low < high →
     IsFoundApart (seen_at (get_or ends (low + (high - low) / 2) (0, 0)).0
     ((get_or ends (low + (high - low) / 2) (0, 0)).1 + 1) h) most found →

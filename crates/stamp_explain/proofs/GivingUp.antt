@@ -15,12 +15,12 @@ use Rattle.stamp_explain.specs.declared.store.Store.{Store}
 use Rattle.stamp_explain.specs.Observed.{IsObserved, ObservedHistory, IsReturnAt}
 use Rattle.stamp_explain.specs.Explained.{IsExplained}
 use Rattle.stamp_explain.specs.Search.{StateTransition, IsCompletedBy, AreReturns, first_state}
-use Rattle.stamp_explain.specs.Configuration.{AreOne, AwaitsNext, Configuration, GoesOnFrom, IsAlive, LookedAtMore}
+use Rattle.stamp_explain.specs.Configuration.{AreOne, IsSettledAt, Configuration, GoesOnFrom, IsAlive, LookedAtMore}
 use Rattle.stamp_explain.specs.Configuration.{MovesFromOne}
-use Rattle.stamp_explain.specs.Node.{IsFirstNode, IsNext}
+use Rattle.stamp_explain.specs.Node.{IsFirstNode, IsFirstLeft}
 use Rattle.std.specs.Int.{bit_at}
 use Rattle.std.proofs.lemmas.Nat.Bits.{bit_at-zero}
-use Rattle.stamp_explain.specs.Expand.{AreLinked, Expands, Hope, IsLinkedAt, IsNotInEffect}
+use Rattle.stamp_explain.specs.Expand.{AreLinked, Expands, Hope, IsLinkedAt, IsSettled}
 use Rattle.stamp_explain.specs.Expand.{waiting_from, MayGoOn, LooksAt}
 use Rattle.stamp_explain.proofs.Counting.{IsFor, one_node}
 use Rattle.stamp_explain.proofs.Exploring.{explained_by, opening_stands}
@@ -33,14 +33,14 @@ use Rattle.stamp_explain.proofs.Deepening.{deepens_expanded}
 use Rattle.stamp_explain.proofs.LookingOn.{all_passed, all_passed_over, deepens_on}
 use Rattle.stamp_explain.specs.declared.timeline.Timeline.{Timeline}
 use Rattle.stamp_explain.specs.Timeline.{IsTimeline}
-use Rattle.stamp_explain.specs.Linearization.{IsEnd}
+use Rattle.stamp_explain.specs.Linearization.{IsLastNode}
 
--- where all that waited was seen, no order explains the history
+-- where all that waited was visited, no order explains the history
 deepens_no_more : (h : ObservedHistory) (returns : List ℕ) (store : Store) (waited : List Waiting)
     (expanded : ℕ) → AreReturns h.entries returns → Deepens h returns store waited expanded None_now →
     length store.nodes.items ≡ expanded → All (λ (w : Waiting). Contains store.nodes.items w.node) waited →
     ¬ IsExplained h
-deepens_no_more h returns store waited expanded are before all seen explained =
+deepens_no_more h returns store waited expanded are before all visited explained =
     by (was.each 0 first of_first.configuration (omega (
       arith,
       all,
@@ -49,7 +49,7 @@ deepens_no_more h returns store waited expanded are before all seen explained =
     )) was.linked.at_first of_first.is_at)
   where
     was : Deepens h returns store [] expanded None_now
-    was = all_passed_over h returns store [] waited expanded before all seen
+    was = all_passed_over h returns store [] waited expanded before all visited
 
     first : Node
     first = was.linked.first
@@ -79,7 +79,7 @@ deepens_no_more h returns store waited expanded are before all seen explained =
 
 -- where a search begins no call is in effect
 pub first_settled : (h : ObservedHistory) (returns : List ℕ) (node : Node) → IsFirstNode h node →
-    IsNotInEffect h returns node
+    IsSettled h returns node
 first_settled h returns node is = record {
   awaited = λ a it bit. no_bit a.thread (ap (λ (n : ℕ). bit_at n a.thread) (sym is.threads) ∙ bit);
 }
@@ -89,8 +89,8 @@ first_settled h returns node is = record {
 
 -- so at each node the awaited call is not in effect
 settled_at : (h : ObservedHistory) (returns : List ℕ) (store : Store) (k : ℕ) (v : Node) → AreLinked h returns store →
-    slice_get store.nodes.items k ≡ Some v → IsNotInEffect h returns v
-settled_at h returns store zero v linked at = subst (IsNotInEffect h returns)
+    slice_get store.nodes.items k ≡ Some v → IsSettled h returns v
+settled_at h returns store zero v linked at = subst (IsSettled h returns)
     (same_Some linked.first v (sym linked.at_first ∙ at)) (first_settled h returns linked.first linked.is_first)
 settled_at h returns store (suc k) v linked at =
     let link : IsLinkedAt h returns store (suc k) v = linked.each (suc k) v (omega arith) at in link.leads.settled
@@ -104,7 +104,7 @@ pub record AreAwaited (h : ObservedHistory) (returns : List ℕ) : Type 0 where
 -- so in what it stands for the call that returns next is not in effect
 pub awaits_next : (h : ObservedHistory) (asked : Option ℕ) (returns : List ℕ) (v : Node)
     (c : Configuration h asked returns) → AreAwaited h returns → v.past < length returns →
-    IsNotInEffect h returns v → IsFor h asked returns v c → AwaitsNext h asked returns c
+    IsSettled h returns v → IsFor h asked returns v c → IsSettledAt h asked returns c
 awaits_next h asked returns v c awaited inside settled is i rest same has =
     settled.awaited there.entry (record { inside = inside; is_entry = there.is_entry })
     (taken_by_bit h.entries (take v.past returns) v.threads c.taken (slice_index returns v.past) there.entry
@@ -113,7 +113,7 @@ awaits_next h asked returns v c awaited inside settled is i rest same has =
     there : IsReturnAt h.entries (slice_index returns v.past)
     there = awaited.are.each v.past 0 inside
 
-    next : IsNext h.entries (take v.past returns) (slice_index returns v.past) there.entry
+    next : IsFirstLeft h.entries (take v.past returns) (slice_index returns v.past) there.entry
     next = next_awaited h returns v.past there.entry awaited.observed awaited.are awaited.once inside there.is_entry
 
     first : i ≡ slice_index returns v.past
@@ -204,7 +204,7 @@ deepened_more h returns store waiting expanded most awaited is enough = record {
     }
 
     -- the further one is settled too, or at the end
-    settled_further : AwaitsNext h None returns (get_or cs (most + 1) first_one)
+    settled_further : IsSettledAt h None returns (get_or cs (most + 1) first_one)
     settled_further = by (below (get_or nodes (most + 1) none).past (length returns))
       where
         inside : most + 1 < length nodes
@@ -222,7 +222,7 @@ deepened_more h returns store waiting expanded most awaited is enough = record {
 
         by : ((get_or nodes (most + 1) none).past < length returns) ⊎
             (length returns ≤ (get_or nodes (most + 1) none).past) →
-            AwaitsNext h None returns (get_or cs (most + 1) first_one)
+            IsSettledAt h None returns (get_or cs (most + 1) first_one)
         by (inl less) = awaits_next h None returns (get_or nodes (most + 1) none) (get_or cs (most + 1) first_one)
             awaited
             less (settled_at h returns store (most + 1) (get_or nodes (most + 1) none) was.linked here) it
@@ -245,7 +245,7 @@ deepened_more h returns store waiting expanded most awaited is enough = record {
         (slice_get-get_or cs (most + 1) first_one (omega (arith, counted)))) one)
 
     settled : (k : ℕ) (d : Configuration h None returns) → k < most + 1 →
-        AwaitsNext h None returns (get_or (take (most + 1) cs) k d)
+        IsSettledAt h None returns (get_or (take (most + 1) cs) k d)
     settled k d lt = awaits_next h None returns (get_or nodes k none) (get_or (take (most + 1) cs) k d) awaited
         (was.unended k (get_or nodes k none) (omega (arith, lt, enough)) (node_at k lt))
         (settled_at h returns store k (get_or nodes k none) was.linked (node_at k lt)) (for_it k d lt)
@@ -311,7 +311,7 @@ last_read {h} {returns} {store} {waiting} {expanded} {many} {v} is counted read 
 
 -- where all returns are past, it ends an order
 pub last_ends : {returns slice : List ℕ} {store : Store} {expanded many : ℕ} {v : Node} →
-    IsLastRead store expanded many v → slice ≡ returns → length slice ≤ v.past → IsEnd returns store (many - 1)
+    IsLastRead store expanded many v → slice ≡ returns → length slice ≤ v.past → IsLastNode returns store (many - 1)
 last_ends {returns} {slice} {store} {expanded} {many} {v} read same past = record {
   node = v;
   is_node = ap (λ (n : ℕ). slice_get store.nodes.items n) read.index ∙ read.at;
@@ -336,7 +336,7 @@ last_goes_on {h} {timeline} {slice} {store} {waiting} {expanded} {many} {v} obse
 
 pub last_settled : {h : ObservedHistory} {returns : List ℕ} {store : Store} {waiting : List Waiting}
     {expanded many : ℕ} {v : Node} → IsAtLast h returns store waiting expanded → IsLastRead store expanded many v →
-    IsNotInEffect h returns v
+    IsSettled h returns v
 last_settled {h} {returns} {store} {waiting} {expanded} {many} {v} is read =
     settled_at h returns store expanded v is.deepens.linked read.at
 
@@ -356,7 +356,7 @@ last_expanded {h} {returns} {slice} {store} {waiting} {left} {expanded} {many} {
     (subst (λ (u : Node). u.past < length returns) last (subst (λ (rs : List ℕ). v.past < length rs) same past))
     (subst (λ (u : Node). Expands h returns u nexts) last expands))
 
--- then the next one that was not seen is the last
+-- then the next one that was not visited is the last
 pub looked_on : {h : ObservedHistory} {returns : List ℕ} {old new : Store} {waited waiting : List Waiting}
     {expanded : ℕ} {found : Bool} → Deepens h returns old waited expanded None_now →
     length old.nodes.items ≡ expanded → LooksAt old new waited waiting found → found ≡ true →

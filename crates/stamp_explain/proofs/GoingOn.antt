@@ -13,11 +13,11 @@ use Rattle.stamp_explain.specs.declared.node.Next.{Next}
 use Rattle.stamp_explain.specs.Observed.{ObservedHistory}
 use Rattle.stamp_explain.specs.Configuration.{Configuration, GoesOnFrom, Reaches}
 use Rattle.std.specs.Int.{bit_at}
-use Rattle.stamp_explain.specs.Node.{AreTaken, IsNext, IsReached}
-use Rattle.stamp_explain.specs.Expand.{ComesNext, ComesNextBy, ComesAfter, PassesTo, ComesByReturn, ComesByCall}
+use Rattle.stamp_explain.specs.Node.{AreTaken, IsFirstLeft, IsReached}
+use Rattle.stamp_explain.specs.Expand.{ComesByOneMove, ComesByMove, ComesNext, PassesTo, ComesByReturn, ComesByCall}
 use Rattle.stamp_explain.specs.Expand.PassesTo.{passes_none, passes_more}
 use Rattle.stamp_explain.proofs.Lists.{contains_first}
-use Rattle.stamp_explain.proofs.AddingUnseen.{read_left, read_right, read_last}
+use Rattle.stamp_explain.proofs.AddingNew.{read_left, read_right, read_last}
 use Rattle.stamp_explain.proofs.Leading.{come, come_less, reached_past, reached_by}
 use Rattle.stamp_explain.proofs.Counting.{IsFor, configuration_of, is_for_its}
 
@@ -89,9 +89,9 @@ taken_in_both : (h : ObservedHistory) (past : List ℕ) (threads : ℕ) (one oth
     Contains one i → Contains other i
 taken_in_both h past threads one other i e are also at has = by (are.only i e at has)
   where
-    by : Contains past i ⊎ ((bit_at threads e.thread ≡ 1) × IsNext h.entries past i e) → Contains other i
+    by : Contains past i ⊎ ((bit_at threads e.thread ≡ 1) × IsFirstLeft h.entries past i e) → Contains other i
     by (inl is_past) = also.all_past i is_past
-    by (inr both) = also.each_next i e both.1 both.0
+    by (inr both) = also.each_first i e both.1 both.0
 
 pub reached_of : (h : ObservedHistory) (returns : List ℕ) (v : Node) (c : Configuration h None returns) →
     IsFor h None returns v c → IsReached h None returns v
@@ -105,7 +105,7 @@ reached_of h returns v c is = record {
 }
 
 moves_by : (h : ObservedHistory) (returns : List ℕ) (v : Node) (next : Next) (c : Configuration h None returns) →
-    IsFor h None returns v c → ComesNext h None returns v next → MovesTo h returns c next.node
+    IsFor h None returns v c → ComesByOneMove h None returns v next → MovesTo h returns c next.node
 unfolding reached_of
 moves_by h returns v next c is leads = by next.took (leads.leads c.state c.taken is.stands)
   where
@@ -115,7 +115,7 @@ moves_by h returns v next c is leads = by next.took (leads.leads c.state c.taken
     taken : (i : ℕ) → ComesByCall h None returns v next.node c.state c.taken i → IsReached h None returns next.node
     taken i l = reached_by h None returns v next.node i (reached_of h returns v c is) leads.inside l
 
-    by : (o : Option ℕ) → ComesNextBy h None returns v next.node c.state c.taken o → MovesTo h returns c next.node
+    by : (o : Option ℕ) → ComesByMove h None returns v next.node c.state c.taken o → MovesTo h returns c next.node
     by None l = record {
       next = configuration_of h None returns next.node (past l);
       is_for = is_for_its h None returns next.node (past l);
@@ -174,6 +174,6 @@ moves_past h returns c v w to (passes_more {u} before step) =
 
 -- where a call takes effect, and then returns are past
 pub moves_to : (h : ObservedHistory) (returns : List ℕ) (v : Node) (next : Next) (c : Configuration h None returns) →
-    IsFor h None returns v c → ComesAfter h None returns v next → MovesTo h returns c next.node
+    IsFor h None returns v c → ComesNext h None returns v next → MovesTo h returns c next.node
 moves_to h returns v next c is leads = moves_past h returns c leads.via next.node
     (moves_by h returns v (record { node = leads.via; took = next.took }) c is leads.comes) leads.passes

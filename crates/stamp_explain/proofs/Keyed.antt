@@ -16,7 +16,7 @@ use Rattle.std.proofs.lemmas.Map.Made.{AllPairs-from_IsDistinct, IsDistinct-from
 use Rattle.std.proofs.lemmas.List.{map_push}
 use Rattle.stamp_explain.specs.declared.observed.Observation.{Observation}
 use Rattle.stamp_explain.specs.declared.observed.Returned.{Returned}
-use Rattle.stamp_explain.specs.TimelineKeys.{AreKeys, AreRising, EndsAt, BeginsAt, key_indices}
+use Rattle.stamp_explain.specs.TimelineKeys.{AreKeys, AreRising, ReturnsAt, BeginsAt, key_indices}
 use Rattle.stamp_explain.proofs.Lists.{none_in_empty, contains_cases, contains_first, contains_rest, pairs_none}
 use Rattle.stamp_explain.proofs.Lists.{pairs_cons}
 
@@ -164,15 +164,16 @@ pub begins_more : (entries : List Observation) (k : ℕ) (keys : List (ℕ × �
 begins_more entries k keys e are at = one_key BeginsAt entries k keys e e.first are at refl (λ m has. sym has)
 
 pub ends_more : (entries : List Observation) (k : ℕ) (keys : List (ℕ × ℕ)) (e : Observation) (r : Returned) →
-    AreKeys EndsAt entries k keys → slice_get entries k ≡ Some e → e.returned ≡ Some r →
-    AreKeys EndsAt entries (k + 1) (keys ++ (r.last, k) ∷ [])
-ends_more entries k keys e r are at returned = one_key EndsAt entries k keys e r.last are at (r, (returned, refl)) only
+    AreKeys ReturnsAt entries k keys → slice_get entries k ≡ Some e → e.returned ≡ Some r →
+    AreKeys ReturnsAt entries (k + 1) (keys ++ (r.last, k) ∷ [])
+ends_more entries k keys e r are at returned = one_key ReturnsAt entries k keys e r.last are at (r, (returned, refl))
+    only
   where
-    only : (m : ℕ) → EndsAt e m → m ≡ r.last
+    only : (m : ℕ) → ReturnsAt e m → m ≡ r.last
     only m (q, (has, last)) = sym last ∙ ap (λ (x : Returned). x.last) (same_Some q r (sym has ∙ returned))
 
 pub ends_same : (entries : List Observation) (k : ℕ) (keys : List (ℕ × ℕ)) (e : Observation) →
-    AreKeys EndsAt entries k keys → slice_get entries k ≡ Some e → e.returned ≡ None →
-    AreKeys EndsAt entries (k + 1) keys
-ends_same entries k keys e are at none = no_key EndsAt entries k keys e are at
+    AreKeys ReturnsAt entries k keys → slice_get entries k ≡ Some e → e.returned ≡ None →
+    AreKeys ReturnsAt entries (k + 1) keys
+ends_same entries k keys e are at none = no_key ReturnsAt entries k keys e are at
     (λ m has. none-some has.0 (sym none ∙ has.1.0))

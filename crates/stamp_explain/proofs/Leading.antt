@@ -6,15 +6,15 @@ use Rattle.std.proofs.Math.Seq.{drop-cons}
 use Rattle.std.proofs.lemmas.List.{drop_all}
 use Rattle.stamp_core.specs.declared.reply.Reply.{Reply}
 use Rattle.stamp_explain.specs.declared.node.Node.{Node}
-use Rattle.stamp_explain.specs.declared.linearization.Taken.{Taken}
+use Rattle.stamp_explain.specs.declared.linearization.OrderedCall.{OrderedCall}
 use Rattle.stamp_explain.specs.Observed.{ObservedHistory}
 use Rattle.stamp_explain.specs.Explained.{Effect}
 use Rattle.stamp_explain.specs.Search.{LockState, StateTransition, IsCompletedBy}
 use Rattle.stamp_explain.specs.Configuration.{Reaches, put_after}
 use Rattle.stamp_explain.specs.Configuration.Reaches.{goes_past, goes_on_by}
 use Rattle.stamp_explain.specs.Node.{StandsFor, IsReached}
-use Rattle.stamp_explain.specs.Expand.{ComesNext, ComesByCall, ComesByReturn, IsLed}
-use Rattle.stamp_explain.specs.Linearization.{taken_of, RepliesAt}
+use Rattle.stamp_explain.specs.Expand.{ComesByOneMove, ComesByCall, ComesByReturn, IsLed}
+use Rattle.stamp_explain.specs.Linearization.{ordered_calls, RepliesAt}
 use Rattle.stamp_explain.proofs.Completing.{completed_by_none, before_return, puts_first}
 use Rattle.stamp_explain.proofs.Finding.{ArePending, first_of_pending, past_pending, taken_pending}
 use Rattle.stamp_explain.proofs.Expanding.{one_reply}
@@ -85,7 +85,7 @@ reached_by h asked returns node w i is inside l = record {
 
 -- a call that took effect at a node that is reached did so in some state
 pub led_by : (h : ObservedHistory) (returns : List ℕ) (node w : Node) (took : Option ℕ) →
-    IsReached h None returns node → ComesNext h None returns node (record { node = w; took = took }) →
+    IsReached h None returns node → ComesByOneMove h None returns node (record { node = w; took = took }) →
     IsLed h node took
 led_by h returns node w None reached leads = tt
 led_by h returns node w (Some i) reached leads =
@@ -103,12 +103,12 @@ led_by h returns node w (Some i) reached leads =
 
 -- these calls, with these replies, complete what a node stands for
 pub record EndsFor (h : ObservedHistory) (returns : List ℕ) (v : Node) (s : LockState) (taken : List ℕ)
-    (left : List Taken) : Type 0 where
+    (left : List OrderedCall) : Type 0 where
   pub rest : List Effect
   pub by : IsCompletedBy (StateTransition h.limits) h.entries (drop v.past returns) s taken rest
-  pub are : left ≡ taken_of rest
+  pub are : left ≡ ordered_calls rest
 
-pub record Ends (h : ObservedHistory) (returns : List ℕ) (v : Node) (left : List Taken) : Type 0 where
+pub record Ends (h : ObservedHistory) (returns : List ℕ) (v : Node) (left : List OrderedCall) : Type 0 where
   pub ends : (s : LockState) (taken : List ℕ) → StandsFor h returns v s taken →
       ArePending h.entries (drop v.past returns) taken → EndsFor h returns v s taken left
 
@@ -124,8 +124,9 @@ ends_last h returns v all = record {
 }
 
 -- as much is left where a return was passed
-pub ends_past : (h : ObservedHistory) (returns : List ℕ) (node w : Node) (left : List Taken) →
-    ComesNext h None returns node (record { node = w; took = None }) → Ends h returns w left → Ends h returns node left
+pub ends_past : (h : ObservedHistory) (returns : List ℕ) (node w : Node) (left : List OrderedCall) →
+    ComesByOneMove h None returns node (record { node = w; took = None }) → Ends h returns w left →
+    Ends h returns node left
 ends_past h returns node w left leads after = record {
   ends = λ s taken stands pending. by s taken stands pending (leads.leads s taken stands);
 }
@@ -152,8 +153,9 @@ ends_past h returns node w left leads after = record {
         }
 
 -- and one more call where it took effect
-pub ends_call : (h : ObservedHistory) (returns : List ℕ) (node w : Node) (i : ℕ) (one : Taken) (left : List Taken) →
-    ComesNext h None returns node (record { node = w; took = Some i }) → one.entry ≡ i → RepliesAt h node one →
+pub ends_call : (h : ObservedHistory) (returns : List ℕ) (node w : Node) (i : ℕ) (one : OrderedCall) (left : List
+    OrderedCall) →
+    ComesByOneMove h None returns node (record { node = w; took = Some i }) → one.index ≡ i → RepliesAt h node one →
     Ends h returns w left → Ends h returns node (one ∷ left)
 ends_call h returns node w i one left leads same replies after = record {
   ends = λ s taken stands pending. by s taken stands pending (leads.leads s taken stands);
@@ -168,8 +170,8 @@ ends_call h returns node w i one left leads same replies after = record {
         let end : EndsFor h returns w l.state (x.index ∷ taken) left = after.ends l.state (x.index ∷ taken) l.stands
         (subst (λ (rest : List ℕ). ArePending h.entries rest (x.index ∷ taken)) (sym to_come)
         (taken_pending h.entries (drop node.past returns) taken x.index pending)) in
-        let entry : one.entry ≡ x.index = same ∙ sym l.index in
-        let at : slice_get h.entries one.entry ≡ Some x.entry =
+        let entry : one.index ≡ x.index = same ∙ sym l.index in
+        let at : slice_get h.entries one.index ≡ Some x.entry =
         ap (λ (k : ℕ). slice_get h.entries k) entry ∙ l.may.effect.is_entry in
         let reply : one.reply ≡ x.reply = one_reply h.limits s.0 s.1 x.entry.call one.reply x.reply
         (replies x.entry s at stands.at) l.may.goes.replies in
@@ -182,7 +184,7 @@ ends_call h returns node w i one left leads same replies after = record {
               (come returns node.past leads.inside) pending)) l.may
               (subst (λ (rest : List ℕ). IsCompletedBy (StateTransition h.limits) h.entries rest l.state
               (x.index ∷ taken) end.rest) to_come end.by);
-          are = ap (λ (n : ℕ). record { entry = n; reply = one.reply } ∷ left) entry ∙
-              ap (λ (r : Reply). record { entry = x.index; reply = r } ∷ left) reply ∙
-              ap (λ (rest : List Taken). record { entry = x.index; reply = x.reply } ∷ rest) end.are;
+          are = ap (λ (n : ℕ). record { index = n; reply = one.reply } ∷ left) entry ∙
+              ap (λ (r : Reply). record { index = x.index; reply = r } ∷ left) reply ∙
+              ap (λ (rest : List OrderedCall). record { index = x.index; reply = x.reply } ∷ rest) end.are;
         }

@@ -1,4 +1,4 @@
--- The next node of a search: the last of those that wait and were not seen.
+-- The next node of a search: the last of those that wait and were not visited.
 use Rattle.std.proofs.Common.{◌≡◌, true, false, List, [], ◌∷◌, ◌++◌, ◌∙◌, ap}
 use Rattle.std.proofs.Common.{subst}
 use Rattle.std.specs.List.{All, Contains}
@@ -11,14 +11,14 @@ use Rattle.stamp_explain.specs.declared.store.Store.{Store}
 use Rattle.stamp_explain.specs.Store.{Keeps, IsStored}
 use Rattle.stamp_explain.specs.Expand.{LooksAt}
 
--- of those that waited the last were seen, and the store is as it was
+-- of those that waited the last were visited, and the store is as it was
 pub record Looking (old now : Store) (waited waiting : List Waiting) : Type 0 where
   pub keeps : Keeps now
   pub nodes : now.nodes.items ≡ old.nodes.items
   pub origins : now.origins.items ≡ old.origins.items
   pub passed : List Waiting
   pub are : waited ≡ waiting ++ passed
-  pub seen : All (λ (w : Waiting). Contains old.nodes.items w.node) passed
+  pub visited : All (λ (w : Waiting). Contains old.nodes.items w.node) passed
 
 pub looking_past : (old now new : Store) (waited before waiting : List Waiting) (last : Waiting) →
     Looking old now waited before → before ≡ waiting ++ last ∷ [] → IsStored now new last.node last.origin false →
@@ -29,8 +29,8 @@ looking_past old now new waited before waiting last is popped stored = record {
   origins = stored.origins ∙ is.origins;
   passed = last ∷ is.passed;
   are = is.are ∙ ap (λ (ws : List Waiting). ws ++ is.passed) popped ∙ append_assoc waiting (last ∷ []) is.passed;
-  seen = All-cons (λ (w : Waiting). Contains old.nodes.items w.node) last is.passed
-      (subst (λ (ns : List Node). Contains ns last.node) is.nodes stored.nodes.1) is.seen;
+  visited = All-cons (λ (w : Waiting). Contains old.nodes.items w.node) last is.passed
+      (subst (λ (ns : List Node). Contains ns last.node) is.nodes stored.nodes.1) is.visited;
 }
 
 pub looked_at : (old now new : Store) (waited before waiting : List Waiting) (last : Waiting) →
@@ -40,7 +40,7 @@ looked_at old now new waited before waiting last is popped stored = record {
   last = last;
   passed = is.passed;
   are = is.are ∙ ap (λ (ws : List Waiting). ws ++ is.passed) popped ∙ append_assoc waiting (last ∷ []) is.passed;
-  seen = is.seen;
+  visited = is.visited;
   stored = record {
     keeps = stored.keeps;
     nodes = stored.nodes ∙ ap (λ (ns : List Node). ns ++ last.node ∷ []) is.nodes;

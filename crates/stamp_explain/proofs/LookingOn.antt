@@ -1,4 +1,4 @@
--- A search in depth looks at the next node that was not seen: those that it passes over are dead ends.
+-- A search in depth looks at the next node that was not visited: those that it passes over are dead ends.
 use Rattle.std.proofs.Common.{◌≡◌, ◌⊎◌, ℕ, ◌+◌, ◌<◌, ◌≤◌, true, List, [], ◌∷◌, ◌++◌, length}
 use Rattle.std.proofs.Common.{sym, ◌∙◌, ap, subst, inl, inr, arith, None, Some}
 use Rattle.std.specs.Prelude.{slice_get}
@@ -13,9 +13,9 @@ use Rattle.stamp_explain.specs.declared.store.Store.{Store}
 use Rattle.stamp_explain.specs.Observed.{ObservedHistory}
 use Rattle.stamp_explain.specs.Configuration.{Configuration, GoesOnFrom, IsBeginning, MovesFromOne, MovesOn}
 use Rattle.stamp_explain.specs.Node.{IsReached}
-use Rattle.stamp_explain.specs.Expand.{Hope, ComesAfter}
+use Rattle.stamp_explain.specs.Expand.{Hope, ComesNext}
 use Rattle.stamp_explain.specs.Expand.{IsLinkedAt, LooksAt}
-use Rattle.stamp_explain.proofs.AddingUnseen.{read_left, read_last}
+use Rattle.stamp_explain.proofs.AddingNew.{read_left, read_last}
 use Rattle.stamp_explain.proofs.Counting.{IsFor}
 use Rattle.stamp_explain.proofs.GoingOn.{read_push, at_contains, goes_on_through, MovesTo, moves_to, reached_of}
 use Rattle.stamp_explain.proofs.Deepening.{IsLedFrom, WaitsAbove, GoesByNow, IsOpen, IsDead, Deepens, None_now}
@@ -136,16 +136,16 @@ pub all_passed_over : (h : ObservedHistory) (returns : List ℕ) (store : Store)
     (expanded : ℕ) → Deepens h returns store (waiting ++ passed) expanded None_now →
     length store.nodes.items ≡ expanded → All (λ (w : Waiting). Contains store.nodes.items w.node) passed →
     Deepens h returns store waiting expanded None_now
-all_passed_over h returns store waiting [] expanded was all seen =
+all_passed_over h returns store waiting [] expanded was all visited =
     subst (λ (ws : List Waiting). Deepens h returns store ws expanded None_now) (append-nil waiting) was
-all_passed_over h returns store waiting (w ∷ passed) expanded was all seen =
+all_passed_over h returns store waiting (w ∷ passed) expanded was all visited =
     passed_over h returns store waiting w expanded (all_passed_over h returns store (waiting ++ w ∷ []) passed expanded
     (subst (λ (ws : List Waiting). Deepens h returns store ws expanded None_now)
     (sym (append_assoc waiting (w ∷ []) passed)) was) all
-    (All-tail (λ (v : Waiting). Contains store.nodes.items v.node) w passed seen)) all
-    (All-head (λ (v : Waiting). Contains store.nodes.items v.node) w passed seen)
+    (All-tail (λ (v : Waiting). Contains store.nodes.items v.node) w passed visited)) all
+    (All-head (λ (v : Waiting). Contains store.nodes.items v.node) w passed visited)
 
--- the last that waits and was not seen is looked at
+-- the last that waits and was not visited is looked at
 pub deepens_on : (h : ObservedHistory) (returns : List ℕ) (old new : Store) (waited waiting : List Waiting)
     (expanded : ℕ) → Deepens h returns old waited expanded None_now → length old.nodes.items ≡ expanded →
     LooksAt old new waited waiting true → IsAtLast h returns new waiting expanded
@@ -202,7 +202,7 @@ deepens_on h returns old new waited waiting expanded before all looks = record {
     was : Deepens h returns old (waiting ++ last ∷ []) expanded None_now
     was = all_passed_over h returns old (waiting ++ last ∷ []) looks.passed expanded
         (subst (λ (ws : List Waiting). Deepens h returns old ws expanded None_now)
-        (looks.are ∙ sym (append_assoc waiting (last ∷ []) looks.passed)) before) all looks.seen
+        (looks.are ∙ sym (append_assoc waiting (last ∷ []) looks.passed)) before) all looks.visited
 
     from : IsLedFrom h returns old.nodes.items last
     from = was.led (length waiting) last (read_last waiting last)
@@ -285,7 +285,7 @@ deepens_on h returns old new waited waiting expanded before all looks = record {
           node = from.node;
           is_node = more last.origin.from from.node from.is_node;
           reached = reached_from;
-          leads = subst (λ (u : Node). ComesAfter h None returns from.node (record {
+          leads = subst (λ (u : Node). ComesNext h None returns from.node (record {
             node = u;
             took =
                 last.origin.took;

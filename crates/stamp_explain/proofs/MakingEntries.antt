@@ -11,19 +11,19 @@ use Rattle.std.proofs.lemmas.List.Elements.{Contains-push, Contains-append_left}
 use Rattle.std.proofs.lemmas.Option.{slice_get_read, none-some, same_Some, slice_get-map, slice_get_within}
 use Rattle.std.proofs.lemmas.Option.{get_or_from_slice_get}
 use Rattle.stamp_core.specs.Call.{call_suits}
-use Rattle.stamp_core.specs.Record.{recorded, IsRecorded, SuitsRecord}
+use Rattle.stamp_core.specs.Record.{recorded, IsRecorded, EntrySuits}
 use Rattle.stamp_core.specs.declared.entry.Entry.{Entry}
 use Rattle.stamp_core.specs.declared.call.Call.{Call}
 use Rattle.stamp_core.specs.declared.reply.Reply.{Reply}
 use Rattle.stamp_explain.specs.declared.observed.Observation.{Observation}
 use Rattle.stamp_explain.specs.declared.observed.Returned.{Returned}
-use Rattle.stamp_explain.specs.declared.linearization.Taken.{Taken}
+use Rattle.stamp_explain.specs.declared.linearization.OrderedCall.{OrderedCall}
 use Rattle.stamp_explain.specs.Observed.{ObservedHistory, IsObserved, IsSmall}
 use Rattle.stamp_explain.specs.Explained.{Effect, IsEffectOf, IsExplainedBy, indices_of}
-use Rattle.stamp_explain.specs.Linearization.{IsLinearizationOf, taken_of}
+use Rattle.stamp_explain.specs.Linearization.{IsLinearizationOf, ordered_calls}
 use Rattle.stamp_explain.specs.Points.{IsEntryOf, HasPoints, IsLastTold, EndsAsTold, told_until, told_last_by}
 use Rattle.stamp_explain.specs.Points.{entry_with_point}
-use Rattle.stamp_explain.specs.Points.{ends_at, position_at, there_at}
+use Rattle.stamp_explain.specs.Points.{ends_at, position_at, earlier_at}
 use Rattle.stamp_explain.proofs.Threads.{few_threads}
 use Rattle.stamp_explain.proofs.Expanding.{at_index}
 use Rattle.stamp_explain.proofs.Spreading.{IsReady, TakesEffect, points_from, takes_effect, ready_of, points_are_of}
@@ -83,21 +83,22 @@ begun_by_end entries end is = All-weaker (λ (e : Observation). told_until e ≤
         first_below a b le = grind arith
 
 -- of k calls of an order the entries are made, and the next takes effect from this position on
-pub record MakesEntries (h : ObservedHistory) (taken : List Taken) (end k : ℕ) (entries : List Entry) (q n : ℕ) : Type 0
+pub record MakesEntries (h : ObservedHistory) (calls : List OrderedCall) (end k : ℕ) (entries : List Entry) (q n : ℕ)
+    : Type 0
   where
     pub order : List Effect
     pub explains : IsExplainedBy h order
-    pub are : taken ≡ taken_of order
+    pub are : calls ≡ ordered_calls order
     pub begun : All (λ (y : Effect). y.entry.first ≤ end) order
     pub threads : List ℕ
     pub many : length threads ≡ n
     pub ready : IsReady end q threads (drop k order)
     pub points : entries ++ points_from end q n (drop k order) ≡ points_from end 0 0 order
 
-pub makes_none : (h : ObservedHistory) (taken : List Taken) (end : ℕ) (entries : List Entry) → IsObserved h →
-    IsLinearizationOf h taken → All (λ (e : Observation). e.first ≤ end) h.entries → entries ≡ [] →
-    MakesEntries h taken end 0 entries 0 0
-makes_none h taken end entries observed is begun empty = record {
+pub makes_none : (h : ObservedHistory) (calls : List OrderedCall) (end : ℕ) (entries : List Entry) → IsObserved h →
+    IsLinearizationOf h calls → All (λ (e : Observation). e.first ≤ end) h.entries → entries ≡ [] →
+    MakesEntries h calls end 0 entries 0 0
+makes_none h calls end entries observed is begun empty = record {
   order = is.order;
   explains = is.explains;
   are = is.are;
@@ -113,41 +114,41 @@ makes_none h taken end entries observed is begun empty = record {
         (get_or is.order k d).entry begun (is.explains.effects k d lt).is_entry
 
 -- the effect whose entry and reply these are
-effect_at : (order : List Effect) (k : ℕ) (t : Taken) → slice_get (taken_of order) k ≡ Some t →
-    (x : Effect) × ((slice_get order k ≡ Some x) × (record { entry = x.index; reply = x.reply } ≡ t))
+effect_at : (order : List Effect) (k : ℕ) (t : OrderedCall) → slice_get (ordered_calls order) k ≡ Some t →
+    (x : Effect) × ((slice_get order k ≡ Some x) × (record { index = x.index; reply = x.reply } ≡ t))
 effect_at order k t at = by (slice_get order k) refl
-    (sym (slice_get-map (λ (x : Effect). record { entry = x.index; reply = x.reply }) order k) ∙ at)
+    (sym (slice_get-map (λ (x : Effect). record { index = x.index; reply = x.reply }) order k) ∙ at)
   where
     by : (o : Option Effect) → slice_get order k ≡ o →
-        option_map (λ (x : Effect). record { entry = x.index; reply = x.reply }) o ≡ Some t →
-        (x : Effect) × ((slice_get order k ≡ Some x) × (record { entry = x.index; reply = x.reply } ≡ t))
+        option_map (λ (x : Effect). record { index = x.index; reply = x.reply }) o ≡ Some t →
+        (x : Effect) × ((slice_get order k ≡ Some x) × (record { index = x.index; reply = x.reply } ≡ t))
     by None e h = absurd (none-some t h)
-    by (Some x) e h = (x, (e, same_Some (record { entry = x.index; reply = x.reply }) t h))
+    by (Some x) e h = (x, (e, same_Some (record { index = x.index; reply = x.reply }) t h))
 
 -- the entry of this call is made next
-pub record MakesEntryOf (h : ObservedHistory) (taken : List Taken) (end k : ℕ) (t : Taken) (entries : List Entry)
-    (q n : ℕ) (e : Observation) : Type 0 where
+pub record MakesEntryOf (h : ObservedHistory) (calls : List OrderedCall) (end k : ℕ) (t : OrderedCall) (entries : List
+    Entry) (q n : ℕ) (e : Observation) : Type 0 where
   pub position : position_at q e.first ≤ end
-  pub few : there_at q n e.first < 64
-  pub next : MakesEntries h taken end (k + 1) (entries ++ entry_with_point e t.reply end (64 * position_at q e.first +
-      there_at q n e.first) ∷ []) (position_at q e.first) (there_at q n e.first + 1)
+  pub few : earlier_at q n e.first < 64
+  pub next : MakesEntries h calls end (k + 1) (entries ++ entry_with_point e t.reply end (64 * position_at q e.first +
+      earlier_at q n e.first) ∷ []) (position_at q e.first) (earlier_at q n e.first + 1)
 
-pub record MakesNext (h : ObservedHistory) (taken : List Taken) (end k : ℕ) (t : Taken) (entries : List Entry)
-    (q n : ℕ) : Type 0 where
+pub record MakesNext (h : ObservedHistory) (calls : List OrderedCall) (end k : ℕ) (t : OrderedCall) (entries : List
+    Entry) (q n : ℕ) : Type 0 where
   pub entry : Observation
-  pub is_entry : slice_get h.entries t.entry ≡ Some entry
-  pub made : MakesEntryOf h taken end k t entries q n entry
+  pub is_entry : slice_get h.entries t.index ≡ Some entry
+  pub made : MakesEntryOf h calls end k t entries q n entry
 
-pub makes_next : (h : ObservedHistory) (taken : List Taken) (end k : ℕ) (t : Taken) (entries : List Entry)
-    (q n : ℕ) → MakesEntries h taken end k entries q n → slice_get taken k ≡ Some t →
-    MakesNext h taken end k t entries q n
-makes_next h taken end k t entries q n is at =
-    let found : (x : Effect) × ((slice_get is.order k ≡ Some x) × (record { entry = x.index; reply = x.reply } ≡ t)) =
-    effect_at is.order k t (ap (λ (ts : List Taken). slice_get ts k) (sym is.are) ∙ at) in
-    by found.0 found.1.0 (ap (λ (u : Taken). u.entry) found.1.1) (ap (λ (u : Taken). u.reply) found.1.1)
+pub makes_next : (h : ObservedHistory) (calls : List OrderedCall) (end k : ℕ) (t : OrderedCall) (entries : List Entry)
+    (q n : ℕ) → MakesEntries h calls end k entries q n → slice_get calls k ≡ Some t →
+    MakesNext h calls end k t entries q n
+makes_next h calls end k t entries q n is at =
+    let found : (x : Effect) × ((slice_get is.order k ≡ Some x) × (record { index = x.index; reply = x.reply } ≡ t)) =
+    effect_at is.order k t (ap (λ (ts : List OrderedCall). slice_get ts k) (sym is.are) ∙ at) in
+    by found.0 found.1.0 (ap (λ (u : OrderedCall). u.index) found.1.1) (ap (λ (u : OrderedCall). u.reply) found.1.1)
   where
-    by : (x : Effect) → slice_get is.order k ≡ Some x → x.index ≡ t.entry → x.reply ≡ t.reply →
-        MakesNext h taken end k t entries q n
+    by : (x : Effect) → slice_get is.order k ≡ Some x → x.index ≡ t.index → x.reply ≡ t.reply →
+        MakesNext h calls end k t entries q n
     by x here index reply =
         let lt : k < length is.order = slice_get_within is.order k x here in
         let more : suc k ≡ k + 1 = omega arith in
@@ -157,8 +158,8 @@ makes_next h taken end k t entries q n is at =
         let step : TakesEffect end q n x (drop (k + 1) is.order) =
         takes_effect end q is.threads n x (drop (k + 1) is.order) is.many
         (subst (λ (xs : List Effect). IsReady end q is.threads xs) left is.ready) in
-        let p : ℕ = 64 * position_at q x.entry.first + there_at q n x.entry.first in
-        let rest : List Entry = points_from end (position_at q x.entry.first) (there_at q n x.entry.first + 1)
+        let p : ℕ = 64 * position_at q x.entry.first + earlier_at q n x.entry.first in
+        let rest : List Entry = points_from end (position_at q x.entry.first) (earlier_at q n x.entry.first + 1)
         (drop (k + 1) is.order) in
         record {
           entry = x.entry;
@@ -187,26 +188,26 @@ makes_next h taken end k t entries q n is at =
             (is.explains.effects k x (slice_get_within is.order k x here)).is_entry
 
 -- the call that was read, and its entry
-pub call_read : (taken : List Taken) (k : ℕ) (t : Taken) → k < length taken → t ≡ get_or taken k t →
-    slice_get taken k ≡ Some t
-call_read taken k t lt read = slice_get_read taken (length taken) k t refl lt read
+pub call_read : (calls : List OrderedCall) (k : ℕ) (t : OrderedCall) → k < length calls → t ≡ get_or calls k t →
+    slice_get calls k ≡ Some t
+call_read calls k t lt read = slice_get_read calls (length calls) k t refl lt read
 
-pub next_inside : (h : ObservedHistory) (taken : List Taken) (end k : ℕ) (t : Taken) (entries : List Entry)
-    (q n : ℕ) → MakesEntries h taken end k entries q n → slice_get taken k ≡ Some t → t.entry < length h.entries
-next_inside h taken end k t entries q n is at =
-    let step : MakesNext h taken end k t entries q n = makes_next h taken end k t entries q n is at in
-    slice_get_within h.entries t.entry step.entry step.is_entry
+pub next_inside : (h : ObservedHistory) (calls : List OrderedCall) (end k : ℕ) (t : OrderedCall) (entries : List Entry)
+    (q n : ℕ) → MakesEntries h calls end k entries q n → slice_get calls k ≡ Some t → t.index < length h.entries
+next_inside h calls end k t entries q n is at =
+    let step : MakesNext h calls end k t entries q n = makes_next h calls end k t entries q n is at in
+    slice_get_within h.entries t.index step.entry step.is_entry
 
-pub makes_at : (h : ObservedHistory) (taken : List Taken) (end k : ℕ) (t : Taken) (entries : List Entry)
-    (q n : ℕ) (e : Observation) (read : List Observation) → MakesEntries h taken end k entries q n →
-    slice_get taken k ≡ Some t → read ≡ h.entries → e ≡ get_or read t.entry e →
-    MakesEntryOf h taken end k t entries q n e
-makes_at h taken end k t entries q n e read is at same is_read =
-    let step : MakesNext h taken end k t entries q n = makes_next h taken end k t entries q n is at in
-    let here : slice_get h.entries t.entry ≡ Some e = slice_get_read h.entries (length h.entries) t.entry e refl
-    (slice_get_within h.entries t.entry step.entry step.is_entry)
-    (is_read ∙ ap (λ (xs : List Observation). get_or xs t.entry e) same) in
-    subst (λ (o : Observation). MakesEntryOf h taken end k t entries q n o)
+pub makes_at : (h : ObservedHistory) (calls : List OrderedCall) (end k : ℕ) (t : OrderedCall) (entries : List Entry)
+    (q n : ℕ) (e : Observation) (read : List Observation) → MakesEntries h calls end k entries q n →
+    slice_get calls k ≡ Some t → read ≡ h.entries → e ≡ get_or read t.index e →
+    MakesEntryOf h calls end k t entries q n e
+makes_at h calls end k t entries q n e read is at same is_read =
+    let step : MakesNext h calls end k t entries q n = makes_next h calls end k t entries q n is at in
+    let here : slice_get h.entries t.index ≡ Some e = slice_get_read h.entries (length h.entries) t.index e refl
+    (slice_get_within h.entries t.index step.entry step.is_entry)
+    (is_read ∙ ap (λ (xs : List Observation). get_or xs t.index e) same) in
+    subst (λ (o : Observation). MakesEntryOf h calls end k t entries q n o)
     (same_Some step.entry e (sym step.is_entry ∙ here)) step.made
 
 -- each entry ends when its call returned, or with the history
@@ -216,14 +217,14 @@ ends_as_told hs end q n [] effects = tt
 ends_as_told hs end q n (x ∷ xs) effects = (
   (λ o at. ap (λ (e : Observation). ends_at e.returned end)
       (same_Some x.entry o (sym (All-head (IsEffectOf hs) x xs effects).is_entry ∙ at))),
-  ends_as_told hs end (position_at q x.entry.first) (there_at q n x.entry.first + 1) xs
+  ends_as_told hs end (position_at q x.entry.first) (earlier_at q n x.entry.first + 1) xs
       (All-tail (IsEffectOf hs) x xs effects),
 )
 
-pub all_made : (h : ObservedHistory) (taken : List Taken) (end k : ℕ) (entries : List Entry) (q n : ℕ) →
-    IsObserved h → IsLastTold h.entries end → MakesEntries h taken end k entries q n → length taken ≤ k →
+pub all_made : (h : ObservedHistory) (calls : List OrderedCall) (end k : ℕ) (entries : List Entry) (q n : ℕ) →
+    IsObserved h → IsLastTold h.entries end → MakesEntries h calls end k entries q n → length calls ≤ k →
     HasPoints h (recorded h.limits h.width entries [])
-all_made h taken end k entries q n observed is_end is all =
+all_made h calls end k entries q n observed is_end is all =
     subst (λ (es : List Entry). HasPoints h (recorded h.limits h.width es [])) (sym made) (record {
       of = points_are_of h end is.order observed is.explains is.begun;
       linearized = points_are_linearized h end is.order observed is.explains is.begun;
@@ -237,14 +238,14 @@ all_made h taken end k entries q n observed is_end is all =
     order : List Effect
     order = is.order
 
-    many : length (taken_of is.order) ≡ length is.order
-    many = length-map {B = Taken} is.order (λ (x : Effect). record { entry = x.index; reply = x.reply })
+    many : length (ordered_calls is.order) ≡ length is.order
+    many = length-map {B = OrderedCall} is.order (λ (x : Effect). record { index = x.index; reply = x.reply })
 
     over : length is.order ≤ k
     over = omega (
       arith,
       all,
-      ap (λ (ts : List Taken). length ts) is.are,
+      ap (λ (ts : List OrderedCall). length ts) is.are,
       many,
     )
 
@@ -261,11 +262,11 @@ zip_lengths R (x ∷ xs) [] z = absurd z
 zip_lengths R (x ∷ xs) (y ∷ ys) z = omega (arith, zip_lengths R xs ys z.1)
 
 all_suit : (h : ObservedHistory) (is : List ℕ) (es : List Entry) → IsObserved h → AllZip (IsEntryOf h.entries) is es →
-    All (SuitsRecord h.width) es
-all_suit h [] [] observed z = All-nil (SuitsRecord h.width)
+    All (EntrySuits h.width) es
+all_suit h [] [] observed z = All-nil (EntrySuits h.width)
 all_suit h [] (e ∷ es) observed z = absurd z
 all_suit h (i ∷ is) [] observed z = absurd z
-all_suit h (i ∷ is) (e ∷ es) observed z = All-cons (SuitsRecord h.width) e es (record {
+all_suit h (i ∷ is) (e ∷ es) observed z = All-cons (EntrySuits h.width) e es (record {
   thread = subst (λ (t : ℕ). t < 64) (sym z.0.thread)
       (at_index (λ (o : Observation). o.thread < 64) h.entries i z.0.observed observed.threads z.0.is_entry);
   call = subst (λ (call : Call). IsTrue (call_suits h.width call)) (sym z.0.call)

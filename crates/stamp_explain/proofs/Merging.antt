@@ -21,7 +21,7 @@ use Rattle.stamp_core.specs.declared.reply.Reply.{Reply}
 use Rattle.stamp_explain.specs.declared.observed.Observation.{Observation}
 use Rattle.stamp_explain.specs.declared.observed.Returned.{Returned}
 use Rattle.stamp_explain.specs.Observed.{ObservedHistory, IsBefore, IsInterval, IsObserved}
-use Rattle.stamp_explain.specs.Explained.{Effect, IsEffectOf, history_of, indices_of, AreApart, RespectsBefore}
+use Rattle.stamp_explain.specs.Explained.{Effect, IsEffectOf, history_of, indices_of, AreOfTwoEntries, RespectsBefore}
 use Rattle.stamp_explain.specs.Search.{Runs, LockAlone, RecordAlone}
 use Rattle.stamp_explain.proofs.Lists.{contains_cases, contains_first, contains_rest, pairs_cons}
 use Rattle.stamp_explain.proofs.Lists.{pairs_head, pairs_tail}
@@ -55,19 +55,20 @@ left_pairs R (left {x} {xs} {ys} {zs} m) all = pairs_cons R x xs (left_all (R x)
     (left_pairs R m (pairs_tail R x zs all))
 left_pairs R (right {y} {xs} {ys} {zs} m) all = left_pairs R m (pairs_tail R y zs all)
 
-pub merge_apart : {xs ys zs : List Effect} → IsMerge xs ys zs → AllPairs AreApart xs → AllPairs AreApart ys →
-    All (λ (x : Effect). All (AreApart x) ys) xs → AllPairs AreApart zs
+pub merge_apart : {xs ys zs : List Effect} → IsMerge xs ys zs → AllPairs AreOfTwoEntries xs →
+    AllPairs AreOfTwoEntries ys → All (λ (x : Effect). All (AreOfTwoEntries x) ys) xs → AllPairs AreOfTwoEntries zs
 merge_apart none a b across = a
 merge_apart (left {x} {xs} {ys} {zs} m) a b across =
-    pairs_cons AreApart x zs (merge_all (AreApart x) m (pairs_head AreApart x xs a)
-    (All-head (λ (x : Effect). All (AreApart x) ys) x xs across))
-    (merge_apart m (pairs_tail AreApart x xs a) b (All-tail (λ (x : Effect). All (AreApart x) ys) x xs across))
+    pairs_cons AreOfTwoEntries x zs (merge_all (AreOfTwoEntries x) m (pairs_head AreOfTwoEntries x xs a)
+    (All-head (λ (x : Effect). All (AreOfTwoEntries x) ys) x xs across))
+    (merge_apart m (pairs_tail AreOfTwoEntries x xs a) b (All-tail (λ (x : Effect). All (AreOfTwoEntries x) ys) x xs
+    across))
 merge_apart (right {y} {xs} {ys} {zs} m) a b across =
-    pairs_cons AreApart y zs
-    (merge_all (AreApart y) m (All-weaker (λ (x : Effect). All (AreApart x) (y ∷ ys)) (AreApart y)
-    (λ x each e. All-head (AreApart x) y ys each (sym e)) xs across) (pairs_head AreApart y ys b))
-    (merge_apart m a (pairs_tail AreApart y ys b) (All-weaker (λ (x : Effect). All (AreApart x) (y ∷ ys))
-    (λ (x : Effect). All (AreApart x) ys) (λ x each. All-tail (AreApart x) y ys each) xs across))
+    pairs_cons AreOfTwoEntries y zs
+    (merge_all (AreOfTwoEntries y) m (All-weaker (λ (x : Effect). All (AreOfTwoEntries x) (y ∷ ys)) (AreOfTwoEntries y)
+    (λ x each e. All-head (AreOfTwoEntries x) y ys each (sym e)) xs across) (pairs_head AreOfTwoEntries y ys b))
+    (merge_apart m a (pairs_tail AreOfTwoEntries y ys b) (All-weaker (λ (x : Effect). All (AreOfTwoEntries x) (y ∷ ys))
+    (λ (x : Effect). All (AreOfTwoEntries x) ys) (λ x each. All-tail (AreOfTwoEntries x) y ys each) xs across))
 
 pub left_index : (i : ℕ) {xs ys zs : List Effect} → IsMerge xs ys zs → Contains (indices_of xs) i →
     Contains (indices_of zs) i
@@ -295,7 +296,7 @@ left_only hs i e b c at kind differ (right {y} {xs} {ys} {zs} m) effects kinds h
     by (inr found) again = again found
 
 pub other_kind : (hs : List Observation) (x y : Effect) → IsEffectOf hs x → IsEffectOf hs y →
-    is_lock_call x.entry.call ≡ true → is_lock_call y.entry.call ≡ false → AreApart x y
+    is_lock_call x.entry.call ≡ true → is_lock_call y.entry.call ≡ false → AreOfTwoEntries x y
 other_kind hs x y x_is y_is lock guarded same =
     let it : x.entry ≡ y.entry = same_Some x.entry y.entry (sym x_is.is_entry ∙ ap (λ (k : ℕ). slice_get hs k) same ∙
     y_is.is_entry) in

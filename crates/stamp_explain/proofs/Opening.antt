@@ -17,17 +17,17 @@ use Rattle.stamp_explain.specs.Observed.{ObservedHistory, IsBefore, IsReturnAt}
 use Rattle.stamp_explain.specs.Search.{AreReturns, AreInOrder, ReturnsNoLater, StandsBefore}
 use Rattle.stamp_explain.specs.Timeline.{IsOpenAt, AreOpen, IsTimeline}
 use Rattle.stamp_explain.specs.TimelineKeys.{AreKeys, AreRising, AreRanked, AreRanks, AreTimelineKeys, AreOpens}
-use Rattle.stamp_explain.specs.TimelineKeys.{IsKeptOpen, AreKept}
-use Rattle.stamp_explain.specs.TimelineKeys.{IsBegun, BeginsMore, EndsAt, BeginsAt, key_indices}
+use Rattle.stamp_explain.specs.TimelineKeys.{IsOpenKey, AreOpenKeys}
+use Rattle.stamp_explain.specs.TimelineKeys.{IsBegun, BeginsMore, ReturnsAt, BeginsAt, key_indices}
 use Rattle.stamp_explain.proofs.Lists.{none_in_empty, contains_cases, contains_first, contains_rest}
 use Rattle.stamp_explain.proofs.Ending.{pair_cmp, sorted_rise}
-use Rattle.stamp_explain.proofs.AddingUnseen.{read_last}
+use Rattle.stamp_explain.proofs.AddingNew.{read_last}
 use Rattle.stamp_explain.proofs.Keyed.{indices_once, rising_has, rising_from, index_pairs, key_of_index, index_of_key}
 use Rattle.stamp_explain.proofs.Keyed.{earlier_or_last}
 
 -- the returned calls in the order of their returns
 pub returns_in_order : (h : ObservedHistory) (keys sorted : List (ℕ × ℕ)) →
-    AreKeys EndsAt h.entries (length h.entries) keys → AreRising keys sorted →
+    AreKeys ReturnsAt h.entries (length h.entries) keys → AreRising keys sorted →
     AreReturns h.entries (key_indices sorted)
 returns_in_order h keys sorted are rises = record {
   each = λ k d lt. return_at (get_or (key_indices sorted) k d) (key_of_index sorted (get_or (key_indices sorted) k d)
@@ -38,12 +38,12 @@ returns_in_order h keys sorted are rises = record {
       (ends p has_p) (ends q has_q) at_a at_b) rises.rising;
 }
   where
-    ends : (p : ℕ × ℕ) → Contains sorted p → (e : Observation) × ((slice_get h.entries p.1 ≡ Some e) × EndsAt e p.0)
+    ends : (p : ℕ × ℕ) → Contains sorted p → (e : Observation) × ((slice_get h.entries p.1 ≡ Some e) × ReturnsAt e p.0)
     ends p has = are.each p (rising_from keys sorted p rises has)
 
     return_at : (i : ℕ) → (n : ℕ) × Contains sorted (n, i) → IsReturnAt h.entries i
     return_at i (n, has) =
-        let found : (e : Observation) × ((slice_get h.entries i ≡ Some e) × EndsAt e n) = ends (n, i) has in
+        let found : (e : Observation) × ((slice_get h.entries i ≡ Some e) × ReturnsAt e n) = ends (n, i) has in
         record { entry = found.0; return = found.1.1.0; is_entry = found.1.0; returned = found.1.1.1.0 }
 
     no_later : (q r : Returned) (a b : Option Returned) → a ≡ Some q → b ≡ Some r → q.last ≤ r.last →
@@ -58,8 +58,8 @@ returns_in_order h keys sorted are rises = record {
     )
 
     later : (p q : ℕ × ℕ) → p.0 ≤ q.0 → (a b : Observation) →
-        (e : Observation) × ((slice_get h.entries p.1 ≡ Some e) × EndsAt e p.0) →
-        (e : Observation) × ((slice_get h.entries q.1 ≡ Some e) × EndsAt e q.0) → slice_get h.entries p.1 ≡ Some a →
+        (e : Observation) × ((slice_get h.entries p.1 ≡ Some e) × ReturnsAt e p.0) →
+        (e : Observation) × ((slice_get h.entries q.1 ≡ Some e) × ReturnsAt e q.0) → slice_get h.entries p.1 ≡ Some a →
         slice_get h.entries q.1 ≡ Some b → ReturnsNoLater a b
     later p q le a b (e, (at_e, (x, (has_x, last_x)))) (f, (at_f, (y, (has_y, last_y)))) at_a at_b =
         no_later x y a.returned b.returned
@@ -78,9 +78,9 @@ indices_inside Has entries keys sorted are rises = λ k d lt. inside (get_or (ke
     inside i (n, has) = are.below (n, i) (rising_from keys sorted (n, i) rises has)
 
 -- no call has begun before the first return
-pub none_kept : (entries : List Observation) (ends begins : List (ℕ × ℕ)) (ranks : List ℕ) →
-    AreKept entries ends begins ranks 0 0 []
-none_kept entries ends begins ranks = record {
+pub none_open : (entries : List Observation) (ends begins : List (ℕ × ℕ)) (ranks : List ℕ) →
+    AreOpenKeys entries ends begins ranks 0 0 []
+none_open entries ends begins ranks = record {
   inside = omega arith;
   each = λ p has. absurd (none_in_empty p has);
   whole = λ k d lt. absurd (omega (arith, lt));
@@ -93,7 +93,7 @@ last_is : (h : ObservedHistory) (ends begins : List (ℕ × ℕ)) (ranks : List 
     (r.last ≡ (get_or ends k d).0))
 last_is h ends begins ranks k d a is lt at =
     let found : (e : Observation) × ((slice_get h.entries (get_or ends k d).1 ≡ Some e) ×
-    EndsAt e (get_or ends k d).0) = is.ends_are.each (get_or ends k d)
+    ReturnsAt e (get_or ends k d).0) = is.ends_are.each (get_or ends k d)
     (rising_from is.end_keys ends (get_or ends k d) is.ends_rise (Contains-get_or ends k d lt)) in
     let same : found.0 ≡ a = same_Some found.0 a (sym found.1.0 ∙ at) in
     (found.1.1.0, (ap (λ (o : Observation). o.returned) (sym same) ∙ found.1.1.1.0, found.1.1.1.1))
@@ -113,7 +113,7 @@ pub record BeginsTo (begins : List (ℕ × ℕ)) (ranks : List ℕ) (last from t
   where
     pub further : from ≤ to
     pub only : (p : ℕ × ℕ) → Contains new p → Contains old p ⊎ IsBegun begins ranks last p
-    pub before : (p : ℕ × ℕ) → Contains old p → Contains new p
+    pub still : (p : ℕ × ℕ) → Contains old p → Contains new p
     pub whole : (k : ℕ) (d : ℕ × ℕ) → from ≤ k → k < to →
         Contains new (get_or ranks (get_or begins k d).1 0, (get_or begins k d).1)
 
@@ -122,7 +122,7 @@ pub begins_none : (begins : List (ℕ × ℕ)) (ranks : List ℕ) (last from : �
 begins_none begins ranks last from old = record {
   further = omega arith;
   only = λ p has. inl has;
-  before = λ p has. has;
+  still = λ p has. has;
   whole = λ k d le lt. absurd (omega (arith, le, lt));
 }
 
@@ -133,7 +133,7 @@ pub begins_one : (begins : List (ℕ × ℕ)) (ranks : List ℕ) (last from k : 
 begins_one begins ranks last from k old new c rank is lt by_then ranked = record {
   further = omega (arith, is.further);
   only = λ p has. only p (Contains-push_cases new (rank, key.1) p has);
-  before = λ p has. Contains-append_left new ((rank, key.1) ∷ []) p (is.before p has);
+  still = λ p has. Contains-append_left new ((rank, key.1) ∷ []) p (is.still p has);
   whole = λ j d le less. whole j d le (earlier_or_last j k less);
 }
   where
@@ -169,7 +169,7 @@ begins_end begins ranks last from to old new is inside ends = record {
   further = is.further;
   ends = ends;
   only = is.only;
-  before = is.before;
+  still = is.still;
   whole = is.whole;
 }
 
@@ -206,19 +206,19 @@ kept_has {X} test (y ∷ xs) x has is = by (test y) refl (contains_cases y xs x 
 abbrev pub is_left : ℕ → ℕ × ℕ → Bool
 is_left past p = nat_le past p.0
 
--- what one more return makes of the calls that are kept
+-- what one more return makes of the calls that are open
 pub record OpensAt (h : ObservedHistory) (ends begins : List (ℕ × ℕ)) (ranks : List ℕ) (k to : ℕ)
     (sorted : List (ℕ × ℕ)) : Type 0 where
-  pub kept : AreKept h.entries ends begins ranks (k + 1) to sorted
+  pub keys : AreOpenKeys h.entries ends begins ranks (k + 1) to sorted
   pub calls : AreOpen h (key_indices ends) k (key_indices sorted)
 
 pub opens_at : (h : ObservedHistory) (ends begins : List (ℕ × ℕ)) (ranks : List ℕ) (k from to : ℕ) (c : ℕ × ℕ)
     (old more sorted : List (ℕ × ℕ)) → AreTimelineKeys h ends begins ranks → k < length ends →
-    AreKept h.entries ends begins ranks k from old → BeginsMore begins ranks (get_or ends k c).0 from to old more →
+    AreOpenKeys h.entries ends begins ranks k from old → BeginsMore begins ranks (get_or ends k c).0 from to old more →
     IsPermutation (filter (is_left k) more) sorted → IsSorted pair_cmp sorted →
     OpensAt h ends begins ranks k to sorted
-opens_at h ends begins ranks k from to c old more sorted is lt kept begins_more moved orders = record {
-  kept = record {
+opens_at h ends begins ranks k from to c old more sorted is lt keys begins_more moved orders = record {
+  keys = record {
     inside = begins_more.inside;
     each = λ p has. later p (of_more p (from_sorted p has).0);
     whole = λ j d less le. to_sorted (rank_of j d, (get_or begins j d).1) (begun_in j d less (omega (arith, le)))
@@ -262,11 +262,11 @@ opens_at h ends begins ranks k from to c old more sorted is lt kept begins_more 
       ap (λ (p : ℕ × ℕ). p.0) (same_ends k c d lt),
     )
 
-    of_more : (p : ℕ × ℕ) → Contains more p → IsKeptOpen h.entries ends ranks k p
+    of_more : (p : ℕ × ℕ) → Contains more p → IsOpenKey h.entries ends ranks k p
     of_more p has = which (begins_more.only p has)
       where
-        which : Contains old p ⊎ IsBegun begins ranks end p → IsKeptOpen h.entries ends ranks k p
-        which (inl was) = kept.each p was
+        which : Contains old p ⊎ IsBegun begins ranks end p → IsOpenKey h.entries ends ranks k p
+        which (inl was) = keys.each p was
         which (inr begun) =
             let found : (e : Observation) × ((slice_get h.entries p.1 ≡ Some e) × BeginsAt e begun.first) =
             is.begins_are.each (begun.first, p.1)
@@ -278,7 +278,7 @@ opens_at h ends begins ranks k from to c old more sorted is lt kept begins_more 
               begun = λ m d le less. omega (arith, found.1.1, begun.by_then, rise m d le less);
             }
 
-    later : (p : ℕ × ℕ) → IsKeptOpen h.entries ends ranks k p → IsKeptOpen h.entries ends ranks (k + 1) p
+    later : (p : ℕ × ℕ) → IsOpenKey h.entries ends ranks k p → IsOpenKey h.entries ends ranks (k + 1) p
     later p it = record {
       entry = it.entry;
       is_entry = it.is_entry;
@@ -293,7 +293,7 @@ opens_at h ends begins ranks k from to c old more sorted is lt kept begins_more 
         cases j n = grind arith
 
         which : (j < from) ⊎ (from ≤ j) → Contains more (rank_of j d, (get_or begins j d).1)
-        which (inl sooner) = begins_more.before (rank_of j d, (get_or begins j d).1) (kept.whole j d sooner le)
+        which (inl sooner) = begins_more.still (rank_of j d, (get_or begins j d).1) (keys.whole j d sooner le)
         which (inr after) = begins_more.whole j d after less
 
     many : length (key_indices ends) ≡ length ends
@@ -302,7 +302,7 @@ opens_at h ends begins ranks k from to c old more sorted is lt kept begins_more 
     calls : (i : ℕ) → (n : ℕ) × Contains sorted (n, i) → IsOpenAt h (key_indices ends) k i
     calls i (n, has) =
         let found : Contains more (n, i) × (k ≤ n) = from_sorted (n, i) has in
-        let it : IsKeptOpen h.entries ends ranks k (n, i) = of_more (n, i) found.0 in
+        let it : IsOpenKey h.entries ends ranks k (n, i) = of_more (n, i) found.0 in
         record {
           entry = it.entry;
           is_entry = it.is_entry;
@@ -326,15 +326,15 @@ opens_at h ends begins ranks k from to c old more sorted is lt kept begins_more 
           subst (λ (o : Option Returned). MatchOption o ⊥ (λ (x : Returned). x.last < e.first)) has before,
         ))
 
-    -- of two calls that are kept the one with the lesser rank returned sooner
+    -- of two calls that are open the one with the lesser rank returned sooner
     no_sooner : (p q : ℕ × ℕ) → Contains sorted p → Contains sorted q → p.0 ≤ q.0 → (m : ℕ) →
         Contains (take m (key_indices ends)) q.1 → ¬ Contains (take m (key_indices ends)) p.1 → ⊥
     no_sooner p q has_p has_q le m first later = by (which m (length (key_indices ends)))
       where
-        of_p : IsKeptOpen h.entries ends ranks k p
+        of_p : IsOpenKey h.entries ends ranks k p
         of_p = of_more p (from_sorted p has_p).0
 
-        of_q : IsKeptOpen h.entries ends ranks k q
+        of_q : IsOpenKey h.entries ends ranks k q
         of_q = of_more q (from_sorted q has_q).0
 
         which : (m n : ℕ) → (m ≤ n) ⊎ (n < m)
@@ -397,7 +397,7 @@ opens_at h ends begins ranks k from to c old more sorted is lt kept begins_more 
             (to_sorted (rank_of j key, (get_or begins j key).1) (begun_in j key less le) le))
         which (inr after) =
             let a : (e : Observation) × ((slice_get h.entries (get_or ends k c).1 ≡ Some e) ×
-            EndsAt e (get_or ends k c).0) = is.ends_are.each (get_or ends k c)
+            ReturnsAt e (get_or ends k c).0) = is.ends_are.each (get_or ends k c)
             (rising_from is.end_keys ends (get_or ends k c) is.ends_rise (Contains-get_or ends k c lt)) in
             let less : end < it.entry.first = omega (
               arith,
@@ -435,13 +435,13 @@ opens_more h returns opens v k are many calls = record {
 
 -- what the lists are made of
 pub all_keys_are : (h : ObservedHistory) (es : List Observation) (end_keys ends begin_keys begins : List (ℕ × ℕ))
-    (ranks : List ℕ) → es ≡ h.entries → AreKeys EndsAt es (length es) end_keys → AreRising end_keys ends →
+    (ranks : List ℕ) → es ≡ h.entries → AreKeys ReturnsAt es (length es) end_keys → AreRising end_keys ends →
     AreKeys BeginsAt es (length es) begin_keys → AreRising begin_keys begins →
     AreRanked (length es) (key_indices ends) (length (key_indices ends)) ranks → AreTimelineKeys h ends begins ranks
 all_keys_are h es end_keys ends begin_keys begins ranks same ends_are ends_rise begins_are begins_rise ranked =
     record {
       end_keys = end_keys;
-      ends_are = subst (λ (xs : List Observation). AreKeys EndsAt xs (length xs) end_keys) same ends_are;
+      ends_are = subst (λ (xs : List Observation). AreKeys ReturnsAt xs (length xs) end_keys) same ends_are;
       ends_rise = ends_rise;
       begin_keys = begin_keys;
       begins_are = subst (λ (xs : List Observation). AreKeys BeginsAt xs (length xs) begin_keys) same begins_are;
@@ -454,12 +454,12 @@ all_keys_are h es end_keys ends begin_keys begins ranks same ends_are ends_rise 
 
 -- and all of it is a timeline
 pub timeline_is_made : (h : ObservedHistory) (timeline : Timeline) (keys ends : List (ℕ × ℕ)) (es : List Observation) →
-    es ≡ h.entries → AreKeys EndsAt es (length es) keys → AreRising keys ends →
+    es ≡ h.entries → AreKeys ReturnsAt es (length es) keys → AreRising keys ends →
     timeline.returns.items ≡ key_indices ends → length timeline.opens.items ≡ length ends →
     AreOpens h (key_indices ends) timeline.opens.items → IsTimeline h timeline
 timeline_is_made h timeline keys ends es same are rises returns many opens = record {
   are = subst (AreReturns h.entries) (sym returns) (returns_in_order h keys ends
-      (subst (λ (xs : List Observation). AreKeys EndsAt xs (length xs) keys) same are) rises);
+      (subst (λ (xs : List Observation). AreKeys ReturnsAt xs (length xs) keys) same are) rises);
   once = subst (AllPairs (λ (i j : ℕ). i ≢ j)) (sym returns) (indices_once keys ends rises are.once);
   many = many ∙ sym (indices_many ends) ∙ ap (λ (xs : List ℕ). length xs) (sym returns);
   opens = λ k calls at. subst (λ (xs : List ℕ). AreOpen h xs k calls.items) (sym returns) (opens.each k calls at);

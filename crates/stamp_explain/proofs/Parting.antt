@@ -16,7 +16,7 @@ use Rattle.stamp_core.specs.History.{Replies, IsLegalFrom, appended_by, IsLegal}
 use Rattle.stamp_explain.specs.declared.observed.Observation.{Observation}
 use Rattle.stamp_explain.specs.Observed.{ObservedHistory, IsObserved, IsInterval, DoNotOverlap, HasReturned}
 use Rattle.stamp_explain.specs.Observed.{is_of_lock, is_of_record}
-use Rattle.stamp_explain.specs.Explained.{Effect, IsEffectOf, history_of, indices_of, AreApart, RespectsBefore}
+use Rattle.stamp_explain.specs.Explained.{Effect, IsEffectOf, history_of, indices_of, AreOfTwoEntries, RespectsBefore}
 use Rattle.stamp_explain.specs.Explained.{IsExplained, IsExplainedBy}
 use Rattle.stamp_explain.specs.Search.{Runs, LockAlone, RecordAlone, CanComplete, IsReturnOf, AreReturnsOf}
 use Rattle.stamp_explain.specs.ExplainLaws.{JudgedApart, Locality}
@@ -116,7 +116,7 @@ halves h explained = (
     order = s.locks;
     by = record {
       effects = lock_effects;
-      once = left_pairs AreApart s.merge explained.by.once;
+      once = left_pairs AreOfTwoEntries s.merge explained.by.once;
       ordered = left_pairs RespectsBefore s.merge explained.by.ordered;
       legal = lock_legal h s.locks s.lock_runs;
     };
@@ -128,7 +128,7 @@ halves h explained = (
     order = s.records;
     by = record {
       effects = record_effects;
-      once = left_pairs AreApart flip explained.by.once;
+      once = left_pairs AreOfTwoEntries flip explained.by.once;
       ordered = left_pairs RespectsBefore flip explained.by.ordered;
       legal = record_legal h s.records s.record_runs;
     };

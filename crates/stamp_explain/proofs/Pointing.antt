@@ -6,13 +6,13 @@ use Rattle.std.specs.List.{All, AllPairs, AllZip, AllAdjacentBelow, Contains}
 use Rattle.std.proofs.lemmas.List.Elements.{All-nil, All-cons, All-head, All-tail, All-weaker}
 use Rattle.stamp_core.specs.Limits.{Bounds}
 use Rattle.stamp_core.specs.History.{History, IsLegal}
-use Rattle.stamp_core.specs.Linearized.{IsWithin, history_of as entries_history}
+use Rattle.stamp_core.specs.Linearized.{HasPointInside, history_of as entries_history}
 use Rattle.stamp_core.specs.declared.entry.Entry.{Entry}
 use Rattle.stamp_core.specs.declared.call.Call.{Call}
 use Rattle.stamp_explain.specs.declared.observed.Observation.{Observation}
 use Rattle.stamp_explain.specs.declared.observed.Returned.{Returned}
 use Rattle.stamp_explain.specs.Observed.{IsBefore}
-use Rattle.stamp_explain.specs.Explained.{Effect, IsEffectOf, history_of, indices_of, AreApart, RespectsBefore}
+use Rattle.stamp_explain.specs.Explained.{Effect, IsEffectOf, history_of, indices_of, AreOfTwoEntries, RespectsBefore}
 use Rattle.stamp_explain.specs.Points.{IsEntryOf}
 use Rattle.stamp_explain.specs.ExplainLaws.{PointsExplain}
 use Rattle.stamp_explain.proofs.Lists.{pairs_none, pairs_cons, pairs_head, pairs_tail}
@@ -71,7 +71,7 @@ may_of hs i e is = record { is_entry = is.is_entry; replies = by is.observed.ret
 
 -- a later point is of a call that had not returned when the earlier one began
 respects : (hs : List Observation) (i j : ℕ) (e f : Entry) (is : IsEntryOf hs i e) (js : IsEntryOf hs j f) →
-    IsWithin e → IsWithin f → e.point < f.point → ¬ IsBefore js.observed is.observed
+    HasPointInside e → HasPointInside f → e.point < f.point → ¬ IsBefore js.observed is.observed
 respects hs i j e f is js e_in f_in rising before = by js.observed.returned js.returned before
   where
     by : (o : Option Returned) → MatchOption o (Unit {0}) (λ (r : Returned). (f.reply ≡ r.reply) ×
@@ -80,7 +80,7 @@ respects hs i j e f is js e_in f_in rising before = by js.observed.returned js.r
     by (Some r) h before = omega (arith, h.1, is.first, e_in.begun, f_in.ended, rising, before)
 
 record IsLater (e f : Entry) : Type 0 where
-  within : IsWithin f
+  within : HasPointInside f
   rising : e.point < f.point
 
 adjacent_tail : (e : Entry) (es : List Entry) → AllAdjacentBelow (λ (e f : Entry). e.point < f.point) (e ∷ es)
@@ -92,13 +92,14 @@ adjacent_tail e es all k d lt = let more : suc k + 1 < length (e ∷ es) = omega
     at k less = let same : suc k + 1 ≡ suc (k + 1) = omega arith in
         subst (λ (n : ℕ). (get_or es k d).point < (get_or (e ∷ es) n d).point) same less
 
-all_later : (e : Entry) (es : List Entry) → All IsWithin es →
+all_later : (e : Entry) (es : List Entry) → All HasPointInside es →
     AllAdjacentBelow (λ (e f : Entry). e.point < f.point) (e ∷ es) (length (e ∷ es)) → All (IsLater e) es
 all_later e [] within all = All-nil (IsLater e)
 all_later e (f ∷ es) within all =
     let less : e.point < f.point = all 0 e (omega arith) in
-    let rest : All (IsLater f) es = all_later f es (All-tail IsWithin f es within) (adjacent_tail e (f ∷ es) all) in
-    All-cons (IsLater e) f es (record { within = All-head IsWithin f es within; rising = less })
+    let rest : All (IsLater f) es = all_later f es (All-tail HasPointInside f es within)
+    (adjacent_tail e (f ∷ es) all) in
+    All-cons (IsLater e) f es (record { within = All-head HasPointInside f es within; rising = less })
     (All-weaker (IsLater f) (IsLater e) (λ g later. record {
       within = later.within;
       rising =
@@ -106,7 +107,7 @@ all_later e (f ∷ es) within all =
     }) es rest)
 
 all_respect : (hs : List Observation) (is : List ℕ) (es : List Entry) (z : AllZip (IsEntryOf hs) is es) →
-    All IsWithin es → AllAdjacentBelow (λ (e f : Entry). e.point < f.point) es (length es) →
+    All HasPointInside es → AllAdjacentBelow (λ (e f : Entry). e.point < f.point) es (length es) →
     AllPairs RespectsBefore (order_of hs is es z)
 unfolding order_of effect_of
 all_respect hs [] [] z within rising = pairs_none RespectsBefore
@@ -115,19 +116,19 @@ all_respect hs (i ∷ is) [] z within rising = absurd z
 all_respect hs (i ∷ is) (e ∷ es) z within rising =
     pairs_cons RespectsBefore (effect_of hs i e z.0) (order_of hs is es z.1)
     (each_effect hs (λ (j : ℕ). Unit {0}) (IsLater e) (RespectsBefore (effect_of hs i e z.0))
-    (λ j f js _ later. respects hs i j e f z.0 js (All-head IsWithin e es within) later.within later.rising) is es
-    z.1 (anything is) (all_later e es (All-tail IsWithin e es within) rising))
-    (all_respect hs is es z.1 (All-tail IsWithin e es within) (adjacent_tail e es rising))
+    (λ j f js _ later. respects hs i j e f z.0 js (All-head HasPointInside e es within) later.within later.rising) is es
+    z.1 (anything is) (all_later e es (All-tail HasPointInside e es within) rising))
+    (all_respect hs is es z.1 (All-tail HasPointInside e es within) (adjacent_tail e es rising))
 
 all_apart : (hs : List Observation) (is : List ℕ) (es : List Entry) (z : AllZip (IsEntryOf hs) is es) →
-    AllPairs (λ (i j : ℕ). i ≢ j) is → AllPairs AreApart (order_of hs is es z)
+    AllPairs (λ (i j : ℕ). i ≢ j) is → AllPairs AreOfTwoEntries (order_of hs is es z)
 unfolding order_of effect_of
-all_apart hs [] [] z once = pairs_none AreApart
+all_apart hs [] [] z once = pairs_none AreOfTwoEntries
 all_apart hs [] (e ∷ es) z once = absurd z
 all_apart hs (i ∷ is) [] z once = absurd z
 all_apart hs (i ∷ is) (e ∷ es) z once =
-    pairs_cons AreApart (effect_of hs i e z.0) (order_of hs is es z.1)
-    (each_effect hs (λ (j : ℕ). i ≢ j) (λ (f : Entry). Unit {0}) (AreApart (effect_of hs i e z.0))
+    pairs_cons AreOfTwoEntries (effect_of hs i e z.0) (order_of hs is es z.1)
+    (each_effect hs (λ (j : ℕ). i ≢ j) (λ (f : Entry). Unit {0}) (AreOfTwoEntries (effect_of hs i e z.0))
     (λ j f js apart _. apart) is es z.1 (pairs_head (λ (i j : ℕ). i ≢ j) i is once) (anything es))
     (all_apart hs is es z.1 (pairs_tail (λ (i j : ℕ). i ≢ j) i is once))
 

@@ -15,10 +15,10 @@ use Rattle.stamp_core.specs.declared.call.Call.TheVariants.{IsWriteLocked, IsRea
 use Rattle.stamp_core.specs.declared.reply.Reply.{Reply}
 use Rattle.stamp_explain.specs.declared.observed.Observation.{Observation}
 use Rattle.stamp_explain.specs.declared.observed.Returned.{Returned}
-use Rattle.stamp_explain.specs.Unchanging.{changes_nothing, is_question, open_question_by, is_open_question}
+use Rattle.stamp_explain.specs.Unchanging.{changes_nothing, is_question, question_under_way_by, is_question_under_way}
 use Rattle.stamp_explain.specs.Explained.{Effect, IsEffectOf, history_of, indices_of}
 use Rattle.stamp_explain.specs.Search.{LockState, StateTransition, Runs}
-use Rattle.stamp_explain.specs.ExplainLaws.{OpenQuestionsAreNotNeeded}
+use Rattle.stamp_explain.specs.ExplainLaws.{QuestionsUnderWayAreNotNeeded}
 use Rattle.stamp_explain.specs.Observed.{IsReturnAt}
 use Rattle.stamp_explain.proofs.Lists.{contains_cases, contains_rest}
 use Rattle.stamp_explain.proofs.Searching.{CompletesIn}
@@ -50,11 +50,12 @@ question_changes_nothing call reply asks = by call asks
     by (Put words) asks = absurd (false≢true asks)
     by (PutIf expected words) asks = absurd (false≢true asks)
 
--- an open question is under way, and is one
-open_question : (e : Observation) → is_open_question e ≡ true → (e.returned ≡ None) × (is_question e.call ≡ true)
-open_question e asks = by e.returned refl asks
+-- a question under way is under way, and is one
+question_under_way : (e : Observation) → is_question_under_way e ≡ true →
+    (e.returned ≡ None) × (is_question e.call ≡ true)
+question_under_way e asks = by e.returned refl asks
   where
-    by : (o : Option Returned) → e.returned ≡ o → open_question_by e.call o ≡ true →
+    by : (o : Option Returned) → e.returned ≡ o → question_under_way_by e.call o ≡ true →
         (e.returned ≡ None) × (is_question e.call ≡ true)
     by None at asks = (at, asks)
     by (Some r) at asks = absurd (false≢true asks)
@@ -62,7 +63,7 @@ open_question e asks = by e.returned refl asks
 -- what an order completes after a question under way, it completes without it
 pub without_question : (limits : Bounds) (entries : List Observation) (returns : List ℕ) (s u : LockState)
     (taken : List ℕ) (x : Effect) (left : ℕ) → All (IsReturnAt entries) returns → IsEffectOf entries x →
-    StateTransition limits s (x.entry.call, x.reply) u → is_open_question x.entry ≡ true →
+    StateTransition limits s (x.entry.call, x.reply) u → is_question_under_way x.entry ≡ true →
     CompletesIn (StateTransition limits) entries returns u (x.index ∷ taken) left →
     CompletesIn (StateTransition limits) entries returns s taken left
 without_question limits entries returns s u taken x left are effect steps asks can = record {
@@ -79,7 +80,7 @@ without_question limits entries returns s u taken x left are effect steps asks c
 }
   where
     question : (x.entry.returned ≡ None) × (is_question x.entry.call ≡ true)
-    question = open_question x.entry asks
+    question = question_under_way x.entry asks
 
     same : u ≡ s
     same = unchanging_calls_change_nothing limits x.entry.call x.reply s u
@@ -99,8 +100,8 @@ without_question limits entries returns s u taken x left are effect steps asks c
         by (inl is) = absurd (apart i at is)
         by (inr rest) = inl rest
 
-pub open_questions_are_not_needed : OpenQuestionsAreNotNeeded
-open_questions_are_not_needed limits entries to_come s t taken x are effect asks steps can =
+pub questions_under_way_are_not_needed : QuestionsUnderWayAreNotNeeded
+questions_under_way_are_not_needed limits entries to_come s t taken x are effect asks steps can =
     let left : CompletesIn (StateTransition limits) entries to_come s taken (length to_come + length can.rest) =
     without_question limits entries to_come s t taken x (length to_come + length can.rest) are effect steps asks
     (record { rest = can.rest; by = can.by; moves = refl }) in

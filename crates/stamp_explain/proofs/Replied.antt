@@ -42,7 +42,7 @@ one_reply_at h bits put s t call reply range at there is =
 -- a call that has returned got the reply of its return
 pub replied : (h : ObservedHistory) (node : Node) (i : ℕ) (e : Observation) (returned : Returned) →
     AreInRange h.limits → IsLedBy h node i → slice_get h.entries i ≡ Some e → e.returned ≡ Some returned →
-    RepliesAt h node (record { entry = i; reply = returned.reply })
+    RepliesAt h node (record { index = i; reply = returned.reply })
 replied h node i e returned range led is_entry at f s is there =
     let same : led.effect.entry ≡ f = same_Some led.effect.entry f
     (sym led.is_effect.is_entry ∙ ap (λ (k : ℕ). slice_get h.entries k) led.index ∙ is) in
@@ -59,7 +59,7 @@ replied h node i e returned range led is_entry at f s is there =
 -- the same, where the entry is read
 pub replied_read : (h : ObservedHistory) (node : Node) (i : ℕ) (read : List Observation) (e : Observation)
     (returned : Returned) → AreInRange h.limits → IsLedBy h node i → read ≡ h.entries → e ≡ get_or read i e →
-    e.returned ≡ Some returned → RepliesAt h node (record { entry = i; reply = returned.reply })
+    e.returned ≡ Some returned → RepliesAt h node (record { index = i; reply = returned.reply })
 replied_read h node i read e returned range led same is at =
     let there : slice_get h.entries i ≡ Some led.effect.entry =
     ap (λ (k : ℕ). slice_get h.entries k) (sym led.index) ∙ led.is_effect.is_entry in

@@ -15,8 +15,8 @@ use Rattle.stamp_explain.specs.Observed.{ObservedHistory, IsObserved, IsInterval
 use Rattle.stamp_explain.specs.Explained.{IsExplained}
 use Rattle.stamp_explain.specs.Cut.{cut_after, seen_at}
 use Rattle.stamp_explain.specs.declared.found.SearchEnd.{SearchEnd}
-use Rattle.stamp_explain.specs.declared.found.SearchEnd.TheVariants.{Linearization, Nothing, Undecided}
-use Rattle.stamp_explain.specs.Configuration.{IsGivenUp}
+use Rattle.stamp_explain.specs.declared.found.SearchEnd.TheVariants.{Linearization, Nothing, GaveUp}
+use Rattle.stamp_explain.specs.Configuration.{GivesUpApart}
 use Rattle.stamp_explain.specs.Expand.{IsFoundApart}
 use Rattle.stamp_explain.specs.Possible.{IsPossible, IsUndecidedAtReply, returned_with, with_reply}
 use Rattle.stamp_explain.proofs.Seeing.{seen_explains_as_much}
@@ -25,7 +25,7 @@ use Rattle.stamp_explain.proofs.Seeing.{seen_explains_as_much}
 abbrev pub Tells : ObservedHistory → ℕ → ℕ → Reply → SearchEnd → Type 0
 Tells h i most reply (Linearization order) = IsPossible h i reply
 Tells h i most reply Nothing = ¬ IsPossible h i reply
-Tells h i most reply Undecided = IsUndecidedAtReply h i most reply
+Tells h i most reply GaveUp = IsUndecidedAtReply h i most reply
 
 -- they returned at one position, or neither did
 unfoldable pub IsAlikeBy : Option Returned → Option Returned → Type 0
@@ -173,9 +173,9 @@ found_tells h seen i most e r reply at returned is (Linearization order) same fo
     (subst IsExplained same (record { order = found.order; by = found.explains }))
 found_tells h seen i most e r reply at returned is Nothing same found = λ possible.
     found (subst IsExplained (sym same) (possible_is_seen h i e r reply at returned is possible))
-found_tells h seen i most e r reply at returned is Undecided same found = record {
+found_tells h seen i most e r reply at returned is GaveUp same found = record {
   at = record { entry = e; return = r; is_entry = at; returned = returned };
-  gives_up = subst (λ (o : ObservedHistory). IsGivenUp o most) same found;
+  gives_up = subst (λ (o : ObservedHistory). GivesUpApart o most) same found;
 }
 
 -- whether a call that has returned is read

@@ -1,4 +1,4 @@
--- What a search with a store of nodes that it has seen keeps: nothing is lost while some node waits.
+-- What a search with a store of nodes that it has visited keeps: nothing is lost while some node waits.
 use Rattle.std.proofs.Common.{◌≡◌, ◌⊎◌, ℕ, ◌+◌, ◌<◌, ◌≤◌, zero, suc, List, ◌∷◌, length, refl, subst, inl}
 use Rattle.std.proofs.Common.{inr, arith}
 use Rattle.std.specs.List.{Contains}
@@ -11,7 +11,7 @@ use Rattle.stamp_explain.specs.Explained.{Effect}
 use Rattle.stamp_explain.specs.Search.{IsCompletedBy, MayTake, LockState, StateTransition}
 use Rattle.stamp_explain.proofs.Lists.{either_in}
 use Rattle.stamp_explain.proofs.Completing.{IsAwaited, past_return}
-use Rattle.stamp_explain.proofs.Swapping.{TakesAlike, takes_alike}
+use Rattle.stamp_explain.proofs.Swapping.{TakesOfOneObject, takes_of_one_object}
 
 -- an order completes it, in so many moves: returns and calls that take effect
 pub record CompletesIn {S : Type 0} (Goes : S → Call × Reply → S →
@@ -33,7 +33,7 @@ pub record GoesOnBy (limits : Bounds) (entries : List Observation) (i : ℕ) (a 
     (s : LockState) (taken : List ℕ) (n : ℕ) : Type 0 where
   pub awaited : ¬ Contains taken i
   pub effect : Effect
-  pub alike : AreOfOneObject a effect.entry
+  pub object : AreOfOneObject a effect.entry
   pub state : LockState
   pub may : MayTake (StateTransition limits) entries a s taken effect state
   pub left : ℕ
@@ -60,12 +60,12 @@ goes_on limits entries i a to_come s taken n awaited can = which (either_in take
       };
     })
     which (inr not_yet) =
-        let one : TakesAlike limits entries i a to_come s taken can.rest =
-        takes_alike limits entries i a to_come s taken can.rest awaited not_yet can.by in
+        let one : TakesOfOneObject limits entries i a to_come s taken can.rest =
+        takes_of_one_object limits entries i a to_come s taken can.rest awaited not_yet can.by in
         inr (record {
           awaited = not_yet;
           effect = one.effect;
-          alike = one.alike;
+          object = one.object;
           state = one.state;
           may = one.may;
           left = length (i ∷ to_come) + length one.others;
@@ -89,29 +89,29 @@ pub record Follows {N : Type 0} (Hope : N → ℕ → Type 0) (Next : N → Type
   pub fewer : suc moves ≤ n
   pub hope : Hope node moves
 
--- of each node that was seen and can be completed some waiting node can, in no more moves
-pub record LosesNothing {N : Type 0} (Hope : N → ℕ → Type 0) (Seen Waiting : N → Type 0) : Type 0 where
-  pub kept : (u : N) (n : ℕ) → Seen u → Hope u n → Waits Hope Waiting n
+-- of each node that was visited and can be completed some waiting node can, in no more moves
+pub record LosesNothing {N : Type 0} (Hope : N → ℕ → Type 0) (Visited Waiting : N → Type 0) : Type 0 where
+  pub kept : (u : N) (n : ℕ) → Visited u → Hope u n → Waits Hope Waiting n
 
--- A node is taken from those that wait, and those that come next and were not seen are added to both. Moves
--- grow fewer, so a next node that was seen leads to another than the one taken
-pub node_kept : {N : Type 0} (Hope : N → ℕ → Type 0) (Seen Waiting Next New : N → Type 0) (v : N) →
-    LosesNothing Hope Seen (λ (w : N). (w ≡ v) ⊎ Waiting w) →
+-- A node is taken from those that wait, and those that come next and were not visited are added to both. Moves
+-- grow fewer, so a next node that was visited leads to another than the one taken
+pub node_kept : {N : Type 0} (Hope : N → ℕ → Type 0) (Visited Waiting Next New : N → Type 0) (v : N) →
+    LosesNothing Hope Visited (λ (w : N). (w ≡ v) ⊎ Waiting w) →
     ((n : ℕ) → Hope v n → Follows Hope Next n) →
-    ((w : N) → Next w → Seen w ⊎ New w) →
-    LosesNothing Hope (λ (w : N). Seen w ⊎ New w) (λ (w : N). New w ⊎ Waiting w)
-node_kept {N} Hope Seen Waiting Next New v before expands known = record { kept = all }
+    ((w : N) → Next w → Visited w ⊎ New w) →
+    LosesNothing Hope (λ (w : N). Visited w ⊎ New w) (λ (w : N). New w ⊎ Waiting w)
+node_kept {N} Hope Visited Waiting Next New v before expands known = record { kept = all }
   where
-    bounded : (most : ℕ) (u : N) (n : ℕ) → n < most → Seen u → Hope u n → Waits Hope (λ (w : N). New w ⊎ Waiting w) n
-    bounded zero u n few seen hope = absurd (omega arith)
-    bounded (suc most) u n few seen hope = by (before.kept u n seen hope) (bounded most)
+    bounded : (most : ℕ) (u : N) (n : ℕ) → n < most → Visited u → Hope u n → Waits Hope (λ (w : N). New w ⊎ Waiting w) n
+    bounded zero u n few visited hope = absurd (omega arith)
+    bounded (suc most) u n few visited hope = by (before.kept u n visited hope) (bounded most)
       where
         by : Waits Hope (λ (w : N). (w ≡ v) ⊎ Waiting w) n →
-            ((u : N) (n : ℕ) → n < most → Seen u → Hope u n → Waits Hope (λ (w : N). New w ⊎ Waiting w) n) →
+            ((u : N) (n : ℕ) → n < most → Visited u → Hope u n → Waits Hope (λ (w : N). New w ⊎ Waiting w) n) →
             Waits Hope (λ (w : N). New w ⊎ Waiting w) n
         by waits again = which waits.waiting
           where
-            after : (f : Follows Hope Next waits.moves) → Seen f.node ⊎ New f.node →
+            after : (f : Follows Hope Next waits.moves) → Visited f.node ⊎ New f.node →
                 Waits Hope (λ (w : N). New w ⊎ Waiting w) n
             after f (inr new) = record {
               node = f.node;
@@ -121,9 +121,9 @@ node_kept {N} Hope Seen Waiting Next New v before expands known = record { kept 
                   omega (arith, f.fewer, waits.no_more);
               hope = f.hope;
             }
-            after f (inl seen) =
+            after f (inl visited) =
                 let w : Waits Hope (λ (w : N). New w ⊎ Waiting w) f.moves =
-                again f.node f.moves (omega (arith, f.fewer, waits.no_more)) seen f.hope in
+                again f.node f.moves (omega (arith, f.fewer, waits.no_more)) visited f.hope in
                 record {
                   node = w.node;
                   moves = w.moves;
@@ -147,11 +147,12 @@ node_kept {N} Hope Seen Waiting Next New v before expands known = record { kept 
               hope = waits.hope;
             }
 
-    all : (u : N) (n : ℕ) → Seen u ⊎ New u → Hope u n → Waits Hope (λ (w : N). New w ⊎ Waiting w) n
-    all u n (inl seen) hope = bounded (suc n) u n (omega arith) seen hope
+    all : (u : N) (n : ℕ) → Visited u ⊎ New u → Hope u n → Waits Hope (λ (w : N). New w ⊎ Waiting w) n
+    all u n (inl visited) hope = bounded (suc n) u n (omega arith) visited hope
     all u n (inr new) hope = record { node = u; moves = n; waiting = inl new; no_more = omega arith; hope = hope }
 
--- where none waits, none that was seen can be completed
-pub none_left : {N : Type 0} (Hope : N → ℕ → Type 0) (Seen Waiting : N → Type 0) → LosesNothing Hope Seen Waiting →
-    ((w : N) → ¬ Waiting w) → (u : N) (n : ℕ) → Seen u → ¬ Hope u n
-none_left Hope Seen Waiting keeps none u n seen hope = let w = keeps.kept u n seen hope in none w.node w.waiting
+-- where none waits, none that was visited can be completed
+pub none_left : {N : Type 0} (Hope : N → ℕ → Type 0) (Visited Waiting : N → Type 0) →
+    LosesNothing Hope Visited Waiting → ((w : N) → ¬ Waiting w) → (u : N) (n : ℕ) → Visited u → ¬ Hope u n
+none_left Hope Visited Waiting keeps none u n visited hope =
+    let w = keeps.kept u n visited hope in none w.node w.waiting

@@ -22,7 +22,7 @@ use Rattle.stamp_explain.specs.declared.observed.Observation.{Observation}
 use Rattle.stamp_explain.specs.declared.observed.Returned.{Returned}
 use Rattle.stamp_explain.specs.Observed.{IsSmall, IsLow}
 use Rattle.stamp_explain.specs.Observed.{ObservedHistory, IsBefore, IsObserved, IsInterval, DoNotOverlap, HasReturned}
-use Rattle.stamp_explain.specs.Explained.{Effect, IsEffectOf, history_of, indices_of, AreApart, RespectsBefore}
+use Rattle.stamp_explain.specs.Explained.{Effect, IsEffectOf, history_of, indices_of, AreOfTwoEntries, RespectsBefore}
 use Rattle.stamp_explain.specs.Explained.{IsExplainedBy, IsExplained}
 use Rattle.stamp_explain.proofs.Lists.{pairs_none, pairs_cons, pairs_head, pairs_tail, none_in_empty, contains_cases}
 use Rattle.stamp_explain.proofs.Lists.{contains_first, contains_rest, zip_all, zip_pairs}
@@ -172,7 +172,7 @@ WasReturned ks f order = (k : ℕ) (e : Observation) → slice_get ks k ≡ Some
 -- what explains a history, but for what returned in it
 pub record IsPartOf (h : ObservedHistory) (order : List Effect) : Type 0 where
   pub effects : All (IsEffectOf h.entries) order
-  pub once : AllPairs AreApart order
+  pub once : AllPairs AreOfTwoEntries order
   pub ordered : AllPairs RespectsBefore order
   pub legal : IsLegal h.limits h.width (history_of order)
 
@@ -185,7 +185,7 @@ unfolding moved
 moved_part h ks f back order by each = record {
   effects = All-map (IsEffectOf ks) (moved f) order (λ k d lt. effect (get_or order k d) (by.effects k d lt)
       (each k d lt));
-  once = pairs_map AreApart AreApart (IsMovedTo ks f back) (moved f) order
+  once = pairs_map AreOfTwoEntries AreOfTwoEntries (IsMovedTo ks f back) (moved f) order
       (λ x y x_is y_is apart. still_apart x y x_is y_is apart) each by.once;
   ordered = pairs_map RespectsBefore RespectsBefore (IsMovedTo ks f back) (moved f) order
       (λ x y x_is y_is respects. still_ordered x y respects) each by.ordered;
@@ -195,8 +195,8 @@ moved_part h ks f back order by each = record {
     effect : (x : Effect) → IsEffectOf h.entries x → IsMovedTo ks f back x → IsEffectOf ks (moved f x)
     effect x was is = record { is_entry = is.there; replies = was.replies }
 
-    still_apart : (x y : Effect) → IsMovedTo ks f back x → IsMovedTo ks f back y → AreApart x y →
-        AreApart (moved f x) (moved f y)
+    still_apart : (x y : Effect) → IsMovedTo ks f back x → IsMovedTo ks f back y → AreOfTwoEntries x y →
+        AreOfTwoEntries (moved f x) (moved f y)
     still_apart x y x_is y_is apart same = apart (sym x_is.inverse ∙ ap back same ∙ y_is.inverse)
 
     still_ordered : (x y : Effect) → RespectsBefore x y → RespectsBefore (moved f x) (moved f y)
@@ -564,7 +564,7 @@ leaves_out h last ends explained = parted h (is_early last) (record {
   order = until last explained.order;
   by = record {
     effects = until_all (IsEffectOf h.entries) last explained.order explained.by.effects;
-    once = until_pairs AreApart last explained.order explained.by.once;
+    once = until_pairs AreOfTwoEntries last explained.order explained.by.once;
     ordered = until_pairs RespectsBefore last explained.order explained.by.ordered;
     legal = until_legal h.limits [] (zeros h.width) last explained.order explained.by.legal;
   };

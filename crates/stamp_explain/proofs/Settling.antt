@@ -5,12 +5,13 @@ use Rattle.std.specs.Prelude.{drop, slice_index}
 use Rattle.std.specs.List.{Contains}
 use Rattle.stamp_explain.specs.declared.node.Node.{Node}
 use Rattle.stamp_explain.specs.declared.node.Next.{Next}
-use Rattle.stamp_explain.specs.declared.linearization.Taken.{Taken}
+use Rattle.stamp_explain.specs.declared.linearization.OrderedCall.{OrderedCall}
 use Rattle.stamp_explain.specs.Observed.{ObservedHistory}
 use Rattle.stamp_explain.specs.Search.{IsCompletedBy, StateTransition}
-use Rattle.stamp_explain.specs.Expand.{ComesByReturn, ComesNext, ComesAfter, GoesOn, Hope, IsLed, PassesOne, PassesTo}
+use Rattle.stamp_explain.specs.Expand.{ComesByReturn, ComesByOneMove, ComesNext, GoesOn, Hope, IsLed, PassesOne}
+use Rattle.stamp_explain.specs.Expand.{PassesTo}
 use Rattle.stamp_explain.specs.Expand.{Suffice}
-use Rattle.stamp_explain.specs.Expand.{IsNotInEffect}
+use Rattle.stamp_explain.specs.Expand.{IsSettled}
 use Rattle.stamp_explain.specs.Expand.PassesTo.{passes_none, passes_more}
 use Rattle.stamp_explain.specs.Linearization.{RepliesAt}
 use Rattle.stamp_explain.specs.Node.{IsReached}
@@ -81,37 +82,38 @@ suffices_settled h returns node w next passes suffices n hope =
     only {v} (inr none) = absurd (none_in_empty v none)
 
 pub follows_of : (h : ObservedHistory) (asked : Option ℕ) (returns : List ℕ) (node : Node) (w next : Next) →
-    ComesNext h asked returns node w → PassesTo h returns w.node next.node → next.took ≡ w.took →
-    IsNotInEffect h returns next.node → ComesAfter h asked returns node next
+    ComesByOneMove h asked returns node w → PassesTo h returns w.node next.node → next.took ≡ w.took →
+    IsSettled h returns next.node → ComesNext h asked returns node next
 follows_of h asked returns node w next comes passes took settled = record {
   via = w.node;
-  comes = subst (λ (o : Option ℕ). ComesNext h asked returns node (record { node = w.node; took = o })) (sym took)
+  comes = subst (λ (o : Option ℕ). ComesByOneMove h asked returns node (record { node = w.node; took = o })) (sym took)
       comes;
   passes = passes;
   settled = settled;
 }
 
 -- as much is left where returns were passed
-ends_passes : (h : ObservedHistory) (returns : List ℕ) (v w : Node) (left : List Taken) → PassesTo h returns v w →
+ends_passes : (h : ObservedHistory) (returns : List ℕ) (v w : Node) (left : List OrderedCall) → PassesTo h returns v w →
     Ends h returns w left → Ends h returns v left
 ends_passes h returns v w left passes_none after = after
 ends_passes h returns v w left (passes_more {u} before step) after =
     ends_passes h returns v u left before
     (ends_past h returns u w left (record { inside = step.inside; leads = step.leads }) after)
 
-pub follows_past : (h : ObservedHistory) (returns : List ℕ) (node w : Node) (left : List Taken) →
-    ComesAfter h None returns node (record { node = w; took = None }) → Ends h returns w left →
+pub follows_past : (h : ObservedHistory) (returns : List ℕ) (node w : Node) (left : List OrderedCall) →
+    ComesNext h None returns node (record { node = w; took = None }) → Ends h returns w left →
     Ends h returns node left
 follows_past h returns node w left leads after = ends_past h returns node leads.via left leads.comes
     (ends_passes h returns leads.via w left leads.passes after)
 
-pub follows_call : (h : ObservedHistory) (returns : List ℕ) (node w : Node) (i : ℕ) (one : Taken) (left : List Taken) →
-    ComesAfter h None returns node (record { node = w; took = Some i }) → one.entry ≡ i → RepliesAt h node one →
+pub follows_call : (h : ObservedHistory) (returns : List ℕ) (node w : Node) (i : ℕ) (one : OrderedCall) (left : List
+    OrderedCall) →
+    ComesNext h None returns node (record { node = w; took = Some i }) → one.index ≡ i → RepliesAt h node one →
     Ends h returns w left → Ends h returns node (one ∷ left)
 follows_call h returns node w i one left leads same replies after = ends_call h returns node leads.via i one left
     leads.comes same replies (ends_passes h returns leads.via w left leads.passes after)
 
 pub follows_led : (h : ObservedHistory) (returns : List ℕ) (node w : Node) (took : Option ℕ) →
-    IsReached h None returns node → ComesAfter h None returns node (record { node = w; took = took }) → IsLed h node
+    IsReached h None returns node → ComesNext h None returns node (record { node = w; took = took }) → IsLed h node
     took
 follows_led h returns node w took reached leads = led_by h returns node leads.via took reached leads.comes

@@ -11,16 +11,17 @@ use Rattle.std.proofs.lemmas.Bool.{cases_lt, cases_order}
 use Rattle.std.proofs.lemmas.Bool.Decides.{nat_tests}
 use Rattle.stamp_core.specs.History.{History, IsLegal}
 use Rattle.stamp_core.specs.Record.{recorded}
-use Rattle.stamp_core.specs.Linearized.{IsWithin, KeepsThreadOrder, IsLinearized, history_of as entries_history}
+use Rattle.stamp_core.specs.Linearized.{HasPointInside, KeepsThreadOrder, IsLinearized, history_of as entries_history}
 use Rattle.stamp_core.specs.declared.entry.Entry.{Entry}
 use Rattle.stamp_core.specs.declared.call.Call.{Call}
 use Rattle.stamp_core.specs.declared.reply.Reply.{Reply}
 use Rattle.stamp_explain.specs.declared.observed.Observation.{Observation}
 use Rattle.stamp_explain.specs.declared.observed.Returned.{Returned}
 use Rattle.stamp_explain.specs.Observed.{ObservedHistory, IsBefore, IsInterval, DoNotOverlap, IsObserved}
-use Rattle.stamp_explain.specs.Explained.{Effect, IsEffectOf, history_of, indices_of, AreApart, RespectsBefore}
+use Rattle.stamp_explain.specs.Explained.{Effect, IsEffectOf, history_of, indices_of, AreOfTwoEntries, RespectsBefore}
 use Rattle.stamp_explain.specs.Explained.{IsExplainedBy}
-use Rattle.stamp_explain.specs.Points.{IsEntryOf, IsRecordOfObserved, entry_with_point, ends_at, position_at, there_at}
+use Rattle.stamp_explain.specs.Points.{IsEntryOf, IsRecordOfObserved, entry_with_point, ends_at, position_at}
+use Rattle.stamp_explain.specs.Points.{earlier_at}
 use Rattle.stamp_explain.specs.ExplainLaws.{ExplainedHasPoints}
 use Rattle.stamp_explain.proofs.Lists.{none_in_empty, contains_cases, pairs_none, pairs_cons, pairs_head, pairs_tail}
 use Rattle.stamp_explain.proofs.Lists.{zip_pairs}
@@ -30,8 +31,8 @@ use Rattle.stamp_explain.proofs.Threads.{few_threads}
 abbrev pub points_from : ℕ → ℕ → ℕ → List Effect → List Entry
 points_from end q n [] = []
 points_from end q n (x ∷ xs) =
-    entry_with_point x.entry x.reply end (64 * position_at q x.entry.first + there_at q n x.entry.first) ∷
-    points_from end (position_at q x.entry.first) (there_at q n x.entry.first + 1) xs
+    entry_with_point x.entry x.reply end (64 * position_at q x.entry.first + earlier_at q n x.entry.first) ∷
+    points_from end (position_at q x.entry.first) (earlier_at q n x.entry.first + 1) xs
 
 pub record IsSpreadOf (x : Effect) (e : Entry) : Type 0 where
   thread : e.thread ≡ x.entry.thread
@@ -49,7 +50,7 @@ spread_at x end p = record { thread = refl; call = refl; reply = refl; first = r
 
 pub record Spread (low : ℕ) (xs : List Effect) (entries : List Entry) : Type 0 where
   of : AllZip IsSpreadOf xs entries
-  within : All IsWithin entries
+  within : All HasPointInside entries
   above : All (λ (e : Entry). low ≤ e.point) entries
   rising : AllAdjacentBelow (λ (e f : Entry). e.point < f.point) entries (length entries)
 
@@ -63,11 +64,11 @@ adjacent_cons e es later rising (suc k) d lt =
     subst (λ (n : ℕ). (get_or es k d).point < (get_or (e ∷ es) n d).point) same (rising k d more)
 
 spread_cons : (low end p : ℕ) (x : Effect) (xs : List Effect) (entries : List Entry) → low ≤ p →
-    IsWithin (entry_with_point x.entry x.reply end p) → Spread (p + 1) xs entries →
+    HasPointInside (entry_with_point x.entry x.reply end p) → Spread (p + 1) xs entries →
     Spread low (x ∷ xs) (entry_with_point x.entry x.reply end p ∷ entries)
 spread_cons low end p x xs entries le within left = record {
   of = (spread_at x end p, left.of);
-  within = All-cons IsWithin (entry_with_point x.entry x.reply end p) entries within left.within;
+  within = All-cons HasPointInside (entry_with_point x.entry x.reply end p) entries within left.within;
   above = All-cons (λ (e : Entry). low ≤ e.point) (entry_with_point x.entry x.reply end p) entries le
       (All-weaker (λ (e : Entry). p + 1 ≤ e.point) (λ (e : Entry). low ≤ e.point) (λ e h. omega arith) entries
       left.above);
@@ -134,11 +135,11 @@ pub record IsReady (end q : ℕ) (ts : List ℕ) (xs : List Effect) : Type 0 whe
 pub record TakesEffect (end q n : ℕ) (x : Effect) (xs : List Effect) : Type 0 where
   pub threads : List ℕ
   pub ready : IsReady end (position_at q x.entry.first) threads xs
-  pub many : length threads ≡ there_at q n x.entry.first + 1
-  pub few : there_at q n x.entry.first < 64
-  pub low : 64 * q + n ≤ 64 * position_at q x.entry.first + there_at q n x.entry.first
-  pub within : IsWithin (entry_with_point x.entry x.reply end (64 * position_at q x.entry.first +
-      there_at q n x.entry.first))
+  pub many : length threads ≡ earlier_at q n x.entry.first + 1
+  pub few : earlier_at q n x.entry.first < 64
+  pub low : 64 * q + n ≤ 64 * position_at q x.entry.first + earlier_at q n x.entry.first
+  pub within : HasPointInside (entry_with_point x.entry x.reply end (64 * position_at q x.entry.first +
+      earlier_at q n x.entry.first))
 
 -- a later position, or this one
 position_beyond : (q f : ℕ) → q < f → position_at q f ≡ f
@@ -148,7 +149,7 @@ position_beyond q f lt = by (nat_lt q f) (grind (arith, nat_tests))
     by true h = refl
     by false h = absurd (grind arith)
 
-there_beyond : (q n f : ℕ) → q < f → there_at q n f ≡ 0
+there_beyond : (q n f : ℕ) → q < f → earlier_at q n f ≡ 0
 there_beyond q n f lt = by (nat_lt q f) (grind (arith, nat_tests))
   where
     by : (b : Bool) → b ≡ true → (if b then 0 else n) ≡ 0
@@ -162,7 +163,7 @@ position_here q f le = by (nat_lt q f) (grind (arith, nat_tests))
     by false h = refl
     by true h = absurd (grind arith)
 
-there_here : (q n f : ℕ) → f ≤ q → there_at q n f ≡ n
+there_here : (q n f : ℕ) → f ≤ q → earlier_at q n f ≡ n
 there_here q n f le = by (nat_lt q f) (grind (arith, nat_tests))
   where
     by : (b : Bool) → b ≡ false → (if b then 0 else n) ≡ n
@@ -192,14 +193,14 @@ takes_beyond end q ts x xs is beyond = record {
   within = record {
     begun = omega (arith, at, none);
     ended = not_past_end x.entry.returned x.entry.first (64 * position_at q x.entry.first +
-        there_at q (length ts) x.entry.first) end it.interval most (omega (arith, at, none));
+        earlier_at q (length ts) x.entry.first) end it.interval most (omega (arith, at, none));
   };
 }
   where
     at : position_at q x.entry.first ≡ x.entry.first
     at = position_beyond q x.entry.first beyond
 
-    none : there_at q (length ts) x.entry.first ≡ 0
+    none : earlier_at q (length ts) x.entry.first ≡ 0
     none = there_beyond q (length ts) x.entry.first beyond
 
     it : IsKnown x
@@ -244,14 +245,14 @@ takes_here end q ts x xs is begun = record {
   within = record {
     begun = omega (arith, at, here, begun);
     ended = not_past_end x.entry.returned q (64 * position_at q x.entry.first +
-        there_at q (length ts) x.entry.first) end over_x is.reached (omega (arith, at, here, few));
+        earlier_at q (length ts) x.entry.first) end over_x is.reached (omega (arith, at, here, few));
   };
 }
   where
     at : position_at q x.entry.first ≡ q
     at = position_here q x.entry.first begun
 
-    here : there_at q (length ts) x.entry.first ≡ length ts
+    here : earlier_at q (length ts) x.entry.first ≡ length ts
     here = there_here q (length ts) x.entry.first begun
 
     over_x : IsNotOver q x.entry
@@ -295,14 +296,14 @@ spread : (end q : ℕ) (ts : List ℕ) (n : ℕ) (xs : List Effect) → length t
     Spread (64 * q + n) xs (points_from end q n xs)
 spread end q ts n [] same is = record {
   of = tt;
-  within = All-nil IsWithin;
+  within = All-nil HasPointInside;
   above = All-nil (λ (e : Entry). 64 * q + n ≤ e.point);
   rising = λ k d lt. absurd (omega arith);
 }
 spread end q ts n (x ∷ xs) same is =
     let step : TakesEffect end q n x xs = takes_effect end q ts n x xs same is in
     let position : ℕ = position_at q x.entry.first in
-    let there : ℕ = there_at q n x.entry.first in
+    let there : ℕ = earlier_at q n x.entry.first in
     let one_more : 64 * position + (there + 1) ≡ 64 * position + there + 1 = omega arith in
     spread_cons (64 * q + n) end (64 * position + there) x xs (points_from end position (there + 1) xs) step.low
     step.within (subst (λ (low : ℕ). Spread low xs (points_from end position (there + 1) xs)) one_more
@@ -352,15 +353,15 @@ spread_history (x ∷ xs) (e ∷ es) z =
     ap (λ (c : Call). (c, x.reply) ∷ entries_history es) (sym z.0.call) ∙
     ap (λ (r : Reply). (e.call, r) ∷ entries_history es) (sym z.0.reply)
 
-apart_indices : (xs : List Effect) → AllPairs AreApart xs → AllPairs (λ (i j : ℕ). i ≢ j) (indices_of xs)
+apart_indices : (xs : List Effect) → AllPairs AreOfTwoEntries xs → AllPairs (λ (i j : ℕ). i ≢ j) (indices_of xs)
 apart_indices [] once = pairs_none (λ (i j : ℕ). i ≢ j)
 apart_indices (x ∷ xs) once = pairs_cons (λ (i j : ℕ). i ≢ j) x.index (indices_of xs)
-    (All-map (λ (j : ℕ). x.index ≢ j) (λ (y : Effect). y.index) xs (pairs_head AreApart x xs once))
-    (apart_indices xs (pairs_tail AreApart x xs once))
+    (All-map (λ (j : ℕ). x.index ≢ j) (λ (y : Effect). y.index) xs (pairs_head AreOfTwoEntries x xs once))
+    (apart_indices xs (pairs_tail AreOfTwoEntries x xs once))
 
 -- the entries of two effects do not overlap
 overlaps : (h : ObservedHistory) (x y : Effect) → IsObserved h → IsEffectOf h.entries x → IsEffectOf h.entries y →
-    AreApart x y → DoNotOverlap x.entry y.entry
+    AreOfTwoEntries x y → DoNotOverlap x.entry y.entry
 overlaps h x y observed x_is y_is apart = by (cases_order x.index y.index)
   where
     at : (z : Effect) (d : Observation) → IsEffectOf h.entries z → get_or h.entries z.index d ≡ z.entry

@@ -11,7 +11,7 @@ use Rattle.stamp_explain.specs.declared.observed.Observation.{Observation}
 use Rattle.stamp_explain.specs.declared.apart.Subhistory.{Subhistory}
 use Rattle.stamp_explain.specs.Observed.{ObservedHistory, IsObserved, IsSmall, IsLow, is_of_lock, is_of_record}
 use Rattle.stamp_explain.specs.Observed.{of_lock, of_record}
-use Rattle.stamp_explain.specs.Explained.{AreApart, IsEffectOf, IsExplained, RespectsBefore}
+use Rattle.stamp_explain.specs.Explained.{AreOfTwoEntries, IsEffectOf, IsExplained, RespectsBefore}
 use Rattle.std.proofs.lemmas.Option.{slice_get_within}
 use Rattle.stamp_explain.specs.Apart.{is_of_object, of_object, indices_where, IsSubhistoryOf}
 use Rattle.stamp_explain.proofs.Lists.{pairs_none, pairs_cons}
@@ -155,7 +155,7 @@ no_calls_explained h none = record {
   order = [];
   by = record {
     effects = All-nil (IsEffectOf h.entries);
-    once = pairs_none AreApart;
+    once = pairs_none AreOfTwoEntries;
     returned = λ i e at back. absurd (omega (
       arith,
       slice_get_within [] i e (subst (λ (es : List Observation). slice_get es i ≡ Some e) none at),

@@ -17,15 +17,15 @@ use Rattle.stamp_core.specs.declared.reply.Reply.{Reply}
 use Rattle.stamp_explain.specs.Observed.{ObservedHistory, IsObserved, HasReturned, IsBefore, AllowsReply}
 use Rattle.stamp_explain.specs.Explained.{Effect}
 use Rattle.stamp_explain.specs.Unchanging.{changes_nothing, unchanging_by, is_unchanging, unchanging_in}
-use Rattle.stamp_explain.specs.Unchanging.{is_unchanging_at, open_question_in, is_open_question_at}
+use Rattle.stamp_explain.specs.Unchanging.{is_unchanging_at, question_under_way_in, is_question_under_way_at}
 use Rattle.stamp_explain.specs.Search.{LockState, StateTransition, MayTake}
 use Rattle.stamp_explain.specs.Search.{StandsBefore}
 use Rattle.stamp_explain.specs.Ahead.{GivesWay}
 use Rattle.stamp_explain.specs.Configuration.{IsAtOnce, IsFirstAtOnce, IsFirstAlike}
 use Rattle.stamp_explain.specs.Node.{StandsFor}
 use Rattle.stamp_explain.specs.Timeline.{IsTimeline, IsAwaitedAt, IsOpenAt, AreOpen}
-use Rattle.stamp_explain.specs.Expand.{GoesOn, Expands, ComesNext, ComesNextBy, IsTakenTo, Took}
-use Rattle.stamp_explain.specs.Expand.{ComesAfter, IsChoiceOf, IsNoChoice, IsNotInEffect, NoneIsAtOnceAt, PassesTo}
+use Rattle.stamp_explain.specs.Expand.{GoesOn, Expands, ComesByOneMove, ComesByMove, IsTakenTo, IsTakeOf}
+use Rattle.stamp_explain.specs.Expand.{ComesNext, IsChoiceOf, IsNoChoice, IsSettled, NoneIsAtOnceAt, PassesTo}
 use Rattle.stamp_explain.specs.Expand.{Suffice}
 use Rattle.stamp_explain.proofs.Searching.{CompletesIn}
 use Rattle.stamp_explain.proofs.Staying.{unchanging_calls_change_nothing}
@@ -75,7 +75,7 @@ none_of_more h asked returns node calls k before here = record {
 
 -- it may not take effect
 pub none_by_took : (h : ObservedHistory) (asked : Option ℕ) (returns : List ℕ) (node : Node) (calls : List ℕ)
-    (k : ℕ) → NoneOfFirst h asked returns node calls k → Took h returns node (get_or calls k 0) None →
+    (k : ℕ) → NoneOfFirst h asked returns node calls k → IsTakeOf h returns node (get_or calls k 0) None →
     NoneOfFirst h asked returns node calls (k + 1)
 none_by_took h asked returns node calls k before took = none_of_more h asked returns node calls k before
     (λ a s taken awaited stands x t at_once is may. took.takes a s taken awaited stands x t may (sym is))
@@ -168,7 +168,7 @@ is_first_alike h asked timeline node a s taken calls x is are stands at keeps j 
         other = x.entry;
         is_other = at;
         ahead = ahead;
-        waits = λ bit. misses (stands.in_effect.each_next j e
+        waits = λ bit. misses (stands.in_effect.each_first j e
             (next_open h timeline.returns.items node.past a j is.observed is.timeline_is.are is.inside is.at
             (opened misses)) bit);
       };
@@ -179,7 +179,8 @@ pub choice_leads : (h : ObservedHistory) (asked : Option ℕ) (timeline : Timeli
     (calls : List ℕ) (i : ℕ) (w : Next) → Awaits h timeline node a → bit_at node.threads a.thread ≢ 1 →
     NoneIsAtOnceAt h asked timeline.returns.items node → AreOpen h timeline.returns.items node.past calls →
     (awaited : ℕ) → slice_get h.entries awaited ≡ Some a →
-    IsChoiceOf h asked timeline.returns.items node calls awaited i w → ComesNext h asked timeline.returns.items node w
+    IsChoiceOf h asked timeline.returns.items node calls awaited i w →
+    ComesByOneMove h asked timeline.returns.items node w
 choice_leads h asked timeline node a calls i w is bit none are awaited at choice = record {
   inside = is.inside;
   leads = λ s taken stands. to s taken stands (choice.took.takes a s taken (awaited_at h timeline node a is) stands);
@@ -187,13 +188,13 @@ choice_leads h asked timeline node a calls i w is bit none are awaited at choice
   where
     to : (s : LockState) (taken : List ℕ) → StandsFor h timeline.returns.items node s taken →
         IsTakenTo h timeline.returns.items node a i s taken w →
-        ComesNextBy h asked timeline.returns.items node w.node s taken w.took
+        ComesByMove h asked timeline.returns.items node w.node s taken w.took
     to s taken stands it = leads_by_call h asked timeline node a i s taken w is bit stands it (inr (record {
       none = none.none a s taken (awaited_at h timeline node a is) stands;
       object = choice.object a it.effect.entry at (ap (λ (j : ℕ). slice_get h.entries j) (sym it.index) ∙
           it.may.effect.is_entry);
-      no_question = ap open_question_in (sym it.may.effect.is_entry) ∙
-          ap (is_open_question_at h.entries) it.index ∙ choice.no_question;
+      no_question = ap question_under_way_in (sym it.may.effect.is_entry) ∙
+          ap (is_question_under_way_at h.entries) it.index ∙ choice.no_question;
       first = is_first_alike h asked timeline node a s taken calls it.effect is are stands it.may.effect.is_entry
           (subst (λ (j : ℕ). ¬ GivesWay h asked node calls j) (sym it.index) choice.gives_no_way);
     }))
@@ -221,7 +222,8 @@ pub leads_at_once : (h : ObservedHistory) (asked : Option ℕ) (timeline : Timel
     (calls : List ℕ) (k : ℕ) (w : Next) → Awaits h timeline node a → bit_at node.threads a.thread ≢ 1 →
     AreOpen h timeline.returns.items node.past calls → NoneOfFirst h asked timeline.returns.items node calls k →
     k < length calls → is_unchanging_at h.entries (get_or calls k 0) ≡ true → asked ≢ Some (get_or calls k 0) →
-    Took h timeline.returns.items node (get_or calls k 0) (Some w) → ComesNext h asked timeline.returns.items node w
+    IsTakeOf h timeline.returns.items node (get_or calls k 0) (Some w) →
+    ComesByOneMove h asked timeline.returns.items node w
 leads_at_once h asked timeline node a calls k w is bit are before inside unchanging other took = record {
   inside = is.inside;
   leads = λ s taken stands. by s taken stands (took.takes a s taken (awaited_at h timeline node a is) stands);
@@ -232,7 +234,7 @@ leads_at_once h asked timeline node a calls k w is bit are before inside unchang
 
     by : (s : LockState) (taken : List ℕ) → StandsFor h timeline.returns.items node s taken →
         IsTakenTo h timeline.returns.items node a i s taken w →
-        ComesNextBy h asked timeline.returns.items node w.node s taken w.took
+        ComesByMove h asked timeline.returns.items node w.node s taken w.took
     by s taken stands to = leads_by_call h asked timeline node a i s taken w is bit stands to (inl
         (first_at_once h asked timeline node a s taken calls k to.effect is stands are before inside (sym to.index)
         (record {
@@ -242,7 +244,7 @@ leads_at_once h asked timeline node a calls k w is bit are before inside unchang
 
 pub suffices_at_once : (h : ObservedHistory) (timeline : Timeline) (node : Node) (a : Observation) (i : ℕ)
     (w : Next) → Awaits h timeline node a → is_unchanging_at h.entries i ≡ true →
-    Took h timeline.returns.items node i (Some w) → Suffice h timeline.returns.items node (w ∷ [])
+    IsTakeOf h timeline.returns.items node i (Some w) → Suffice h timeline.returns.items node (w ∷ [])
 suffices_at_once h timeline node a i w is unchanging takes n hope =
     goes (takes.takes a hope.state hope.taken (awaited_at h timeline node a is) hope.stands)
   where
@@ -278,12 +280,12 @@ pub expands_at_once : (h : ObservedHistory) (timeline : Timeline) (node : Node) 
     (k : ℕ) (w next : Next) → Awaits h timeline node a → bit_at node.threads a.thread ≢ 1 →
     AreOpen h timeline.returns.items node.past calls → NoneOfFirst h None timeline.returns.items node calls k →
     k < length calls → is_unchanging_at h.entries (get_or calls k 0) ≡ true →
-    Took h timeline.returns.items node (get_or calls k 0) (Some w) →
+    IsTakeOf h timeline.returns.items node (get_or calls k 0) (Some w) →
     PassesTo h timeline.returns.items w.node next.node → next.took ≡ w.took →
-    IsNotInEffect h timeline.returns.items next.node → Expands h timeline.returns.items node (next ∷ [])
+    IsSettled h timeline.returns.items next.node → Expands h timeline.returns.items node (next ∷ [])
 expands_at_once h timeline node a calls k w next is bit are before inside unchanging takes passes took settled =
     record {
-      each = λ v has. subst (λ (n : Next). ComesAfter h None timeline.returns.items node n) (only_one next v has)
+      each = λ v has. subst (λ (n : Next). ComesNext h None timeline.returns.items node n) (only_one next v has)
           (follows_of h None timeline.returns.items node w next
           (leads_at_once h None timeline node a calls k w is bit are before inside unchanging
           (λ same. none-some (get_or calls k 0) same) takes) passes took settled);
@@ -294,7 +296,7 @@ expands_at_once h timeline node a calls k w next is bit are before inside unchan
 -- of the last k of these calls those that are tried lead to these nodes
 pub record Chooses (h : ObservedHistory) (returns : List ℕ) (node : Node) (calls : List ℕ) (k : ℕ)
     (nexts : List Next) : Type 0 where
-  pub led : (w : Next) → Contains nexts w → ComesAfter h None returns node w
+  pub led : (w : Next) → Contains nexts w → ComesNext h None returns node w
   pub tries : Tries h None returns node calls k nexts
 
 pub chooses_none : (h : ObservedHistory) (returns : List ℕ) (node : Node) (calls : List ℕ) →
@@ -311,11 +313,11 @@ pub chooses_one : (h : ObservedHistory) (timeline : Timeline) (node : Node) (a :
     slice_get h.entries awaited ≡ Some a →
     IsChoiceOf h None timeline.returns.items node calls awaited (get_or calls (length calls - 1 - k) 0) w →
     PassesTo h timeline.returns.items w.node next.node → next.took ≡ w.took →
-    IsNotInEffect h timeline.returns.items next.node →
+    IsSettled h timeline.returns.items next.node →
     Chooses h timeline.returns.items node calls (k + 1) (nexts ++ next ∷ [])
 chooses_one h timeline node a calls k nexts w next is bit none are chooses more awaited at choice passes took settled =
     record {
-      led = each_push (ComesAfter h None timeline.returns.items node) nexts next chooses.led
+      led = each_push (ComesNext h None timeline.returns.items node) nexts next chooses.led
           (follows_of h None timeline.returns.items node w next
           (choice_leads h None timeline node a calls (get_or calls (length calls - 1 - k) 0) w is bit none are awaited
           at choice) passes took settled);
@@ -336,7 +338,7 @@ chooses_not h returns node calls k nexts awaited chooses more read none = record
 -- where the awaited call is not in effect an open call takes effect
 pub expands_open : (h : ObservedHistory) (timeline : Timeline) (node : Node) (calls : List ℕ) (k : ℕ)
     (nexts : List Next) → IsObserved h → IsTimeline h timeline → node.past < length timeline.returns.items →
-    IsNotInEffect h timeline.returns.items node → AreOpen h timeline.returns.items node.past calls →
+    IsSettled h timeline.returns.items node → AreOpen h timeline.returns.items node.past calls →
     length calls ≤ k → Chooses h timeline.returns.items node calls k nexts →
     Expands h timeline.returns.items node nexts
 expands_open h timeline node calls k nexts observed is inside awaited are all chooses = record {

@@ -174,24 +174,24 @@ brings limits entries i a s (y ∷ rest) at effects runs has =
         }
 
 -- where a return is awaited, an effect of its object may be the next; the others complete what it leaves
-pub record TakesAlike (limits : Bounds) (entries : List Observation) (i : ℕ) (a : Observation) (to_come : List ℕ)
+pub record TakesOfOneObject (limits : Bounds) (entries : List Observation) (i : ℕ) (a : Observation) (to_come : List ℕ)
     (s : LockState) (taken : List ℕ) (rest : List Effect) : Type 0 where
   pub effect : Effect
   pub others : List Effect
-  pub alike : AreOfOneObject a effect.entry
+  pub object : AreOfOneObject a effect.entry
   pub state : LockState
   pub may : MayTake (StateTransition limits) entries a s taken effect state
   pub by : IsCompletedBy (StateTransition limits) entries (i ∷ to_come) state (effect.index ∷ taken) others
   pub fewer : length rest ≡ suc (length others)
 
-pub takes_alike : (limits : Bounds) (entries : List Observation) (i : ℕ) (a : Observation) (to_come : List ℕ)
+pub takes_of_one_object : (limits : Bounds) (entries : List Observation) (i : ℕ) (a : Observation) (to_come : List ℕ)
     (s : LockState) (taken : List ℕ) (rest : List Effect) → IsAwaited entries i a → ¬ Contains taken i →
     IsCompletedBy (StateTransition limits) entries (i ∷ to_come) s taken rest →
-    TakesAlike limits entries i a to_come s taken rest
-takes_alike limits entries i a to_come s taken rest awaited not_yet by = record {
+    TakesOfOneObject limits entries i a to_come s taken rest
+takes_of_one_object limits entries i a to_come s taken rest awaited not_yet by = record {
   effect = b.effect;
   others = b.others;
-  alike = sym b.kind;
+  object = sym b.kind;
   state = b.state;
   may = both.0;
   by = both.1;
@@ -210,12 +210,12 @@ takes_alike limits entries i a to_come s taken rest awaited not_yet by = record 
 
 pub one_object_suffices : OneObjectSuffices
 one_object_suffices limits entries i a to_come s taken at interval not_yet can =
-    let one : TakesAlike limits entries i a to_come s taken can.rest =
-    takes_alike limits entries i a to_come s taken can.rest
+    let one : TakesOfOneObject limits entries i a to_come s taken can.rest =
+    takes_of_one_object limits entries i a to_come s taken can.rest
     (record { is_entry = at; begun = not_before_itself a interval }) not_yet can.by in
     record {
       effect = one.effect;
-      alike = one.alike;
+      object = one.object;
       state = one.state;
       may = one.may;
       can = record { rest = one.others; by = one.by };

@@ -19,7 +19,7 @@ use Rattle.stamp_explain.specs.declared.observed.Observation.{Observation}
 use Rattle.stamp_explain.specs.Observed.{ObservedHistory}
 use Rattle.stamp_explain.specs.Search.{LockState}
 use Rattle.stamp_explain.specs.Configuration.{put_after}
-use Rattle.stamp_explain.specs.Node.{IsStateBy, Does, HasGone, content_by, words_put, words_put_at}
+use Rattle.stamp_explain.specs.Node.{IsStateBy, Does, IsTransitionOf, content_by, words_put, words_put_at}
 use Rattle.stamp_explain.specs.Transition.{LockGoes, RecordGoes}
 use Rattle.stamp_explain.proofs.Merging.{lock_leaves, record_appends}
 
@@ -53,7 +53,7 @@ lock_went h i e s bits next put reply lock at goes =
 
 pub lock_did_not : (h : ObservedHistory) (i : ℕ) (e : Observation) (s : LockState) (bits : ℕ) (put : Option ℕ) →
     is_lock_call e.call ≡ true → IsStateBy h bits put s → LockGoes h.limits bits e None →
-    HasGone h i e put s None
+    IsTransitionOf h i e put s None
 lock_did_not h i e s bits put lock at goes reply t may steps =
     goes.after s.0 at.word reply may
     (MatchBool-at_true (Replies (transition h.limits s.0 e.call) reply) (RecordReplies s.1 e.call reply) lock
@@ -98,7 +98,7 @@ record_went h i e s bits put next reply is_entry guarded at goes = record {
 
 pub record_did_not : (h : ObservedHistory) (i : ℕ) (e : Observation) (s : LockState) (bits : ℕ)
     (put : Option ℕ) → is_lock_call e.call ≡ false → IsStateBy h bits put s →
-    RecordGoes h.width h.entries put i e None → HasGone h i e put s None
+    RecordGoes h.width h.entries put i e None → IsTransitionOf h i e put s None
 record_did_not h i e s bits put guarded at goes reply t may steps =
     goes reply may (subst (λ (content : List ℕ). RecordReplies content e.call reply) (sym at.content)
     (MatchBool-at_false (Replies (transition h.limits s.0 e.call) reply) (RecordReplies s.1 e.call reply) guarded

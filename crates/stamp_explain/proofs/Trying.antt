@@ -17,14 +17,14 @@ use Rattle.stamp_explain.specs.declared.timeline.Timeline.{Timeline}
 use Rattle.stamp_explain.specs.Observed.{ObservedHistory, IsObserved, IsBefore, IsReturnAt}
 use Rattle.stamp_explain.specs.Observed.{AreOfOneObject}
 use Rattle.stamp_explain.specs.Explained.{Effect}
-use Rattle.stamp_explain.specs.Unchanging.{open_question_by, open_question_in, is_open_question}
-use Rattle.stamp_explain.specs.Search.{IsAlikeSooner, LockState, StateTransition, MayTake}
+use Rattle.stamp_explain.specs.Unchanging.{question_under_way_by, question_under_way_in, is_question_under_way}
+use Rattle.stamp_explain.specs.Search.{IsAlikeNoLater, LockState, StateTransition, MayTake}
 use Rattle.stamp_explain.specs.Ahead.{IsAhead, GivesWay}
 use Rattle.stamp_core.specs.Call.{is_lock_call}
 use Rattle.stamp_explain.specs.Node.{StandsFor}
 use Rattle.stamp_explain.specs.Timeline.{IsTimeline, IsAwaitedAt, IsOpenAt, AreOpen}
-use Rattle.stamp_explain.specs.Expand.{Hope, GoesOn, IsTakenTo, Took}
-use Rattle.stamp_explain.specs.Expand.{IsNoChoice, IsNotInEffect, PassesTo}
+use Rattle.stamp_explain.specs.Expand.{Hope, GoesOn, IsTakenTo, IsTakeOf}
+use Rattle.stamp_explain.specs.Expand.{IsNoChoice, IsSettled, PassesTo}
 use Rattle.stamp_explain.specs.Expand.{Suffice}
 use Rattle.stamp_explain.specs.Expand.IsNoChoice.{of_other, questions, comes_later, stays}
 use Rattle.stamp_explain.proofs.Alike.{alike_in_as_many, may_take_alike}
@@ -61,7 +61,7 @@ pub record Tries (h : ObservedHistory) (asked : Option ℕ) (returns : List ℕ)
   pub tried : (a : Observation) (s : LockState) (taken : List ℕ) → IsAwaitedAt h returns node.past a →
       StandsFor h returns node s taken → (x : Effect) (u : LockState) →
       MayTake (StateTransition h.limits) h.entries a s taken x u → AreOfOneObject a x.entry →
-      is_open_question x.entry ≡ false → (p : ℕ) → p < length calls → length calls ≤ p + k → get_or calls p 0 ≡
+      is_question_under_way x.entry ≡ false → (p : ℕ) → p < length calls → length calls ≤ p + k → get_or calls p 0 ≡
       x.index → MakesOrWaits h asked returns node calls x u taken nexts
 
 pub none_tried : (h : ObservedHistory) (asked : Option ℕ) (returns : List ℕ) (node : Node) (calls : List ℕ) →
@@ -80,7 +80,7 @@ pub one_more_tried : (h : ObservedHistory) (asked : Option ℕ) (returns : List 
     ((a : Observation) (s : LockState) (taken : List ℕ) → IsAwaitedAt h returns node.past a →
     StandsFor h returns node s taken → (x : Effect) (u : LockState) →
     MayTake (StateTransition h.limits) h.entries a s taken x u → AreOfOneObject a x.entry →
-    is_open_question x.entry ≡ false → get_or calls (length calls - 1 - k) 0 ≡ x.index →
+    is_question_under_way x.entry ≡ false → get_or calls (length calls - 1 - k) 0 ≡ x.index →
     MakesOrWaits h asked returns node calls x u taken new) → Tries h asked returns node calls (k + 1) new
 one_more_tried h asked returns node calls k old new tries more kept makes = record {
   tried = λ a s taken awaited stands x u may alike no_question p lt le is.
@@ -102,7 +102,7 @@ one_more_tried h asked returns node calls k old new tries more kept makes = reco
     by : (a : Observation) (s : LockState) (taken : List ℕ) → IsAwaitedAt h returns node.past a →
         StandsFor h returns node s taken → (x : Effect) (u : LockState) →
         MayTake (StateTransition h.limits) h.entries a s taken x u → AreOfOneObject a x.entry →
-        is_open_question x.entry ≡ false → (p : ℕ) → p < length calls → get_or calls p 0 ≡ x.index →
+        is_question_under_way x.entry ≡ false → (p : ℕ) → p < length calls → get_or calls p 0 ≡ x.index →
         (length calls ≤ p + k) ⊎ (p ≡ length calls - 1 - k) → MakesOrWaits h asked returns node calls x u taken new
     by a s taken awaited stands x u may alike no_question p lt is (inl le) =
         stays x u taken (tries.tried a s taken awaited stands x u may alike no_question p lt le is)
@@ -112,7 +112,8 @@ one_more_tried h asked returns node calls k old new tries more kept makes = reco
 -- it can't take effect
 pub tried_none : (h : ObservedHistory) (asked : Option ℕ) (returns : List ℕ) (node : Node) (calls : List ℕ) (k : ℕ)
     (nexts : List Next) → Tries h asked returns node calls k nexts → k < length calls →
-    Took h returns node (get_or calls (length calls - 1 - k) 0) None → Tries h asked returns node calls (k + 1) nexts
+    IsTakeOf h returns node (get_or calls (length calls - 1 - k) 0) None →
+    Tries h asked returns node calls (k + 1) nexts
 tried_none h asked returns node calls k nexts tries more took =
     one_more_tried h asked returns node calls k nexts nexts tries more (λ w has. has)
     (λ a s taken awaited stands x u may alike no_question is. absurd (took.takes a s taken awaited stands x u may (sym
@@ -133,7 +134,7 @@ tried_other h asked returns node calls k nexts tries more other =
 pub tried_question : (h : ObservedHistory) (asked : Option ℕ) (returns : List ℕ) (node : Node) (calls : List ℕ)
     (k : ℕ) (nexts : List Next) → Tries h asked returns node calls k nexts → k < length calls →
     ((e : Observation) → slice_get h.entries (get_or calls (length calls - 1 - k) 0) ≡ Some e →
-    is_open_question e ≡ true) → Tries h asked returns node calls (k + 1) nexts
+    is_question_under_way e ≡ true) → Tries h asked returns node calls (k + 1) nexts
 tried_question h asked returns node calls k nexts tries more question =
     one_more_tried h asked returns node calls k nexts nexts tries more (λ w has. has)
     (λ a s taken awaited stands x u may alike no_question is. absurd (false≢true (sym no_question ∙
@@ -151,7 +152,7 @@ tried_later h asked returns node calls k nexts tries more out =
 -- it takes effect, and then returns are past
 pub tried_some : (h : ObservedHistory) (asked : Option ℕ) (returns : List ℕ) (node : Node) (calls : List ℕ) (k : ℕ)
     (nexts : List Next) (w next : Next) → Tries h asked returns node calls k nexts → k < length calls →
-    Took h returns node (get_or calls (length calls - 1 - k) 0) (Some w) → PassesTo h returns w.node next.node →
+    IsTakeOf h returns node (get_or calls (length calls - 1 - k) 0) (Some w) → PassesTo h returns w.node next.node →
     Tries h asked returns node calls (k + 1) (nexts ++ next ∷ [])
 tried_some h asked returns node calls k nexts w next tries more took passes =
     one_more_tried h asked returns node calls k nexts (nexts ++ next ∷ []) tries more
@@ -176,7 +177,7 @@ pub tried_not : (h : ObservedHistory) (asked : Option ℕ) (returns : List ℕ) 
 tried_not h asked returns node calls k nexts awaited tries more read (of_other other) =
     tried_other h asked returns node calls k nexts tries more (λ a e is at. other a e (read a is) at)
 tried_not h asked returns node calls k nexts awaited tries more read (questions is) =
-    tried_question h asked returns node calls k nexts tries more (λ e at. ap open_question_in (sym at) ∙ is)
+    tried_question h asked returns node calls k nexts tries more (λ e at. ap question_under_way_in (sym at) ∙ is)
 tried_not h asked returns node calls k nexts awaited tries more read (comes_later out) =
     tried_later h asked returns node calls k nexts tries more out
 tried_not h asked returns node calls k nexts awaited tries more read (stays took) =
@@ -187,8 +188,8 @@ abbrev pub bound : Option Returned → ℕ
 bound None = 0
 bound (Some r) = suc r.last
 
-pub alike_ahead : (e f : Observation) → IsAhead e f → IsAlikeSooner e f
-alike_ahead e f ahead = record { calls = ahead.calls; sooner = omega (arith, ahead.sooner) }
+pub alike_ahead : (e f : Observation) → IsAhead e f → IsAlikeNoLater e f
+alike_ahead e f ahead = record { calls = ahead.calls; no_later = omega (arith, ahead.sooner) }
 
 pub bound_ahead : (e f : Observation) → IsAhead e f → suc (bound e.returned) ≤ bound f.returned
 bound_ahead e f ahead =
@@ -200,7 +201,7 @@ bound_ahead e f ahead =
 pub record Completes (h : ObservedHistory) (timeline : Timeline) (node : Node) (a : Observation) (s : LockState)
     (taken : List ℕ) (u : LockState) (left : ℕ) (x : Effect) : Type 0 where
   object : AreOfOneObject a x.entry
-  no_question : is_open_question x.entry ≡ false
+  no_question : is_question_under_way x.entry ≡ false
   may : MayTake (StateTransition h.limits) h.entries a s taken x u
   rest : CompletesIn (StateTransition h.limits) h.entries (get_or timeline.returns.items node.past 0 ∷
       drop (suc node.past) timeline.returns.items) u (x.index ∷ taken) left
@@ -215,7 +216,7 @@ pub completes_ahead : (h : ObservedHistory) (asked : Option ℕ) (timeline : Tim
     (record { index = out.first; entry = out.goes.entry; reply = x.reply })
 completes_ahead h asked timeline node a calls s taken u left x is are stands it out same = record {
   object = it.object ∙ ap is_lock_call (sym ahead.calls.call);
-  no_question = ap (open_question_by out.goes.entry.call) ahead.calls.at_first;
+  no_question = ap (question_under_way_by out.goes.entry.call) ahead.calls.at_first;
   may = may_take_alike h.limits h.entries a s u taken x out.first out.goes.entry it.may out.goes.is_entry sooner fresh
       begun;
   rest = alike_in_as_many h.limits h.entries a (i ∷ drop (suc node.past) returns) s u taken x out.first
@@ -236,7 +237,7 @@ completes_ahead h asked timeline node a calls s taken u left x is are stands it 
     ahead : IsAhead out.goes.entry x.entry
     ahead = subst (IsAhead out.goes.entry) same out.goes.ahead
 
-    sooner : IsAlikeSooner out.goes.entry x.entry
+    sooner : IsAlikeNoLater out.goes.entry x.entry
     sooner = alike_ahead out.goes.entry x.entry ahead
 
     opened : IsOpenAt h returns node.past out.first
@@ -354,7 +355,7 @@ suffice_by_one h asked timeline node a calls k nexts is bit are all tries n agai
 
     -- the same node can be completed in fewer moves
     hope_without : (on : GoesOnBy h.limits h.entries i a (drop (suc node.past) returns) hope.state hope.taken n) →
-        is_open_question on.effect.entry ≡ true → Hope h returns node on.left
+        is_question_under_way on.effect.entry ≡ true → Hope h returns node on.left
     hope_without on asking =
         let P : List ℕ → Type 0 = λ (xs : List ℕ). CompletesIn (StateTransition h.limits) h.entries xs hope.state
         hope.taken
@@ -386,17 +387,17 @@ suffice_by_one h asked timeline node a calls k nexts is bit are all tries n agai
         GoesOnBy h.limits h.entries i a (drop (suc node.past) returns) hope.state hope.taken n →
         GoesOn h returns nexts n
     goes (inl past) = absurd (not_yet h timeline node a hope.state hope.taken is bit hope.stands past.in_effect)
-    goes (inr on) = by (is_open_question on.effect.entry) refl
+    goes (inr on) = by (is_question_under_way on.effect.entry) refl
       where
         fewer : suc on.left ≤ n
         fewer = omega (arith, on.fewer)
 
-        by : (b : Bool) → is_open_question on.effect.entry ≡ b → GoesOn h returns nexts n
+        by : (b : Bool) → is_question_under_way on.effect.entry ≡ b → GoesOn h returns nexts n
         by true asking = later on.left fewer (again on.left fewer (hope_without on asking))
         by false no_question = some_goes_on h asked timeline node a calls k nexts hope.state
             hope.taken n on.state on.left
             (bound on.effect.entry.returned) on.effect is are all hope.stands tries fewer (omega arith)
-            (record { object = on.alike; no_question = no_question; may = on.may; rest = on.completes })
+            (record { object = on.object; no_question = no_question; may = on.may; rest = on.completes })
 
 pub suffice_bounded : (h : ObservedHistory) (asked : Option ℕ) (timeline : Timeline) (node : Node) (a : Observation)
     (calls : List ℕ) (k : ℕ) (nexts : List Next) → Awaits h timeline node a → bit_at node.threads a.thread ≢ 1 →
@@ -421,7 +422,7 @@ suffice_taken h asked timeline node a calls k nexts is bit are all tries n hope 
 -- where the awaited call is not in effect an open call takes effect
 pub suffice_open : (h : ObservedHistory) (asked : Option ℕ) (timeline : Timeline) (node : Node) (calls : List ℕ)
     (k : ℕ) (nexts : List Next) → IsObserved h → IsTimeline h timeline → node.past < length timeline.returns.items →
-    IsNotInEffect h timeline.returns.items node → AreOpen h timeline.returns.items node.past calls →
+    IsSettled h timeline.returns.items node → AreOpen h timeline.returns.items node.past calls →
     length calls ≤ k → Tries h asked timeline.returns.items node calls k nexts →
     Suffice h timeline.returns.items node nexts
 suffice_open h asked timeline node calls k nexts observed is inside awaited are all tries =

@@ -12,7 +12,7 @@ use Rattle.stamp_explain.specs.Explained.{IsExplained}
 use Rattle.stamp_explain.specs.Cut.{index_then, seen_at}
 use Rattle.stamp_explain.specs.Node.{IsReached}
 use Rattle.stamp_explain.specs.Timeline.{IsTimeline}
-use Rattle.stamp_explain.specs.Expand.{ComesAfter, IsNotInEffect, NoneIsAtOnceAt, Suffice, Took}
+use Rattle.stamp_explain.specs.Expand.{ComesNext, IsSettled, NoneIsAtOnceAt, Suffice, IsTakeOf}
 use Rattle.stamp_explain.specs.Possible.{GetsBeside, with_reply, without_return}
 
 -- a search for the replies of a returned call: what is seen then, with its timeline, and the same without the return
@@ -26,7 +26,7 @@ pub record IsAsking (asking : Asking) : Type 0 where
 pub record IsReachedBeside (asking : Asking) (node : Node) : Type 0 where
   pub reached : IsReached asking.seen (Some asking.index) asking.timeline.returns.items node
   pub still : ¬ Contains reached.taken asking.index
-  pub settled : IsNotInEffect asking.seen asking.timeline.returns.items node
+  pub settled : IsSettled asking.seen asking.timeline.returns.items node
 
 -- such a node with a return to come
 pub record MayGoOnBeside (asking : Asking) (node : Node) : Type 0 where
@@ -47,12 +47,12 @@ pub record IsSeenWith (asking : Asking) (reply : Reply) (h : ObservedHistory) : 
   pub is : h ≡ with_reply asking.index at.entry at.return reply asking.seen
 
 -- this node comes next, and the call that was asked takes no effect there
-pub record ComesAfterBeside (asking : Asking) (node : Node) (next : Next) : Type 0 where
-  pub leads : ComesAfter asking.seen (Some asking.index) asking.timeline.returns.items node next
+pub record ComesNextBeside (asking : Asking) (node : Node) (next : Next) : Type 0 where
+  pub leads : ComesNext asking.seen (Some asking.index) asking.timeline.returns.items node next
   pub other : next.took ≢ Some asking.index
 
-pub record ComeAfterBeside (asking : Asking) (node : Node) (nexts : List Next) : Type 0 where
-  pub each : (w : Next) → Contains nexts w → ComesAfterBeside asking node w
+pub record ComeNextBeside (asking : Asking) (node : Node) (nexts : List Next) : Type 0 where
+  pub each : (w : Next) → Contains nexts w → ComesNextBeside asking node w
 
 -- none is lost, and they stay different
 pub record AreMore (old new : List Reply) : Type 0 where
@@ -89,7 +89,7 @@ pub record AreAsked (asking : Asking) (node : Node) (old new : List Reply) : Typ
   pub more : AreMore old new
   pub gets : GetsMore asking old new
   pub asked : (reply : Reply) (h : ObservedHistory) → IsSeenWith asking reply h → ¬ Contains new reply →
-      Took h asking.timeline.returns.items node asking.index None
+      IsTakeOf h asking.timeline.returns.items node asking.index None
 
 -- with another reply than these, nothing is lost if the search goes on by these nodes
 pub record SufficeUnless (asking : Asking) (node : Node) (nexts : List Next) (replies : List Reply) : Type 0 where

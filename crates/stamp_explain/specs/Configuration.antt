@@ -11,7 +11,7 @@ use Rattle.stamp_core.specs.declared.reply.Reply.{Reply}
 use Rattle.stamp_core.specs.declared.reply.Reply.TheVariants.{Yes}
 use Rattle.stamp_explain.specs.declared.observed.Observation.{Observation}
 use Rattle.stamp_explain.specs.Observed.{ObservedHistory, AreOfOneObject, IsBefore, of_lock, of_record}
-use Rattle.stamp_explain.specs.Unchanging.{is_unchanging, is_open_question}
+use Rattle.stamp_explain.specs.Unchanging.{is_unchanging, is_question_under_way}
 use Rattle.stamp_explain.specs.Explained.{Effect, IsExplained}
 use Rattle.stamp_explain.specs.Ahead.{IsAhead}
 use Rattle.stamp_explain.specs.Search.{LockState, StateTransition, CanComplete, MayTake, AreReturns, StandsBefore}
@@ -51,7 +51,7 @@ pub record IsChosen (h : ObservedHistory) (asked : Option ℕ) (awaited : Observ
     (x : Effect) : Type 0 where
   pub none : NoneIsAtOnce h asked awaited s taken
   pub object : AreOfOneObject awaited x.entry
-  pub no_question : is_open_question x.entry ≡ false
+  pub no_question : is_question_under_way x.entry ≡ false
   pub first : IsFirstAlike h asked awaited taken x
 
 -- of the open calls this one is tried
@@ -102,9 +102,9 @@ pub record AreReached (h : ObservedHistory) (asked : Option ℕ) (returns : List
   pub many : most ≤ length configurations
 
 -- the call that returns next is not in effect
-abbrev pub AwaitsNext : (h : ObservedHistory) (asked : Option ℕ) (returns : List ℕ) → Configuration h asked returns →
+abbrev pub IsSettledAt : (h : ObservedHistory) (asked : Option ℕ) (returns : List ℕ) → Configuration h asked returns →
     Type 0
-AwaitsNext h asked returns c = (i : ℕ) (rest : List ℕ) → c.to_come ≡ i ∷ rest → ¬ Contains c.taken i
+IsSettledAt h asked returns c = (i : ℕ) (rest : List ℕ) → c.to_come ≡ i ∷ rest → ¬ Contains c.taken i
 
 -- a search on whose ways the call of this entry takes no effect reaches more than so many, at each of which the next
 -- return is of a call that is not in effect: the returns come in their order, each once
@@ -113,7 +113,7 @@ pub record ReachesMoreBeside (h : ObservedHistory) (i most : ℕ) : Type 0 where
   pub are : AreReturns h.entries returns
   pub once : AllPairs (λ (i j : ℕ). i ≢ j) returns
   pub reached : AreReached h (Some i) returns (most + 1)
-  pub settled : All (AwaitsNext h (Some i) returns) reached.configurations
+  pub settled : All (IsSettledAt h (Some i) returns) reached.configurations
   pub beside : All (λ (c : Configuration h (Some i) returns). ¬ Contains c.taken i) reached.configurations
 
 -- an order goes on from here to the end
@@ -155,7 +155,7 @@ pub record LookedAtMore (h : ObservedHistory) (returns : List ℕ) (most : ℕ) 
   pub looked : List (Configuration h None returns)
   pub different : AllPairs (λ (c d : Configuration h None returns). ¬ AreOne h None returns c d) looked
   pub unended : All (λ (c : Configuration h None returns). c.to_come ≢ []) looked
-  pub settled : All (AwaitsNext h None returns) looked
+  pub settled : All (IsSettledAt h None returns) looked
   pub in_depth : AllPairs (λ (c d : Configuration h None returns). IsAlive h returns c → GoesOnFrom h returns c d)
       looked
   pub many : length looked ≡ most + 1
@@ -163,7 +163,7 @@ pub record LookedAtMore (h : ObservedHistory) (returns : List ℕ) (most : ℕ) 
   pub linked : (k : ℕ) (d : Configuration h None returns) → 0 < k → slice_get looked k ≡ Some d →
       MovesFromOne h returns looked k d
   pub further : Configuration h None returns
-  pub further_settled : AwaitsNext h None returns further
+  pub further_settled : IsSettledAt h None returns further
   pub further_linked : MovesFromOne h returns looked (most + 1) further
   pub is_further : All (λ (c : Configuration h None returns). ¬ AreOne h None returns c further) looked
 
@@ -180,7 +180,7 @@ IsNotRefused h most = GivesUp h most ⊎ IsExplained h
 
 -- lock and record are searched apart: the search of one of them gives up, and of neither it found that no order
 -- explains it
-pub record IsGivenUp (h : ObservedHistory) (most : ℕ) : Type 0 where
+pub record GivesUpApart (h : ObservedHistory) (most : ℕ) : Type 0 where
   pub lock : IsNotRefused (of_lock h) most
   pub guarded : IsNotRefused (of_record h) most
   pub one : GivesUp (of_lock h) most ⊎ GivesUp (of_record h) most

@@ -11,14 +11,14 @@ use Rattle.stamp_explain.specs.declared.node.Origin.{Origin}
 use Rattle.stamp_explain.specs.declared.node.Waiting.{Waiting}
 use Rattle.stamp_explain.specs.declared.store.Store.{Store}
 use Rattle.stamp_explain.specs.declared.found.SearchEnd.{SearchEnd}
-use Rattle.stamp_explain.specs.declared.found.SearchEnd.TheVariants.{Linearization, Nothing, Undecided}
+use Rattle.stamp_explain.specs.declared.found.SearchEnd.TheVariants.{Linearization, Nothing, GaveUp}
 use Rattle.stamp_explain.specs.declared.timeline.Timeline.{Timeline}
 use Rattle.stamp_explain.specs.Observed.{ObservedHistory, IsObserved, AreOfOneObject}
-use Rattle.stamp_explain.specs.Unchanging.{is_open_question_at}
+use Rattle.stamp_explain.specs.Unchanging.{is_question_under_way_at}
 use Rattle.stamp_explain.specs.Ahead.{GivesWay}
 use Rattle.stamp_explain.specs.Explained.{Effect, IsEffectOf, IsExplained}
 use Rattle.stamp_explain.specs.Search.{LockState, StateTransition, MayTake, IsCompletedBy}
-use Rattle.stamp_explain.specs.Configuration.{GivesUp, IsGivenUp, IsTried, NoneIsAtOnce, put_after}
+use Rattle.stamp_explain.specs.Configuration.{GivesUp, GivesUpApart, IsTried, NoneIsAtOnce, put_after}
 use Rattle.stamp_explain.specs.Node.{IsStateBy, StandsFor, IsReached, IsFirstNode}
 use Rattle.stamp_explain.specs.Timeline.{IsTimeline, IsAwaitedAt}
 use Rattle.stamp_explain.specs.Store.{IsStored, Keeps}
@@ -72,16 +72,17 @@ pub record ComesByReturn (h : ObservedHistory) (returns : List ℕ) (node w : No
   pub put : w.put ≡ node.put
   pub stands : StandsFor h returns w s taken
 
-abbrev pub ComesNextBy : ObservedHistory → Option ℕ → List ℕ → Node → Node → LockState → List ℕ → Option ℕ → Type 0
-ComesNextBy h asked returns node w s taken None = ComesByReturn h returns node w s taken
-ComesNextBy h asked returns node w s taken (Some i) = ComesByCall h asked returns node w s taken i
+abbrev pub ComesByMove : ObservedHistory → Option ℕ → List ℕ → Node → Node → LockState → List ℕ → Option ℕ → Type 0
+ComesByMove h asked returns node w s taken None = ComesByReturn h returns node w s taken
+ComesByMove h asked returns node w s taken (Some i) = ComesByCall h asked returns node w s taken i
 
 -- whatever the node stands for
-pub record ComesNext (h : ObservedHistory) (asked : Option ℕ) (returns : List ℕ) (node : Node) (next : Next) : Type 0
+pub record ComesByOneMove (h : ObservedHistory) (asked : Option ℕ) (returns : List ℕ) (node : Node) (next : Next) :
+    Type 0
   where
     pub inside : node.past < length returns
     pub leads : (s : LockState) (taken : List ℕ) → StandsFor h returns node s taken →
-        ComesNextBy h asked returns node next.node s taken next.took
+        ComesByMove h asked returns node next.node s taken next.took
 
 -- the awaited call, which is in effect, returns, whatever the node stands for
 pub record PassesOne (h : ObservedHistory) (returns : List ℕ) (node w : Node) : Type 0 where
@@ -95,16 +96,16 @@ pub data PassesTo (h : ObservedHistory) (returns : List ℕ) : Node → Node →
   passes_more : {v u w : Node} → PassesTo h returns v u → PassesOne h returns u w → PassesTo h returns v w
 
 -- the awaited call is not in effect
-pub record IsNotInEffect (h : ObservedHistory) (returns : List ℕ) (node : Node) : Type 0 where
+pub record IsSettled (h : ObservedHistory) (returns : List ℕ) (node : Node) : Type 0 where
   pub awaited : (a : Observation) → IsAwaitedAt h returns node.past a → bit_at node.threads a.thread ≢ 1
 
 -- a call takes effect, and then each return that is next is past, as long as its call is in effect
-pub record ComesAfter (h : ObservedHistory) (asked : Option ℕ) (returns : List ℕ) (node : Node) (next : Next) : Type 0
+pub record ComesNext (h : ObservedHistory) (asked : Option ℕ) (returns : List ℕ) (node : Node) (next : Next) : Type 0
   where
     pub via : Node
-    pub comes : ComesNext h asked returns node (record { node = via; took = next.took })
+    pub comes : ComesByOneMove h asked returns node (record { node = via; took = next.took })
     pub passes : PassesTo h returns via next.node
-    pub settled : IsNotInEffect h returns next.node
+    pub settled : IsSettled h returns next.node
 
 -- where a call took effect at a node, in some state that this stands for
 pub record IsLedBy (h : ObservedHistory) (node : Node) (i : ℕ) : Type 0 where
@@ -126,7 +127,7 @@ Suffice h returns node nexts = (n : ℕ) → Hope h returns node n → GoesOn h 
 
 -- and each of them follows from it
 pub record Expands (h : ObservedHistory) (returns : List ℕ) (node : Node) (nexts : List Next) : Type 0 where
-  pub each : (w : Next) → Contains nexts w → ComesAfter h None returns node w
+  pub each : (w : Next) → Contains nexts w → ComesNext h None returns node w
   pub whole : Suffice h returns node nexts
 
 -- in nothing that the node stands for a call may take effect at once
@@ -154,7 +155,7 @@ Takes h returns node a i s taken None = (x : Effect) (u : LockState) →
 Takes h returns node a i s taken (Some w) = IsTakenTo h returns node a i s taken w
 
 -- what was found of the call of this entry, in whatever the node stands for
-pub record Took (h : ObservedHistory) (returns : List ℕ) (node : Node) (i : ℕ) (found : Option Next) : Type 0 where
+pub record IsTakeOf (h : ObservedHistory) (returns : List ℕ) (node : Node) (i : ℕ) (found : Option Next) : Type 0 where
   pub takes : (a : Observation) (s : LockState) (taken : List ℕ) → IsAwaitedAt h returns node.past a →
       StandsFor h returns node s taken → Takes h returns node a i s taken found
 
@@ -164,34 +165,36 @@ pub data IsNoChoice (h : ObservedHistory) (asked : Option ℕ) (returns : List �
     (awaited i : ℕ) : Type 0 where
   of_other : ((a e : Observation) → slice_get h.entries awaited ≡ Some a → slice_get h.entries i ≡ Some e →
       ¬ AreOfOneObject a e) → IsNoChoice h asked returns node calls awaited i
-  questions : is_open_question_at h.entries i ≡ true → IsNoChoice h asked returns node calls awaited i
+  questions : is_question_under_way_at h.entries i ≡ true → IsNoChoice h asked returns node calls awaited i
   comes_later : GivesWay h asked node calls i → IsNoChoice h asked returns node calls awaited i
-  stays : Took h returns node i None → IsNoChoice h asked returns node calls awaited i
+  stays : IsTakeOf h returns node i None → IsNoChoice h asked returns node calls awaited i
 
 -- or it is one, and leads to this node
 pub record IsChoiceOf (h : ObservedHistory) (asked : Option ℕ) (returns : List ℕ) (node : Node) (calls : List ℕ)
     (awaited i : ℕ) (w : Next) : Type 0 where
   pub object : (a e : Observation) → slice_get h.entries awaited ≡ Some a → slice_get h.entries i ≡ Some e →
       AreOfOneObject a e
-  pub no_question : is_open_question_at h.entries i ≡ false
+  pub no_question : is_question_under_way_at h.entries i ≡ false
   pub gives_no_way : ¬ GivesWay h asked node calls i
-  pub took : Took h returns node i (Some w)
+  pub took : IsTakeOf h returns node i (Some w)
 
 abbrev pub IsChoice : ObservedHistory → Option ℕ → List ℕ → Node → List ℕ → ℕ → ℕ → Option Next → Type 0
 IsChoice h asked returns node calls awaited i None = IsNoChoice h asked returns node calls awaited i
 IsChoice h asked returns node calls awaited i (Some w) = IsChoiceOf h asked returns node calls awaited i w
 
--- what a search finds that looks at so many configurations before it gives up
-abbrev pub IsSearched : ObservedHistory → ℕ → SearchEnd → Type 0
-IsSearched h most (Linearization order) = IsLinearizationOf h order.items
-IsSearched h most Nothing = ¬ IsExplained h
-IsSearched h most Undecided = GivesUp h most
+-- what a search finds: an order; or that there is none; or that it gives up, of which this is known
+abbrev pub IsFoundOr : Type 0 → ObservedHistory → SearchEnd → Type 0
+IsFoundOr Gave_up h (Linearization order) = IsLinearizationOf h order.items
+IsFoundOr Gave_up h Nothing = ¬ IsExplained h
+IsFoundOr Gave_up h GaveUp = Gave_up
 
--- what is found where lock and record are searched apart
+-- by one search, which looks at so many configurations before it gives up
+abbrev pub IsSearched : ObservedHistory → ℕ → SearchEnd → Type 0
+IsSearched h most end = IsFoundOr (GivesUp h most) h end
+
+-- where lock and record are searched apart
 abbrev pub IsFoundApart : ObservedHistory → ℕ → SearchEnd → Type 0
-IsFoundApart h most (Linearization order) = IsLinearizationOf h order.items
-IsFoundApart h most Nothing = ¬ IsExplained h
-IsFoundApart h most Undecided = IsGivenUp h most
+IsFoundApart h most end = IsFoundOr (GivesUpApart h most) h end
 
 abbrev pub nodes_of : List Next → List Node
 nodes_of nexts = map (λ (w : Next). w.node) nexts
@@ -204,15 +207,15 @@ abbrev pub waiting_from : ℕ → List Next → List Waiting
 waiting_from from nexts =
     map (λ (w : Next). record { node = w.node; origin = record { from = from; took = w.took } }) nexts
 
--- the last of those that waited and were not seen is added to those seen
+-- the last of those that waited and were not visited is added to those visited
 pub record LooksAtLast (old new : Store) (waited waiting : List Waiting) : Type 0 where
   pub last : Waiting
   pub passed : List Waiting
   pub are : waited ≡ waiting ++ last ∷ passed
-  pub seen : All (λ (w : Waiting). Contains old.nodes.items w.node) passed
+  pub visited : All (λ (w : Waiting). Contains old.nodes.items w.node) passed
   pub stored : IsStored old new last.node last.origin true
 
--- or all that waited were seen
+-- or all that waited were visited
 abbrev pub LooksAt : Store → Store → List Waiting → List Waiting → Bool → Type 0
 LooksAt old new waited waiting true = LooksAtLast old new waited waiting
 LooksAt old new waited waiting false = All (λ (w : Waiting). Contains old.nodes.items w.node) waited
@@ -223,8 +226,8 @@ pub record IsIndexed (nodes : List Node) (indices : List ℕ) (v : Node) : Type 
   pub among : Contains indices index
   pub is_node : slice_get nodes index ≡ Some v
 
--- nodes that come from the one of this index and were not seen are added to those seen, and their indices to those
--- that wait
+-- nodes that come from the one of this index and were not visited are added to those visited, and their indices to
+-- those that wait
 pub record AddsNew (old new : Store) (from : ℕ) (waited waiting : List ℕ) (nexts : List Next) : Type 0 where
   pub keeps : Keeps new
   pub added : List Next
@@ -246,7 +249,7 @@ pub record IsLinkedAt (h : ObservedHistory) (returns : List ℕ) (store : Store)
   pub node : Node
   pub is_node : slice_get store.nodes.items origin.from ≡ Some node
   pub reached : IsReached h None returns node
-  pub leads : ComesAfter h None returns node (record { node = v; took = origin.took })
+  pub leads : ComesNext h None returns node (record { node = v; took = origin.took })
 
 -- the first node is where a search begins, and each other comes from one before it
 pub record AreLinked (h : ObservedHistory) (returns : List ℕ) (store : Store) : Type 0 where

@@ -15,10 +15,10 @@ use Rattle.stamp_explain.specs.Points.{IsRecordOfObserved}
 use Rattle.stamp_explain.specs.Cut.{cut, seen_at, IsStuck}
 use Rattle.stamp_explain.specs.Search.{LockState, FindsOrder, CanComplete, MayTake, AreReturns, AreReturnsOf}
 use Rattle.stamp_explain.specs.Search.{StateTransition, LockAlone, RecordAlone, first_state, IsFirstReturn}
-use Rattle.stamp_explain.specs.Search.{IsAlikeSooner}
+use Rattle.stamp_explain.specs.Search.{IsAlikeNoLater}
 use Rattle.stamp_explain.specs.Configuration.{Configuration, IsAlive, GivesUp}
 use Rattle.stamp_core.specs.Content.{zeros}
-use Rattle.stamp_explain.specs.Unchanging.{changes_nothing, is_open_question}
+use Rattle.stamp_explain.specs.Unchanging.{changes_nothing, is_question_under_way}
 
 -- Each cut of an explained history is explained.
 abbrev pub CutsStayExplained : Type 0
@@ -61,10 +61,10 @@ UnchangingCallsAtOnce =
     CanComplete (StateTransition limits) entries to_come s (x.index ∷ taken)
 
 -- a call of the awaited one's object may take effect, and the search can be completed then
-pub record GoesOnAlike (limits : Bounds) (entries : List Observation) (i : ℕ) (awaited : Observation)
+pub record GoesOnOfOneObject (limits : Bounds) (entries : List Observation) (i : ℕ) (awaited : Observation)
     (to_come : List ℕ) (s : LockState) (taken : List ℕ) : Type 0 where
   pub effect : Effect
-  pub alike : AreOfOneObject awaited effect.entry
+  pub object : AreOfOneObject awaited effect.entry
   pub state : LockState
   pub may : MayTake (StateTransition limits) entries awaited s taken effect state
   pub can : CanComplete (StateTransition limits) entries (i ∷ to_come) state (effect.index ∷ taken)
@@ -77,7 +77,7 @@ OneObjectSuffices =
     (taken : List ℕ) →
     slice_get entries i ≡ Some awaited → IsInterval awaited → ¬ Contains taken i →
     CanComplete (StateTransition limits) entries (i ∷ to_come) s taken →
-    GoesOnAlike limits entries i awaited to_come s taken
+    GoesOnOfOneObject limits entries i awaited to_come s taken
 
 -- this call may take effect, and the search can be completed then
 pub record MayGoBy (limits : Bounds) (entries : List Observation) (awaited : Observation) (to_come : List ℕ)
@@ -92,16 +92,16 @@ AlikeByReturn =
     (taken : List ℕ) (x : Effect) (k : ℕ) (e : Observation) →
     IsFirstReturn entries taken awaited → MayTake (StateTransition limits) entries awaited s taken x t →
     CanComplete (StateTransition limits) entries to_come t (x.index ∷ taken) →
-    slice_get entries k ≡ Some e → IsAlikeSooner e x.entry → ¬ Contains taken k → ¬ IsBefore awaited e →
+    slice_get entries k ≡ Some e → IsAlikeNoLater e x.entry → ¬ Contains taken k → ¬ IsBefore awaited e →
     Contains to_come k →
     MayGoBy limits entries awaited to_come s t taken (record { index = k; entry = e; reply = x.reply })
 
 -- A question that is under way is left out: what can be completed after it can be completed without it.
-abbrev pub OpenQuestionsAreNotNeeded : Type 0
-OpenQuestionsAreNotNeeded =
+abbrev pub QuestionsUnderWayAreNotNeeded : Type 0
+QuestionsUnderWayAreNotNeeded =
     (limits : Bounds) (entries : List Observation) (to_come : List ℕ) (s t : LockState) (taken : List ℕ)
     (x : Effect) →
-    All (IsReturnAt entries) to_come → IsEffectOf entries x → is_open_question x.entry ≡ true →
+    All (IsReturnAt entries) to_come → IsEffectOf entries x → is_question_under_way x.entry ≡ true →
     StateTransition limits s (x.entry.call, x.reply) t → CanComplete (StateTransition limits) entries to_come t
     (x.index ∷ taken) →
     CanComplete (StateTransition limits) entries to_come s taken

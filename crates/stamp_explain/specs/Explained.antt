@@ -23,8 +23,8 @@ history_of order = map (λ (x : Effect). (x.entry.call, x.reply)) order
 abbrev pub indices_of : List Effect → List ℕ
 indices_of order = map (λ (x : Effect). x.index) order
 
-abbrev pub AreApart : Effect → Effect → Type 0
-AreApart x y = x.index ≢ y.index
+abbrev pub AreOfTwoEntries : Effect → Effect → Type 0
+AreOfTwoEntries x y = x.index ≢ y.index
 
 -- the earlier of two effects is of a call that did not begin after the other's return
 abbrev pub RespectsBefore : Effect → Effect → Type 0
@@ -34,7 +34,7 @@ RespectsBefore earlier later = ¬ IsBefore later.entry earlier.entry
 -- comes before it; the history in this order is legal
 pub record IsExplainedBy (h : ObservedHistory) (order : List Effect) : Type 0 where
   pub effects : All (IsEffectOf h.entries) order
-  pub once : AllPairs AreApart order
+  pub once : AllPairs AreOfTwoEntries order
   pub returned : (i : ℕ) (e : Observation) → slice_get h.entries i ≡ Some e → HasReturned e →
       Contains (indices_of order) i
   pub ordered : AllPairs RespectsBefore order

@@ -31,27 +31,28 @@ content_by width entries None = zeros width
 content_by width entries (Some i) = words_put_at width (slice_get entries i)
 
 -- the first call of its thread whose return is not past
-pub record IsNext (entries : List Observation) (past : List ℕ) (i : ℕ) (e : Observation) : Type 0 where
+pub record IsFirstLeft (entries : List Observation) (past : List ℕ) (i : ℕ) (e : Observation) : Type 0 where
   pub is_entry : slice_get entries i ≡ Some e
   pub still : ¬ Contains past i
   pub first : (j : ℕ) (f : Observation) → slice_get entries j ≡ Some f → f.thread ≡ e.thread →
       ¬ Contains past j → j ≢ i → IsBefore e f
 
 -- this thread has a next call
-pub record HasNext (entries : List Observation) (past : List ℕ) (thread : ℕ) : Type 0 where
+pub record HasFirstLeft (entries : List Observation) (past : List ℕ) (thread : ℕ) : Type 0 where
   pub index : ℕ
   pub entry : Observation
-  pub is : IsNext entries past index entry
+  pub is : IsFirstLeft entries past index entry
   pub same : entry.thread ≡ thread
 
 -- the calls in effect: those whose return is past, and of the threads whose bit is set, each of which has one, the
 -- next one
 pub record AreTaken (entries : List Observation) (past : List ℕ) (threads : ℕ) (taken : List ℕ) : Type 0 where
   pub only : (i : ℕ) (e : Observation) → slice_get entries i ≡ Some e → Contains taken i →
-      Contains past i ⊎ ((bit_at threads e.thread ≡ 1) × IsNext entries past i e)
+      Contains past i ⊎ ((bit_at threads e.thread ≡ 1) × IsFirstLeft entries past i e)
   pub all_past : (i : ℕ) → Contains past i → Contains taken i
-  pub each_next : (i : ℕ) (e : Observation) → IsNext entries past i e → bit_at threads e.thread ≡ 1 → Contains taken i
-  pub has_next : (thread : ℕ) → bit_at threads thread ≡ 1 → HasNext entries past thread
+  pub each_first : (i : ℕ) (e : Observation) → IsFirstLeft entries past i e → bit_at threads e.thread ≡ 1 →
+      Contains taken i
+  pub has_first : (thread : ℕ) → bit_at threads thread ≡ 1 → HasFirstLeft entries past thread
 
 -- the state of lock and record by numbers: of the word, and of the entry that put the content
 pub record IsStateBy (h : ObservedHistory) (bits : ℕ) (put : Option ℕ) (s : LockState) : Type 0 where
@@ -81,12 +82,12 @@ pub record Does (h : ObservedHistory) (i : ℕ) (e : Observation) (put : Option 
   pub leaves : transition.put ≡ put_after put i e.call transition.reply
 
 -- what was found of a call in the state: what it does, or that no reply that its observation allows is given
-abbrev pub HasGone : ObservedHistory → ℕ → Observation → Option ℕ → LockState → Option CallTransition → Type 0
-HasGone h i e put s None = (reply : Reply) (t : LockState) → AllowsReply e reply → ¬ StateTransition h.limits s (
+abbrev pub IsTransitionOf : ObservedHistory → ℕ → Observation → Option ℕ → LockState → Option CallTransition → Type 0
+IsTransitionOf h i e put s None = (reply : Reply) (t : LockState) → AllowsReply e reply → ¬ StateTransition h.limits s (
   e.call,
   reply,
 ) t
-HasGone h i e put s (Some transition) = Does h i e put s transition
+IsTransitionOf h i e put s (Some transition) = Does h i e put s transition
 
 -- the node stands for what a way through the search reaches, with the words of its put in the record
 pub record IsReached (h : ObservedHistory) (asked : Option ℕ) (returns : List ℕ) (node : Node) : Type 0 where

@@ -36,9 +36,9 @@ pub record IsRecordOfObserved (h : ObservedHistory) (r : Recorded) : Type 0 wher
 abbrev pub position_at : ℕ → ℕ → ℕ
 position_at q first = if nat_lt q first then first else q
 
--- and how many took effect there before it
-abbrev pub there_at : ℕ → ℕ → ℕ → ℕ
-there_at q n first = if nat_lt q first then 0 else n
+-- and how many took effect there earlier
+abbrev pub earlier_at : ℕ → ℕ → ℕ → ℕ
+earlier_at q n first = if nat_lt q first then 0 else n
 
 -- the last position of a call; one that is under way has that of the end of the history
 abbrev pub ends_at : Option Returned → ℕ → ℕ

@@ -10,7 +10,7 @@ use Rattle.stamp_explain.specs.Observed.{ObservedHistory, IsBefore, IsReturnAt}
 use Rattle.stamp_explain.specs.Explained.{IsExplained}
 use Rattle.stamp_explain.specs.Cut.{cut_after, index_then, seen_at}
 use Rattle.stamp_explain.specs.Search.{AreReturns, LockState, StateTransition}
-use Rattle.stamp_explain.specs.Configuration.{Configuration, IsGivenUp, ReachesMoreBeside}
+use Rattle.stamp_explain.specs.Configuration.{Configuration, GivesUpApart, ReachesMoreBeside}
 
 -- the call, returned at the same position with this reply
 abbrev pub returned_with : Observation → Returned → Reply → Observation
@@ -37,7 +37,7 @@ pub record ArePossible (h : ObservedHistory) (i : ℕ) (tried found : List Reply
 -- with this reply a search of what is seen when the call of this entry has returned gives up
 pub record IsUndecidedAtReply (h : ObservedHistory) (i most : ℕ) (reply : Reply) : Type 0 where
   pub at : IsReturnAt h.entries i
-  pub gives_up : IsGivenUp (seen_at at.return.last (i + 1) (with_reply i at.entry at.return reply h)) most
+  pub gives_up : GivesUpApart (seen_at at.return.last (i + 1) (with_reply i at.entry at.return reply h)) most
 
 abbrev pub IsUndecidedAtSome : ObservedHistory → ℕ → ℕ → List Reply → Type 0
 IsUndecidedAtSome h i most tried = (reply : Reply) × (Contains tried reply × IsUndecidedAtReply h i most reply)

@@ -14,7 +14,7 @@ use Rattle.stamp_core.specs.declared.reply.Reply.{Reply}
 use Rattle.stamp_explain.specs.declared.observed.Observation.{Observation}
 use Rattle.stamp_explain.specs.declared.observed.Returned.{Returned}
 use Rattle.stamp_explain.specs.Observed.{AreAlikeCalls, IsBefore, HasReturned, IsReturnAt}
-use Rattle.stamp_explain.specs.Explained.{Effect, IsEffectOf, history_of, indices_of, AreApart, RespectsBefore}
+use Rattle.stamp_explain.specs.Explained.{Effect, IsEffectOf, history_of, indices_of, AreOfTwoEntries, RespectsBefore}
 
 -- the calls have these replies, one after the other from this state on
 abbrev pub Runs : {S : Type 0} → (S → Call × Reply → S → Type 0) → S → History → Type 0
@@ -26,7 +26,7 @@ pub record IsCompletedBy {S : Type 0} (Goes : S → Call × Reply → S →
     Type 0) (entries : List Observation) (returns : List ℕ) (s : S) (taken : List ℕ) (rest : List Effect) : Type 0
   where
     pub effects : All (IsEffectOf entries) rest
-    pub once : AllPairs AreApart rest
+    pub once : AllPairs AreOfTwoEntries rest
     pub fresh : All (λ (x : Effect). ¬ Contains taken x.index) rest
     pub returned : All (λ (i : ℕ). Contains taken i ⊎ Contains (indices_of rest) i) returns
     pub ordered : AllPairs RespectsBefore rest
@@ -53,9 +53,9 @@ IsFirstReturn entries taken a = (j : ℕ) (e x : Observation) → slice_get entr
     IsBefore e x → IsBefore a x
 
 -- they are alike, and the first returned no later than the second
-pub record IsAlikeSooner (e f : Observation) : Type 0 where
+pub record IsAlikeNoLater (e f : Observation) : Type 0 where
   pub calls : AreAlikeCalls e f
-  pub sooner : calls.first.last ≤ calls.second.last
+  pub no_later : calls.first.last ≤ calls.second.last
 
 -- a way to the end: a call in effect may return; where one that is not in effect is to return, an open call
 -- takes effect

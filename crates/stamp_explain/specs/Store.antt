@@ -1,4 +1,4 @@
--- What is kept of the configurations that were seen.
+-- What is kept of the configurations that were visited.
 use Rattle.std.specs.Prelude.{ℕ, ◌≡◌, ◌≢◌, ◌++◌, ◌∷◌, [], Bool, Option, length}
 use Rattle.std.specs.List.{AllPairs, Contains}
 use Rattle.std.specs.Bool.{MatchBool}

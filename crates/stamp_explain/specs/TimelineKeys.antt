@@ -10,8 +10,8 @@ use Rattle.stamp_explain.specs.Observed.{ObservedHistory}
 use Rattle.stamp_explain.specs.Timeline.{AreOpen}
 
 -- where a call returned, and where it began
-abbrev pub EndsAt : Observation → ℕ → Type 0
-EndsAt e n = (r : Returned) × ((e.returned ≡ Some r) × (r.last ≡ n))
+abbrev pub ReturnsAt : Observation → ℕ → Type 0
+ReturnsAt e n = (r : Returned) × ((e.returned ≡ Some r) × (r.last ≡ n))
 
 abbrev pub BeginsAt : Observation → ℕ → Type 0
 BeginsAt e n = e.first ≡ n
@@ -48,7 +48,7 @@ pub record AreRanked (calls : ℕ) (returns : List ℕ) (k : ℕ) (ranks : List 
 -- what the calls that are open are found by: the returns and the beginnings in order, and the ranks
 pub record AreTimelineKeys (h : ObservedHistory) (ends begins : List (ℕ × ℕ)) (ranks : List ℕ) : Type 0 where
   pub end_keys : List (ℕ × ℕ)
-  pub ends_are : AreKeys EndsAt h.entries (length h.entries) end_keys
+  pub ends_are : AreKeys ReturnsAt h.entries (length h.entries) end_keys
   pub ends_rise : AreRising end_keys ends
   pub begin_keys : List (ℕ × ℕ)
   pub begins_are : AreKeys BeginsAt h.entries (length h.entries) begin_keys
@@ -59,8 +59,8 @@ pub record AreTimelineKeys (h : ObservedHistory) (ends begins : List (ℕ × ℕ
 pub record AreOpens (h : ObservedHistory) (returns : List ℕ) (opens : List (Vec ℕ Global)) : Type 0 where
   pub each : (k : ℕ) (calls : Vec ℕ Global) → slice_get opens k ≡ Some calls → AreOpen h returns k calls.items
 
--- a call that is open, behind its rank; it began no later than any return that is to come
-pub record IsKeptOpen (entries : List Observation) (ends : List (ℕ × ℕ)) (ranks : List ℕ) (past : ℕ)
+-- the rank and the index of a call that is open; it began no later than any return that is to come
+pub record IsOpenKey (entries : List Observation) (ends : List (ℕ × ℕ)) (ranks : List ℕ) (past : ℕ)
     (p : ℕ × ℕ) : Type 0 where
   pub entry : Observation
   pub is_entry : slice_get entries p.1 ≡ Some entry
@@ -68,11 +68,11 @@ pub record IsKeptOpen (entries : List Observation) (ends : List (ℕ × ℕ)) (r
   pub begun : (m : ℕ) (d : ℕ × ℕ) → past ≤ m → m < length ends → entry.first ≤ (slice_index_or ends m d).0
 
 -- before this return: of the calls in the order in which they began, so many have begun, and those of them that
--- are not past are kept
-pub record AreKept (entries : List Observation) (ends begins : List (ℕ × ℕ)) (ranks : List ℕ) (past begun : ℕ)
+-- are not past have their keys here
+pub record AreOpenKeys (entries : List Observation) (ends begins : List (ℕ × ℕ)) (ranks : List ℕ) (past begun : ℕ)
     (calls : List (ℕ × ℕ)) : Type 0 where
   pub inside : begun ≤ length begins
-  pub each : (p : ℕ × ℕ) → Contains calls p → IsKeptOpen entries ends ranks past p
+  pub each : (p : ℕ × ℕ) → Contains calls p → IsOpenKey entries ends ranks past p
   pub whole : (k : ℕ) (d : ℕ × ℕ) → k < begun → past ≤ slice_index ranks (slice_index_or begins k d).1 →
       Contains calls (slice_index ranks (slice_index_or begins k d).1, (slice_index_or begins k d).1)
 
@@ -90,7 +90,7 @@ pub record BeginsMore (begins : List (ℕ × ℕ)) (ranks : List ℕ) (last from
     pub further : from ≤ to
     pub ends : (d : ℕ × ℕ) → to < length begins → last < (slice_index_or begins to d).0
     pub only : (p : ℕ × ℕ) → Contains new p → Contains old p ⊎ IsBegun begins ranks last p
-    pub before : (p : ℕ × ℕ) → Contains old p → Contains new p
+    pub still : (p : ℕ × ℕ) → Contains old p → Contains new p
     pub whole : (k : ℕ) (d : ℕ × ℕ) → from ≤ k → k < to →
         Contains new (slice_index ranks (slice_index_or begins k d).1, (slice_index_or begins k d).1)
 
@@ -99,7 +99,7 @@ abbrev pub IsSooner : ℕ × ℕ → ℕ × ℕ → Type 0
 IsSooner p q = (p.0 < q.0) ⊎ ((p.0 ≡ q.0) × (p.1 < q.1))
 
 -- where each returned call returned and its index, in this order
-pub record AreEnds (entries : List Observation) (ends : List (ℕ × ℕ)) : Type 0 where
-  pub each : (p : ℕ × ℕ) → Contains ends p → (e : Observation) × ((slice_get entries p.1 ≡ Some e) × EndsAt e p.0)
-  pub whole : (i : ℕ) (e : Observation) (n : ℕ) → slice_get entries i ≡ Some e → EndsAt e n → Contains ends (n, i)
+pub record AreReturnKeys (entries : List Observation) (ends : List (ℕ × ℕ)) : Type 0 where
+  pub each : (p : ℕ × ℕ) → Contains ends p → (e : Observation) × ((slice_get entries p.1 ≡ Some e) × ReturnsAt e p.0)
+  pub whole : (i : ℕ) (e : Observation) (n : ℕ) → slice_get entries i ≡ Some e → ReturnsAt e n → Contains ends (n, i)
   pub in_order : AllPairs IsSooner ends

@@ -49,20 +49,20 @@ is_question Get = true
 is_question _ = false
 
 -- it is under way, and such a call
-abbrev pub open_question_by : Call → Option Returned → Bool
-open_question_by call None = is_question call
-open_question_by call (Some r) = false
+abbrev pub question_under_way_by : Call → Option Returned → Bool
+question_under_way_by call None = is_question call
+question_under_way_by call (Some r) = false
 
-abbrev pub is_open_question : Observation → Bool
-is_open_question e = open_question_by e.call e.returned
+abbrev pub is_question_under_way : Observation → Bool
+is_question_under_way e = question_under_way_by e.call e.returned
 
-abbrev pub open_question_in : Option Observation → Bool
-open_question_in None = false
-open_question_in (Some e) = is_open_question e
+abbrev pub question_under_way_in : Option Observation → Bool
+question_under_way_in None = false
+question_under_way_in (Some e) = is_question_under_way e
 
 -- so is the call of this entry
-abbrev pub is_open_question_at : List Observation → ℕ → Bool
-is_open_question_at entries i = open_question_in (slice_get entries i)
+abbrev pub is_question_under_way_at : List Observation → ℕ → Bool
+is_question_under_way_at entries i = question_under_way_in (slice_get entries i)
 
 -- the call has returned, and its reply tells that it changed nothing
 abbrev pub unchanging_by : Call → Option Returned → Bool

@@ -4,7 +4,7 @@ ghost use Rattle.stamp_explain.specs.Observed.{IsObserved};
 ghost use Rattle.stamp_explain.specs.Linearization.{IsLinearizationOf};
 ghost use Rattle.stamp_explain.specs.Apart.{IsSubhistoryOf};
 
-use crate::linearization::Taken;
+use crate::linearization::OrderedCall;
 use crate::observed::{Observation, Observed};
 use std::alloc::{AllocError, Global};
 
@@ -39,22 +39,22 @@ pub(crate) fn subhistory_of(
 
 impl Subhistory {
     /// The position at which this call began.
-    fn first_of(&self, taken: Taken) -> u64
-        requires { taken.entry < length self.now.history.entries }
-        ensures { (e : Observation) → slice_get self.now.history.entries taken.entry ≡ Some e → result ≡ e.first }
+    fn first_of(&self, call: OrderedCall) -> u64
+        requires { call.index < length self.now.history.entries }
+        ensures { (e : Observation) → slice_get self.now.history.entries call.index ≡ Some e → result ≡ e.first }
     {
-        self.history.entries()[taken.entry].first
+        self.history.entries()[call.index].first
     }
 
-    /// The same call, with its entry in the whole history.
-    fn in_whole(&self, taken: Taken) -> Taken
-        requires { taken.entry < length self.now.indices.items }
-        ensures entry { slice_get self.now.indices.items taken.entry ≡ Some result.entry }
-        ensures reply { result.reply ≡ taken.reply }
+    /// The same call, with its index in the whole history.
+    fn in_whole(&self, call: OrderedCall) -> OrderedCall
+        requires { call.index < length self.now.indices.items }
+        ensures index { slice_get self.now.indices.items call.index ≡ Some result.index }
+        ensures reply { result.reply ≡ call.reply }
     {
-        Taken {
-            entry: self.indices[taken.entry],
-            reply: taken.reply,
+        OrderedCall {
+            index: self.indices[call.index],
+            reply: call.reply,
         }
     }
 }
@@ -65,10 +65,10 @@ pub(crate) fn merged(
     alloc: Global,
     observed: &Observed,
     locks: &Subhistory,
-    lock_order: &[Taken],
+    lock_order: &[OrderedCall],
     records: &Subhistory,
-    record_order: &[Taken],
-) -> Result<Vec<Taken>, AllocError>
+    record_order: &[OrderedCall],
+) -> Result<Vec<OrderedCall>, AllocError>
     requires observed { IsObserved observed.now }
     requires locks { IsSubhistoryOf observed.now true locks.now }
     requires records { IsSubhistoryOf observed.now false records.now }

@@ -8,16 +8,15 @@ ghost use Rattle.stamp_explain.specs.declared.observed.Returned.{Returned};
 ghost use Rattle.stamp_explain.specs.Observed.{ObservedHistory, IsObserved};
 ghost use Rattle.stamp_explain.specs.Configuration.{ReachesMoreBeside};
 ghost use Rattle.stamp_explain.specs.Cut.{index_then};
-ghost use Rattle.stamp_explain.specs.Expand.{AddsNew, Suffice, Took};
+ghost use Rattle.stamp_explain.specs.Expand.{AddsNew, Suffice, IsTakeOf};
 ghost use Rattle.stamp_explain.specs.Store.{Keeps};
 ghost use Rattle.stamp_explain.specs.Possible.{without_return};
-ghost use Rattle.stamp_explain.specs.Asking.{Adds, AreAsked, ComeAfterBeside, AreMore, AreReplies, GetsMore, IsSeenWith, IsAsking, IsAskingAt, ComesAfterBeside, MayGoOnBeside, NoneIsAtOnceBeside, SufficeBeside, SufficeUnless};
+ghost use Rattle.stamp_explain.specs.Asking.{Adds, AreAsked, ComeNextBeside, AreMore, AreReplies, GetsMore, IsSeenWith, IsAsking, IsAskingAt, ComesNextBeside, MayGoOnBeside, NoneIsAtOnceBeside, SufficeBeside, SufficeUnless};
 
 use crate::cut::seen_at;
 use crate::node::{Next, Node, Origin};
-use crate::observed::{Observation, Observed, Returned};
+use crate::observed::{Observation, Observed, Returned, is_before};
 use crate::search::{choice_of, first_node, settled, take_of};
-use crate::soundness::is_before;
 use crate::store::Store;
 use crate::timeline::{Timeline, timeline_of};
 use crate::transition::transition_of;
@@ -114,7 +113,7 @@ impl Asking {
     /// The one node that comes next, where another open call takes effect that changes nothing.
     fn at_once(&self, node: &Node) -> Option<Next>
         requires { MayGoOnBeside self.now node.now }
-        ensures leads { IfSome result (λ next. ComesAfterBeside self.now node.now next) }
+        ensures leads { IfSome result (λ next. ComesNextBeside self.now node.now next) }
         ensures one { IfSome result (λ next. SufficeBeside self.now node.now (next ∷ [])) }
         ensures none { IfNone result (NoneIsAtOnceBeside self.now node.now) }
     {
@@ -132,9 +131,9 @@ impl Asking {
     fn choices(&self, node: &Node, nexts: &mut Vec<Next>) -> Result<(), AllocError>
         requires at { MayGoOnBeside self.now node.now }
         requires at_once { NoneIsAtOnceBeside self.now node.now }
-        ensures leads { IfOk result (λ _. ComeAfterBeside self.now node.now nexts.new.items) }
+        ensures leads { IfOk result (λ _. ComeNextBeside self.now node.now nexts.new.items) }
         ensures whole { IfOk result (λ _. (reply : Reply) (h : ObservedHistory) → IsSeenWith self.now reply h
-            → Took h self.now.timeline.returns.items node.now self.now.index None
+            → IsTakeOf h self.now.timeline.returns.items node.now self.now.index None
             → Suffice h self.now.timeline.returns.items node.now nexts.new.items) }
     {
         nexts.clear();
@@ -176,7 +175,7 @@ impl Asking {
         replies: &mut Vec<Reply>,
     ) -> Result<(), AllocError>
         requires { MayGoOnBeside self.now node.now }
-        ensures leads { IfOk result (λ _. ComeAfterBeside self.now node.now nexts.new.items) }
+        ensures leads { IfOk result (λ _. ComeNextBeside self.now node.now nexts.new.items) }
         ensures more { IfOk result (λ _. AreMore replies.old.items replies.new.items) }
         ensures gets { IfOk result (λ _. GetsMore self.now replies.old.items replies.new.items) }
         ensures whole { IfOk result (λ _. SufficeUnless self.now node.now nexts.new.items replies.new.items) }
@@ -191,7 +190,7 @@ impl Asking {
     }
 }
 
-/// Adds the nodes that were not seen, which come from the one of this index, to those seen, and their
+/// Adds the nodes that were not visited, which come from the one of this index, to those visited, and their
 /// indices to those that wait.
 fn add_new(
     store: &mut Store,

@@ -3,11 +3,11 @@ ghost use Rattle.std.specs.Prelude.{◌≡◌};
 ghost use Rattle.stamp_explain.specs.Observed.{IsObserved};
 ghost use Rattle.stamp_explain.specs.Answer.{IsAnswer, IsNotFound};
 
-use crate::first_fault::first_fault;
 use crate::found::{SearchEnd, find};
 use crate::observed::Observed;
-use crate::recording::record_of;
-use crate::timeline::ends_of;
+use crate::points::record_of;
+use crate::refusal::refusal_of;
+use crate::timeline::return_keys_in_order;
 use stamp_core::Record;
 use std::alloc::{AllocError, Global};
 use std::error::Error;
@@ -78,11 +78,11 @@ fn without_order(
     requires found { IsNotFound observed.now most unexplained }
     ensures { IsAnswer observed.now most result }
 {
-    let ends = ends_of(alloc, observed.entries())?;
-    if ends.is_empty() {
+    let return_keys = return_keys_in_order(alloc, observed.entries())?;
+    if return_keys.is_empty() {
         return Ok(record_of(alloc, observed, &[])?);
     }
-    Err(first_fault(alloc, observed, ends.as_slice(), most, unexplained)?)
+    Err(refusal_of(alloc, observed, return_keys.as_slice(), most, unexplained)?)
 }
 
 /// Explains an observed history: finds an order in which a single-threaded lock and record give its calls these
@@ -98,6 +98,6 @@ pub fn explain(alloc: Global, observed: &Observed, most: u64) -> Result<Record, 
     match find(alloc, observed, most)? {
         SearchEnd::Linearization(order) => Ok(record_of(alloc, observed, order.as_slice())?),
         SearchEnd::Nothing => without_order(alloc, observed, most, true),
-        SearchEnd::Undecided => without_order(alloc, observed, most, false),
+        SearchEnd::GaveUp => without_order(alloc, observed, most, false),
     }
 }

@@ -4,7 +4,7 @@ ghost use Rattle.stamp_explain.specs.Observed.{IsObserved};
 ghost use Rattle.stamp_explain.specs.Expand.{IsFoundApart, IsSearched};
 
 use crate::apart::{merged, subhistory_of};
-use crate::linearization::Taken;
+use crate::linearization::OrderedCall;
 use crate::observed::Observed;
 use crate::search::search;
 use crate::timeline::timeline_of;
@@ -14,11 +14,11 @@ use std::alloc::{AllocError, Global};
 #[derive(Drop)]
 pub(crate) enum SearchEnd {
     /// A linearization: an order of calls that explains the history.
-    Linearization(Vec<Taken>),
+    Linearization(Vec<OrderedCall>),
     /// None does.
     Nothing,
     /// A search gave up: it had looked at more than `most` configurations.
-    Undecided,
+    GaveUp,
 }
 
 /// What one search finds of all calls of a history.
@@ -45,13 +45,13 @@ pub(crate) fn find(alloc: Global, observed: &Observed, most: u64) -> Result<Sear
     let of_records = find_alone(alloc, &records.history, most)?;
     match of_locks {
         SearchEnd::Nothing => Ok(SearchEnd::Nothing),
-        SearchEnd::Undecided => match of_records {
+        SearchEnd::GaveUp => match of_records {
             SearchEnd::Nothing => Ok(SearchEnd::Nothing),
-            SearchEnd::Linearization(_) | SearchEnd::Undecided => Ok(SearchEnd::Undecided),
+            SearchEnd::Linearization(_) | SearchEnd::GaveUp => Ok(SearchEnd::GaveUp),
         },
         SearchEnd::Linearization(lock_order) => match of_records {
             SearchEnd::Nothing => Ok(SearchEnd::Nothing),
-            SearchEnd::Undecided => Ok(SearchEnd::Undecided),
+            SearchEnd::GaveUp => Ok(SearchEnd::GaveUp),
             SearchEnd::Linearization(record_order) => Ok(SearchEnd::Linearization(merged(
                 alloc,
                 observed,

@@ -4,7 +4,7 @@ ghost use Rattle.stamp_explain.specs.Observed.{IsObserved};
 ghost use Rattle.stamp_explain.specs.Node.{IsReached};
 ghost use Rattle.stamp_explain.specs.Timeline.{IsTimeline};
 ghost use Rattle.stamp_explain.specs.Expand.{AreLinked, IsLed, IsLedBy};
-ghost use Rattle.stamp_explain.specs.Linearization.{IsLinearizationOf, IsTakenAt, IsEnd, RepliesAt};
+ghost use Rattle.stamp_explain.specs.Linearization.{IsLinearizationOf, IsOrderedCallAt, IsLastNode, RepliesAt};
 
 use crate::node::Node;
 use crate::observed::Observed;
@@ -14,10 +14,10 @@ use crate::transition::transition_of;
 use stamp_core::Reply;
 use std::alloc::{AllocError, Global};
 
-/// A call that took effect: where it stands among the entries of the history, and its reply.
+/// A call that took effect: its index in the history, and its reply.
 #[derive(Clone, Copy)]
-pub(crate) struct Taken {
-    pub(crate) entry: usize,
+pub(crate) struct OrderedCall {
+    pub(crate) index: usize,
     pub(crate) reply: Reply,
 }
 
@@ -25,7 +25,7 @@ pub(crate) struct Taken {
 fn reply_at(observed: &Observed, node: &Node, i: usize) -> Reply
     requires observed { IsObserved observed.now }
     requires led { IsLedBy observed.now node.now i }
-    ensures { RepliesAt observed.now node.now (record { entry = i; reply = result }) }
+    ensures { RepliesAt observed.now node.now (record { index = i; reply = result }) }
 {
     let Some(transition) = transition_of(observed, node.bits, node.put, i) else {
         unreachable!();
@@ -35,10 +35,10 @@ fn reply_at(observed: &Observed, node: &Node, i: usize) -> Reply
 
 /// The call that took effect when the search left this node, with its reply, which is that of its return
 /// unless it is under way; none where a return was passed.
-fn taken_at(observed: &Observed, node: &Node, took: Option<usize>) -> Option<Taken>
+fn ordered_call_at(observed: &Observed, node: &Node, took: Option<usize>) -> Option<OrderedCall>
     requires observed { IsObserved observed.now }
     requires led { IsLed observed.now node.now took }
-    ensures { IsTakenAt observed.now node.now took result }
+    ensures { IsOrderedCallAt observed.now node.now took result }
 {
     let Some(i) = took else {
         return None;
@@ -46,12 +46,12 @@ fn taken_at(observed: &Observed, node: &Node, took: Option<usize>) -> Option<Tak
     // By the layout the prover knows that the limits are in their range.
     let _ = observed.limits().layout();
     match &observed.entries()[i].returned {
-        None => Some(Taken {
-            entry: i,
+        None => Some(OrderedCall {
+            index: i,
             reply: reply_at(observed, node, i),
         }),
-        Some(returned) => Some(Taken {
-            entry: i,
+        Some(returned) => Some(OrderedCall {
+            index: i,
             reply: returned.reply,
         }),
     }
@@ -64,11 +64,11 @@ pub(crate) fn linearization_to(
     timeline: &Timeline,
     store: &Store,
     index: usize,
-) -> Result<Vec<Taken>, AllocError>
+) -> Result<Vec<OrderedCall>, AllocError>
     requires observed { IsObserved observed.now }
     requires timeline { IsTimeline observed.now timeline.now }
     requires linked { AreLinked observed.now timeline.now.returns.items store.now }
-    requires end { IsEnd timeline.now.returns.items store.now index }
+    requires end { IsLastNode timeline.now.returns.items store.now index }
     ensures { IfOk result (λ order. IsLinearizationOf observed.now order.items) }
 {
     let mut order = Vec::with_capacity(alloc, observed.entries().len())?;
@@ -76,8 +76,8 @@ pub(crate) fn linearization_to(
     while at > 0 {
         let origin = store.origins[at];
         let node = &store.nodes[origin.from];
-        if let Some(Taken { entry, reply }) = taken_at(observed, node, origin.took) {
-            order.push(Taken { entry, reply })?;
+        if let Some(call) = ordered_call_at(observed, node, origin.took) {
+            order.push(call)?;
         }
         at = origin.from;
     }

@@ -6,7 +6,8 @@ ghost use Rattle.stamp_explain.specs.Node.{SetsBit, ClearsBit};
 use stamp_core::Reply;
 
 /// A configuration: how many returns are past, the number of the lock's word, the entry whose words
-/// the record holds (none: zeros), and as bits the threads whose open call has taken effect.
+/// the record holds (none: zeros), and as bits the threads whose first call that has not returned is in
+/// effect.
 #[derive(Clone, Copy)]
 pub(crate) struct Node {
     pub(crate) past: usize,
@@ -22,7 +23,7 @@ pub(crate) struct Next {
     pub(crate) took: Option<usize>,
 }
 
-/// Where a node comes from: the index of that node among those seen, and the entry whose call took
+/// Where a node comes from: the index of that node among those visited, and the entry whose call took
 /// effect on the way, if one did.
 #[derive(Clone, Copy)]
 pub(crate) struct Origin {

@@ -99,7 +99,7 @@ fn is_possible(
     match find(alloc, &seen, most)? {
         SearchEnd::Linearization(_) => Ok(true),
         SearchEnd::Nothing => Ok(false),
-        SearchEnd::Undecided => Err(PossibleError::Undecided),
+        SearchEnd::GaveUp => Err(PossibleError::Undecided),
     }
 }
 

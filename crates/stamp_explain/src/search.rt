@@ -7,7 +7,7 @@ ghost use Rattle.stamp_explain.specs.Search.{AreReturns};
 ghost use Rattle.stamp_explain.specs.Node.{IsFirstNode};
 ghost use Rattle.stamp_explain.specs.Timeline.{IsTimeline, IsOpenAt};
 ghost use Rattle.stamp_explain.specs.Store.{Keeps};
-ghost use Rattle.stamp_explain.specs.Expand.{MayGoOn, Expands, Took, PassesTo, IsChoice, IsNotInEffect, NoneIsAtOnceAt, IsSearched, LooksAt, waiting_from};
+ghost use Rattle.stamp_explain.specs.Expand.{MayGoOn, Expands, IsTakeOf, PassesTo, IsChoice, IsSettled, NoneIsAtOnceAt, IsSearched, LooksAt, waiting_from};
 
 use crate::ahead::gives_way;
 use crate::found::SearchEnd;
@@ -17,7 +17,7 @@ use crate::observed::{Observed, are_of_one_object};
 use crate::store::Store;
 use crate::timeline::Timeline;
 use crate::transition::transition_of;
-use crate::unchanging::{is_open_question_at, is_unchanging_at};
+use crate::unchanging::{is_question_under_way_at, is_unchanging_at};
 use stamp_core::Word;
 use std::alloc::{AllocError, Global};
 
@@ -38,8 +38,8 @@ fn leave(waiting: &mut Vec<Waiting>, from: usize, nexts: &[Next]) -> Result<(), 
     Ok(())
 }
 
-/// Takes the last of the nodes that wait and were not seen, and adds it to those seen: whether there was
-/// one.
+/// Takes the last of the nodes that wait and were not visited, and adds it to those visited: whether there
+/// was one.
 fn look(store: &mut Store, waiting: &mut Vec<Waiting>) -> Result<bool, AllocError>
     requires { Keeps store.old }
     ensures { IfOk result (λ found. LooksAt store.old store.new waiting.old.items waiting.new.items found) }
@@ -60,7 +60,7 @@ pub(crate) fn take_of(observed: &Observed, node: &Node, i: usize) -> Option<Next
     requires admitted { IsAdmitted observed.now.limits (word_at observed.now.limits node.now.bits) }
     requires inside { i < length observed.now.entries }
     ensures { (returns : List ℕ) → AreReturns observed.now.entries returns
-        → IsOpenAt observed.now returns node.now.past i → Took observed.now returns node.now i result }
+        → IsOpenAt observed.now returns node.now.past i → IsTakeOf observed.now returns node.now i result }
 {
     let thread = observed.entries()[i].thread;
     if has_bit(node.threads, thread) {
@@ -87,7 +87,7 @@ pub(crate) fn settled(observed: &Observed, timeline: &Timeline, next: &Next) -> 
     requires timeline { IsTimeline observed.now timeline.now }
     ensures took { result.took ≡ next.now.took }
     ensures passes { PassesTo observed.now timeline.now.returns.items next.now.node result.node }
-    ensures settled { IsNotInEffect observed.now timeline.now.returns.items result.node }
+    ensures settled { IsSettled observed.now timeline.now.returns.items result.node }
 {
     let mut node = next.node;
     while node.past < timeline.returns.len() {
@@ -112,7 +112,7 @@ pub(crate) fn settled(observed: &Observed, timeline: &Timeline, next: &Next) -> 
 /// returned first.
 fn at_once(observed: &Observed, timeline: &Timeline, node: &Node) -> Option<Next>
     requires at { MayGoOn observed.now timeline.now node.now }
-    requires awaited { IsNotInEffect observed.now timeline.now.returns.items node.now }
+    requires settled { IsSettled observed.now timeline.now.returns.items node.now }
     ensures one { IfSome result (λ next. Expands observed.now timeline.now.returns.items node.now (next ∷ [])) }
     ensures none { IfNone result (NoneIsAtOnceAt observed.now None timeline.now.returns.items node.now) }
 {
@@ -146,7 +146,7 @@ pub(crate) fn choice_of(
         → IsOpenAt observed.now returns node.now.past i
         → IsChoice observed.now asked returns node.now calls.now awaited i result }
 {
-    if !are_of_one_object(observed, awaited, i) || is_open_question_at(observed, i) {
+    if !are_of_one_object(observed, awaited, i) || is_question_under_way_at(observed, i) {
         return None;
     }
     let next = take_of(observed, node, i)?;
@@ -165,7 +165,7 @@ fn choices(
     nexts: &mut Vec<Next>,
 ) -> Result<(), AllocError>
     requires at { MayGoOn observed.now timeline.now node.now }
-    requires awaited { IsNotInEffect observed.now timeline.now.returns.items node.now }
+    requires settled { IsSettled observed.now timeline.now.returns.items node.now }
     requires at_once { NoneIsAtOnceAt observed.now None timeline.now.returns.items node.now }
     ensures { IfOk result (λ _. Expands observed.now timeline.now.returns.items node.now nexts.new.items) }
 {
@@ -189,7 +189,7 @@ fn successors(
     nexts: &mut Vec<Next>,
 ) -> Result<(), AllocError>
     requires at { MayGoOn observed.now timeline.now node.now }
-    requires awaited { IsNotInEffect observed.now timeline.now.returns.items node.now }
+    requires settled { IsSettled observed.now timeline.now.returns.items node.now }
     ensures { IfOk result (λ _. Expands observed.now timeline.now.returns.items node.now nexts.new.items) }
 {
     let Some(next) = at_once(observed, timeline, node) else {
@@ -231,7 +231,7 @@ pub(crate) fn search(
             return Ok(SearchEnd::Nothing);
         }
     }
-    Ok(SearchEnd::Undecided)
+    Ok(SearchEnd::GaveUp)
 }
 
 /// The node at which a search begins.

@@ -1,4 +1,4 @@
-//! The configurations that a search has seen.
+//! The configurations that a search has visited.
 ghost use Rattle.std.specs.Prelude.{◌≡◌, [], IfOk};
 ghost use Rattle.stamp_explain.specs.Store.{BeginsWith, Keeps, IsStored, key_of};
 
@@ -6,7 +6,7 @@ use crate::node::{Node, Origin};
 use std::alloc::{AllocError, Global};
 use std::collections::HashSet;
 
-/// The nodes in the order in which they were seen, where each comes from, and the same as a set.
+/// The nodes in the order in which they were visited, where each comes from, and the same as a set.
 #[derive(Drop)]
 pub(crate) struct Store {
     pub(crate) nodes: Vec<Node>,

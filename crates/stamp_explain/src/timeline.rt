@@ -1,7 +1,7 @@
 //! What a search is given of a history: when calls returned, and which are open then.
 ghost use Rattle.std.specs.Prelude.{ℕ, ◌≡◌, ◌≢◌, ◌<◌, ◌≤◌, IfOk, length};
 ghost use Rattle.std.specs.List.{All, AllPairs};
-ghost use Rattle.stamp_explain.specs.TimelineKeys.{AreKeys, AreRising, AreRanked, AreTimelineKeys, AreOpens, BeginsMore, AreEnds, EndsAt, BeginsAt, key_indices};
+ghost use Rattle.stamp_explain.specs.TimelineKeys.{AreKeys, AreRising, AreRanked, AreTimelineKeys, AreOpens, BeginsMore, AreReturnKeys, ReturnsAt, BeginsAt, key_indices};
 ghost use Rattle.stamp_explain.specs.Observed.{IsObserved};
 ghost use Rattle.stamp_explain.specs.Timeline.{IsTimeline};
 
@@ -17,8 +17,8 @@ pub(crate) struct Timeline {
 }
 
 /// Where each returned call returned, and its index.
-fn returns_of(alloc: Global, entries: &[Observation]) -> Result<Vec<(u64, usize)>, AllocError>
-    ensures { IfOk result (λ keys. AreKeys EndsAt entries.now (length entries.now) keys.items) }
+fn return_keys_of(alloc: Global, entries: &[Observation]) -> Result<Vec<(u64, usize)>, AllocError>
+    ensures { IfOk result (λ keys. AreKeys ReturnsAt entries.now (length entries.now) keys.items) }
 {
     let mut keys = Vec::with_capacity(alloc, entries.len())?;
     for (i, entry) in entries.iter().enumerate() {
@@ -31,19 +31,19 @@ fn returns_of(alloc: Global, entries: &[Observation]) -> Result<Vec<(u64, usize)
 
 /// Where each returned call returned, and its index, in the order of the positions; of two calls that return
 /// at one, that which is listed first comes first.
-pub(crate) fn ends_of(
+pub(crate) fn return_keys_in_order(
     alloc: Global,
     entries: &[Observation],
 ) -> Result<Vec<(u64, usize)>, AllocError>
-    ensures { IfOk result (λ ends. AreEnds entries.now ends.items) }
+    ensures { IfOk result (λ keys. AreReturnKeys entries.now keys.items) }
 {
-    let mut ends = returns_of(alloc, entries)?;
-    ends.sort()?;
-    Ok(ends)
+    let mut keys = return_keys_of(alloc, entries)?;
+    keys.sort()?;
+    Ok(keys)
 }
 
 /// Where each call began, and its index.
-fn begins_of(alloc: Global, entries: &[Observation]) -> Result<Vec<(u64, usize)>, AllocError>
+fn begin_keys_of(alloc: Global, entries: &[Observation]) -> Result<Vec<(u64, usize)>, AllocError>
     ensures { IfOk result (λ keys. AreKeys BeginsAt entries.now (length entries.now) keys.items) }
 {
     let mut keys = Vec::with_capacity(alloc, entries.len())?;
@@ -83,50 +83,50 @@ fn ranks_of(alloc: Global, calls: usize, returns: &[usize]) -> Result<Vec<usize>
     Ok(ranks)
 }
 
-/// Adds the calls that begin up to this position, each behind its rank: how many have begun then, of
-/// those in the order of their beginnings.
+/// Appends each call that begins up to this position, as its rank and index; gives how many have begun then.
 fn begin_more(
-    begins: &[(u64, usize)],
+    begin_keys: &[(u64, usize)],
     ranks: &[usize],
     last: u64,
     from: usize,
-    kept: &mut Vec<(usize, usize)>,
+    open_keys: &mut Vec<(usize, usize)>,
 ) -> Result<usize, AllocError>
-    requires from { from ≤ length begins.now }
-    requires ranks { All (λ (p : ℕ × ℕ). p.1 < length ranks.now) begins.now }
-    ensures { IfOk result (λ to. BeginsMore begins.now ranks.now last from to kept.old.items kept.new.items) }
+    requires from { from ≤ length begin_keys.now }
+    requires ranks { All (λ (p : ℕ × ℕ). p.1 < length ranks.now) begin_keys.now }
+    ensures { let old = open_keys.old.items in let new = open_keys.new.items in
+        IfOk result (λ to. BeginsMore begin_keys.now ranks.now last from to old new) }
 {
-    for index in from..begins.len() {
-        let (first, call) = begins[index];
+    for next in from..begin_keys.len() {
+        let (first, index) = begin_keys[next];
         if last < first {
-            return Ok(index);
+            return Ok(next);
         }
-        kept.push((ranks[call], call))?;
+        open_keys.push((ranks[index], index))?;
     }
-    Ok(begins.len())
+    Ok(begin_keys.len())
 }
 
 /// For each return the calls that are open before it, in the order of their returns.
 fn opens_of(
     alloc: Global,
     observed: &Observed,
-    ends: &[(u64, usize)],
-    begins: &[(u64, usize)],
+    return_keys: &[(u64, usize)],
+    begin_keys: &[(u64, usize)],
     ranks: &[usize],
 ) -> Result<Vec<Vec<usize>>, AllocError>
-    requires { AreTimelineKeys observed.now ends.now begins.now ranks.now }
-    ensures many { IfOk result (λ opens. length opens.items ≡ length ends.now) }
-    ensures opens { IfOk result (λ opens. AreOpens observed.now (key_indices ends.now) opens.items) }
+    requires { AreTimelineKeys observed.now return_keys.now begin_keys.now ranks.now }
+    ensures many { IfOk result (λ opens. length opens.items ≡ length return_keys.now) }
+    ensures opens { IfOk result (λ opens. AreOpens observed.now (key_indices return_keys.now) opens.items) }
 {
     let _ = observed.entries();
-    let mut opens = Vec::with_capacity(alloc, ends.len())?;
-    let mut kept = Vec::new(alloc);
+    let mut opens = Vec::with_capacity(alloc, return_keys.len())?;
+    let mut open_keys = Vec::new(alloc);
     let mut begun = 0;
-    for (past, end) in ends.iter().enumerate() {
-        begun = begin_more(begins, ranks, end.0, begun, &mut kept)?;
-        kept.retain(|call| call.0 >= past);
-        kept.sort_unstable();
-        opens.push(key_indices(alloc, kept.as_slice())?)?;
+    for (past, key) in return_keys.iter().enumerate() {
+        begun = begin_more(begin_keys, ranks, key.0, begun, &mut open_keys)?;
+        open_keys.retain(|open_key| open_key.0 >= past);
+        open_keys.sort_unstable();
+        opens.push(key_indices(alloc, open_keys.as_slice())?)?;
     }
     Ok(opens)
 }
@@ -137,15 +137,15 @@ pub(crate) fn timeline_of(alloc: Global, observed: &Observed) -> Result<Timeline
     ensures { IfOk result (λ timeline. IsTimeline observed.now timeline) }
 {
     let entries = observed.entries();
-    let ends = in_order(returns_of(alloc, entries)?)?;
-    let returns = key_indices(alloc, ends.as_slice())?;
-    let begins = in_order(begins_of(alloc, entries)?)?;
+    let return_keys = return_keys_in_order(alloc, entries)?;
+    let returns = key_indices(alloc, return_keys.as_slice())?;
+    let begin_keys = in_order(begin_keys_of(alloc, entries)?)?;
     let ranks = ranks_of(alloc, entries.len(), returns.as_slice())?;
     let opens = opens_of(
         alloc,
         observed,
-        ends.as_slice(),
-        begins.as_slice(),
+        return_keys.as_slice(),
+        begin_keys.as_slice(),
         ranks.as_slice(),
     )?;
     Ok(Timeline { returns, opens })

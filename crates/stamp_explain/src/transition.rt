@@ -5,7 +5,7 @@ ghost use Rattle.stamp_core.specs.Call.{is_lock_call, call_suits};
 ghost use Rattle.stamp_core.specs.Decision.{IsTransition};
 ghost use Rattle.stamp_explain.specs.Observed.{AllowsReply};
 ghost use Rattle.stamp_explain.specs.Transition.{LockGoes, RecordGoes, transition_as};
-ghost use Rattle.stamp_explain.specs.Node.{content_by, HasGone, IsStateBy};
+ghost use Rattle.stamp_explain.specs.Node.{content_by, IsTransitionOf, IsStateBy};
 ghost use Rattle.stamp_explain.specs.Search.{LockState};
 
 use crate::node::CallTransition;
@@ -117,7 +117,7 @@ pub(crate) fn transition_of(
     requires suits { (e : Observation) → slice_get observed.now.entries i ≡ Some e
         → IsTrue (call_suits observed.now.width e.call) }
     ensures { (e : Observation) (s : LockState) → slice_get observed.now.entries i ≡ Some e
-        → IsStateBy observed.now bits put s → HasGone observed.now i e put s result }
+        → IsStateBy observed.now bits put s → IsTransitionOf observed.now i e put s result }
 {
     let entry = &observed.entries()[i];
     if entry.call.is_lock_call() {

@@ -1,7 +1,7 @@
 //! Calls whose reply tells that they changed nothing.
 ghost use Rattle.std.specs.Prelude.{◌≡◌, ◌==◌};
 ghost use Rattle.stamp_core.specs.declared.reply.Reply.TheVariants.{Stamp};
-ghost use Rattle.stamp_explain.specs.Unchanging.{is_this_stamp, changes_nothing, is_question, is_open_question, is_open_question_at, is_unchanging, is_unchanging_at};
+ghost use Rattle.stamp_explain.specs.Unchanging.{is_this_stamp, changes_nothing, is_question, is_question_under_way, is_question_under_way_at, is_unchanging, is_unchanging_at};
 
 use crate::observed::{Observation, Observed};
 use stamp_core::{Call, Reply};
@@ -69,9 +69,9 @@ fn is_question(call: &Call) -> bool
     }
 }
 
-/// Whether the call is an open question: it is under way, and changes nothing by any reply.
-fn is_open_question(entry: &Observation) -> bool
-    ensures { result ≡ is_open_question entry.now }
+/// Whether the call is under way, and changes nothing by any reply.
+fn is_question_under_way(entry: &Observation) -> bool
+    ensures { result ≡ is_question_under_way entry.now }
 {
     match &entry.returned {
         None => is_question(&entry.call),
@@ -79,13 +79,13 @@ fn is_open_question(entry: &Observation) -> bool
     }
 }
 
-/// Whether the call of this entry is an open question: under way, and one that changes nothing by any reply.
-pub(crate) fn is_open_question_at(observed: &Observed, i: usize) -> bool
-    ensures { result ≡ is_open_question_at observed.now.entries i }
+/// Whether the call of this entry is under way, and changes nothing by any reply.
+pub(crate) fn is_question_under_way_at(observed: &Observed, i: usize) -> bool
+    ensures { result ≡ is_question_under_way_at observed.now.entries i }
 {
     match observed.entries().get(i) {
         None => false,
-        Some(entry) => is_open_question(entry),
+        Some(entry) => is_question_under_way(entry),
     }
 }
 

@@ -2,7 +2,7 @@
 use Rattle.std.specs.Prelude.{◌≡◌, ◌≢◌, ℕ, List, Option, Result, Ok, Err, String}
 use Rattle.std.specs.declared.alloc.AllocError.{AllocError}
 use Rattle.std.specs.declared.alloc.Global.{Global}
-use Rattle.stamp_cli.specs.Answer.{LineView, IsInputAnswer, AnswersRead, line_in}
+use Rattle.stamp_cli.specs.Answer.{LineView, IsInputAnswer, AnswersRead, line_in, with_line_feed}
 use Rattle.stamp_cli.specs.Refusal.{refusal}
 use Rattle.stamp_cli.specs.Source.{Reads}
 use Rattle.stamp_cli.specs.declared.faults.ServeFault.{ServeFault}
@@ -15,6 +15,7 @@ use Rattle.stamp_explain_cli.specs.Finding.{IsFinding}
 use Rattle.stamp_explain_cli.specs.FindingText.{finding_text, finding_verdict}
 use Rattle.stamp_explain_cli.specs.Note.{IsNote}
 use Rattle.stamp_explain_cli.specs.declared.answer.LineAndNote as made
+use Rattle.stamp_explain_cli.specs.declared.answer.VerdictAndNote.{VerdictAndNote}
 
 -- a line and the note beside it, as contracts see them
 pub record LineAndNoteView : Type 0 where
@@ -23,6 +24,13 @@ pub record LineAndNoteView : Type 0 where
 
 abbrev pub view_in : made.LineAndNote → LineAndNoteView
 view_in answer = record { line = line_in answer.line; note = answer.note }
+
+-- the line as it is written
+abbrev pub line_with_feed : LineAndNoteView → List ℕ
+line_with_feed answer = with_line_feed answer.line
+
+abbrev pub AreVerdictAndNoteOf : LineAndNoteView → VerdictAndNote → Type 0
+AreVerdictAndNoteOf answer told = (told.verdict ≡ answer.line.verdict) × (told.note ≡ answer.note)
 
 -- this is found of an observed history, the line says it, and this is the note
 pub record SaysWhatIsFound (h : ObservedHistory) (most : ℕ) (answer : LineAndNoteView) : Type 0 where

@@ -1,10 +1,10 @@
 //! What is found, as a line.
 
-ghost use Rattle.std.specs.Prelude.{◌≡◌, Some, IfOk, IfErr, string_bytes};
+ghost use Rattle.std.specs.Prelude.{◌≡◌, Some, IfOk, IfErr};
 ghost use Rattle.stamp_explain_cli.specs.FindingText.{why_text, bad_text, finding_text, finding_verdict};
 
 use crate::finding::Finding;
-use stamp_cli::{Line, ServeFault, Verdict, accepted};
+use stamp_cli::{Line, ServeFault, accepted, rejected};
 use stamp_history::write_history;
 use stamp_observed::{ObservedFault, ObservedWhy};
 use std::alloc::Global;
@@ -35,17 +35,6 @@ impl fmt::Display for BadText {
     }
 }
 
-/// The line of a history that isn't explained.
-fn refused(text: String) -> Line
-    ensures text { result.text.items ≡ string_bytes text }
-    ensures verdict { result.verdict ≡ Verdict.Bad }
-{
-    Line {
-        text: text.into_bytes(),
-        verdict: Verdict::Bad,
-    }
-}
-
 /// The line of what was found.
 pub(crate) fn line_of_finding(alloc: Global, finding: &Finding) -> Result<Line, ServeFault>
     ensures text { IfOk result (λ line. line.text.items ≡ finding_text finding.now) }
@@ -54,10 +43,10 @@ pub(crate) fn line_of_finding(alloc: Global, finding: &Finding) -> Result<Line, 
 {
     match finding {
         Finding::Explained(record) => Ok(accepted(write_history(alloc, record)?)),
-        Finding::Faulty(fault) => Ok(refused(BadText(*fault).to_string(alloc)?)),
-        Finding::Stuck(entry) => Ok(refused(format!(in alloc; "stuck {entry}")?)),
+        Finding::Faulty(fault) => Ok(rejected(BadText(*fault).to_string(alloc)?.into_bytes())),
+        Finding::Stuck(entry) => Ok(rejected(format!(in alloc; "stuck {entry}")?.into_bytes())),
         Finding::Unexplained(entry) | Finding::Undecided(entry) => {
-            Ok(refused(format!(in alloc; "undecided {entry}")?))
+            Ok(rejected(format!(in alloc; "undecided {entry}")?.into_bytes()))
         }
     }
 }

@@ -1,12 +1,9 @@
 //! An observed history from the bytes that come in to the line that goes out.
 
-ghost use Rattle.std.specs.Prelude.{◌≡◌, ◌≢◌, ◌++◌, ◌∷◌, ◌+◌, [], length, IfOk, IfErr, Ok, Err};
-ghost use Rattle.std.specs.Io.KnownBytes.{Appends};
-ghost use Rattle.stamp_cli.specs.Sink.{AppendsFront};
-ghost use Rattle.stamp_cli.specs.Results.{Makes, MakesAtMost, taken_since};
-ghost use Rattle.stamp_cli.specs.Serving.{HasRead, HasWritten};
+ghost use Rattle.stamp_cli.specs.Results.{taken_since};
+ghost use Rattle.stamp_cli.specs.Serving.{HasRead, HasWritten, WritesAnswer, RefusesAsDue, WritesFront};
 ghost use Rattle.stamp_cli.specs.Source.{most_reads, most_taken};
-ghost use Rattle.stamp_explain_cli.specs.Answer.{LineAndNoteView, AnswersSource};
+ghost use Rattle.stamp_explain_cli.specs.Answer.{AnswersSource, AreVerdictAndNoteOf, line_with_feed};
 
 use crate::answer::{LineAndNote, VerdictAndNote, line_and_note_of};
 use stamp_cli::{Line, ServeFault, Sink, Source, write_text};
@@ -31,27 +28,21 @@ pub fn serve_explanation<S: Source, K: Sink>(
 
     // The answer to all that was read is written with a line feed, and nothing else; the verdict and the note
     // are its.
-    ensures ok { IfOk result (λ found. (answer : LineAndNoteView)
-        × AnswersSource most (S.left source.old) (S.left source.new)
-        (taken_since (S.reads source.old) (S.reads source.new)) (Ok answer)
-        × (found.verdict ≡ answer.line.verdict) × (found.note ≡ answer.note)
-        × Appends (K.sent sink.old) (K.sent sink.new) (answer.line.text ++ 10 ∷ [])
-        × Makes (K.writes sink.old) (K.writes sink.new) (length answer.line.text + 1)) }
+    ensures ok { WritesAnswer (AnswersSource most (S.left source.old) (S.left source.new)
+        (taken_since (S.reads source.old) (S.reads source.new))) AreVerdictAndNoteOf line_with_feed
+        (K.sent sink.old) (K.sent sink.new) (K.writes sink.old) (K.writes sink.new) result }
 
     // All that was read is refused so.
-    ensures refused { IfErr result (λ e. e ≢ ServeFault.ReadFault → e ≢ ServeFault.WriteFault
-        → e ≢ ServeFault.Memory → AnswersSource most (S.left source.old) (S.left source.new)
-        (taken_since (S.reads source.old) (S.reads source.new)) (Err e)) }
+    ensures refused { RefusesAsDue ServeFault.ReadFault ServeFault.WriteFault ServeFault.Memory
+        (AnswersSource most (S.left source.old) (S.left source.new)
+        (taken_since (S.reads source.old) (S.reads source.new))) result }
 
     // A write that failed leaves a front of the line and is the last, and no other refusal writes.
     ensures writes { HasWritten ServeFault.WriteFault (K.sent sink.old) (K.sent sink.new)
         (K.writes sink.old) (K.writes sink.new) result }
-    ensures front { result ≡ Err ServeFault.WriteFault → ((answer : LineAndNoteView)
-        × AnswersSource most (S.left source.old) (S.left source.new)
-        (taken_since (S.reads source.old) (S.reads source.new)) (Ok answer)
-        × AppendsFront (K.sent sink.old) (K.sent sink.new) (answer.line.text ++ 10 ∷ [])
-        × MakesAtMost (K.writes sink.old) (K.writes sink.new) (length answer.line.text + 1)
-        (length answer.line.text + 1)) }
+    ensures front { WritesFront ServeFault.WriteFault (AnswersSource most (S.left source.old) (S.left source.new)
+        (taken_since (S.reads source.old) (S.reads source.new))) line_with_feed
+        (K.sent sink.old) (K.sent sink.new) (K.writes sink.old) (K.writes sink.new) result }
 {
     let LineAndNote { line, note } = line_and_note_of(alloc, most, source)?;
     let Line { mut text, verdict } = line;

@@ -11,7 +11,7 @@ use Rattle.serde_json.specs.Events.{items_len}
 use Rattle.serde_json.specs.View.{items_of}
 use Rattle.stamp_core.specs.Call.{call_suits}
 use Rattle.stamp_core.specs.Limits.{Bounds, AreInRange, bounds}
-use Rattle.stamp_core.specs.Record.{Recorded, recorded, IsRecorded, SuitsRecord, ReplyFits, RepliesFit}
+use Rattle.stamp_core.specs.Record.{Recorded, recorded, IsRecorded, EntrySuits, HasFewWords, RepliesFit}
 use Rattle.stamp_core.specs.declared.layout.Layout.{Layout}
 use Rattle.stamp_core.specs.declared.layout.Layout.TheVariants.{One, Two}
 use Rattle.stamp_core.specs.declared.call.Call.{Call}
@@ -58,26 +58,26 @@ call_found w (PutIf es ws) most suits = let n = of_width_both w es ws most suits
     rw (words_found es n.0 n.1, words_found ws n.2 n.3) refl
 call_found w _ most suits = refl
 
-pub reply_found : (r : Reply) → ReplyFits r → reply (reply_data r) ≡ Some r
+pub reply_found : (r : Reply) → HasFewWords r → reply (reply_data r) ≡ Some r
 reply_found (Content ws) fits = rw (words_found ws fits.0 fits.1) refl
 reply_found _ fits = refl
 
-entry_found : (w : ℕ) (e : Entry) → w ≤ 16 → SuitsRecord w e → ReplyFits e.reply → value.entry (entry_data e) ≡ Some e
+entry_found : (w : ℕ) (e : Entry) → w ≤ 16 → EntrySuits w e → HasFewWords e.reply → value.entry (entry_data e) ≡ Some e
 unfolding value.entry
 entry_found w e most suits fits = rw (call_found w e.call most suits.call, reply_found e.reply fits) refl
 
-entries_found : (w i : ℕ) (es : List Entry) → w ≤ 16 → All (SuitsRecord w) es → RepliesFit es →
+entries_found : (w i : ℕ) (es : List Entry) → w ≤ 16 → All (EntrySuits w) es → RepliesFit es →
     each (entry_at w) i (items_of (map entry_data es)) ≡ Ok es
 entries_found w i [] most suit fit = refl
 entries_found w i (e ∷ es) most suit fit =
-    let s = All-head (SuitsRecord w) e es suit in
+    let s = All-head (EntrySuits w) e es suit in
     let t = s.call in
     rw (
-      entry_found w e most s (All-head (λ (x : Entry). ReplyFits x.reply) e es fit),
+      entry_found w e most s (All-head (λ (x : Entry). HasFewWords x.reply) e es fit),
       t,
       lt-ltb e.thread 64 s.thread,
-      entries_found w (i + 1) es most (All-tail (SuitsRecord w) e es suit)
-          (All-tail (λ (x : Entry). ReplyFits x.reply) e es fit),
+      entries_found w (i + 1) es most (All-tail (EntrySuits w) e es suit)
+          (All-tail (λ (x : Entry). HasFewWords x.reply) e es fit),
     ) refl
 
 top_found : (l : Layout) (readers versions w : ℕ) (d : Data) (ps : List (ℕ × ℕ)) →

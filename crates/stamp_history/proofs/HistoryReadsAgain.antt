@@ -3,7 +3,7 @@ use Rattle.std.proofs.Common.{◌∙◌, ℕ, List, [], ◌∷◌, map, ap, arit
 use Rattle.std.specs.List.{All}
 use Rattle.std.proofs.lemmas.List.Elements.{All-head, All-tail}
 use Rattle.serde_json.specs.View.{items_of}
-use Rattle.stamp_core.specs.Record.{SuitsRecord}
+use Rattle.stamp_core.specs.Record.{EntrySuits}
 use Rattle.stamp_core.specs.declared.entry.Entry.{Entry}
 use Rattle.stamp_history.specs.History.{recorded_in, recorded_of}
 use Rattle.stamp_history.specs.HistoryLaws.{EntryIsU64, HistoriesReadAgain}
@@ -14,16 +14,16 @@ use Rattle.stamp_history.proofs.FieldsReadAgain.{small, fields_again}
 use Rattle.stamp_history.proofs.HistoryAgain.{history_found}
 use Rattle.stamp_history.proofs.ReadAgain.{ReadsAgain, ItemsReadAgain, no_items_again, item_again, array_again}
 
-items_again : (w : ℕ) (es : List Entry) → All (SuitsRecord w) es → All EntryIsU64 es →
+items_again : (w : ℕ) (es : List Entry) → All (EntrySuits w) es → All EntryIsU64 es →
     ItemsReadAgain 3 (items_of (map entry_data es))
 items_again w [] suit fit = no_items_again 3
 items_again w (e ∷ es) suit fit =
-    let thread = small e.thread 64 (omega (arith, (All-head (SuitsRecord w) e es suit).thread)) (lit< tt) in
+    let thread = small e.thread 64 (omega (arith, (All-head (EntrySuits w) e es suit).thread)) (lit< tt) in
     item_again 3 3 (entry_data e) (items_of (map entry_data es)) (omega arith)
     (entry_again e thread (All-head EntryIsU64 e es fit))
-    (items_again w es (All-tail (SuitsRecord w) e es suit) (All-tail EntryIsU64 e es fit))
+    (items_again w es (All-tail (EntrySuits w) e es suit) (All-tail EntryIsU64 e es fit))
 
-entries_again : (w : ℕ) (es : List Entry) → All (SuitsRecord w) es → All EntryIsU64 es → ReadsAgain 4 (entries_data es)
+entries_again : (w : ℕ) (es : List Entry) → All (EntrySuits w) es → All EntryIsU64 es → ReadsAgain 4 (entries_data es)
 entries_again w es suit fit = array_again 3 (items_of (map entry_data es)) (items_again w es suit fit)
 
 pub reads_again : HistoriesReadAgain

@@ -9,7 +9,7 @@ use Rattle.std.proofs.lemmas.Bool.{ltb-true, leb-true, eqb-true}
 use Rattle.serde_json.specs.Data.{Data, Items, no_items, item}
 use Rattle.serde_json.specs.Events.{items_len}
 use Rattle.stamp_core.specs.Call.{call_suits}
-use Rattle.stamp_core.specs.Record.{SuitsRecord}
+use Rattle.stamp_core.specs.Record.{EntrySuits}
 use Rattle.stamp_core.specs.declared.entry.Entry.{Entry}
 use Rattle.stamp_history.specs.declared.field.Field.TheVariants as part
 use Rattle.stamp_history.specs.declared.read_error.ReadError.{ReadError}
@@ -64,7 +64,7 @@ let_through {A} test (Some y) x e = by (test y) refl e
     by true is e = let same : y ≡ x = cc in subst (λ (z : A). test z ≡ true) same is
     by false is e = cc
 
-entry_suits : (w i : ℕ) (d : Data) (e : Entry) → entry_at w i d ≡ Ok e → SuitsRecord w e
+entry_suits : (w i : ℕ) (d : Data) (e : Entry) → entry_at w i d ≡ Ok e → EntrySuits w e
 entry_suits w i d e h =
     let in_range = ranged_ok (NotHistory (part.Entry i)) (Limit (part.Entry i)) (λ (x : Entry). nat_lt x.thread 64)
     (option_and_then (suited w) (value.entry d)) e h in
@@ -90,9 +90,9 @@ listed_known P one holds d xs h =
     (omega arith, each_all P one holds 0 listed.0 xs listed.2)
 
 pub known_entries : (w : ℕ) (d : Data) (es : List Entry) → entries w d ≡ Ok es → (length es ≤ 640000) ×
-    All (SuitsRecord w) es
+    All (EntrySuits w) es
 unfolding entries
-known_entries w = listed_known (SuitsRecord w) (entry_at w) (entry_suits w)
+known_entries w = listed_known (EntrySuits w) (entry_at w) (entry_suits w)
 
 counted_ok : (count : ℕ) (found : Option Items) (ds : Items) →
     kind (NotHistory part.Report) (option_and_then (counted count) found) ≡ Ok ds → items_len ds ≡ count

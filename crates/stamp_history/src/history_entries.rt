@@ -23,7 +23,7 @@ fn named_reply(name: &str) -> Option<Reply>
     }
 }
 
-fn counted(value: &Value) -> Option<Reply>
+fn count_reply(value: &Value) -> Option<Reply>
     ensures { result ≡ reply.count_reply (view value.now) }
 {
     if has_members(value, 1) {
@@ -40,7 +40,7 @@ pub fn reply_of(value: &Value) -> Option<Reply>
     match value {
         Value::String(name) => named_reply(name.as_str()),
         Value::Array(_) => Some(Reply::Content(words_of(value)?)),
-        Value::Object(_) => counted(value),
+        Value::Object(_) => count_reply(value),
         _ => Some(Reply::Stamp(value.as_u64()?)),
     }
 }

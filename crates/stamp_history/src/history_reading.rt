@@ -16,7 +16,7 @@ use stamp_core::{Entry, Limits, Record};
 use std::alloc::Global;
 
 /// A recorded history whose parts were found to suit one another.
-fn record_of(limits: Limits, width: u64, entries: Vec<Entry>, report: Vec<(u64, u64)>) -> Record
+fn recorded_from(limits: Limits, width: u64, entries: Vec<Entry>, report: Vec<(u64, u64)>) -> Record
     requires { IsRecorded (recorded limits width entries.items report.items) }
     ensures { result ≡ recorded limits width entries.items report.items }
 {
@@ -27,7 +27,7 @@ fn record_of(limits: Limits, width: u64, entries: Vec<Entry>, report: Vec<(u64, 
 }
 
 #[tactic(auto, unfolding(crate::specs::History::recorded_in))]
-fn history_from(alloc: Global, value: &Value) -> Result<Record, ReadError>
+fn recorded_in(alloc: Global, value: &Value) -> Result<Record, ReadError>
     ensures { Gives ReadError.Memory (λ found. found) result (recorded_in (view value.now)) }
 {
     check_top(value)?;
@@ -36,7 +36,7 @@ fn history_from(alloc: Global, value: &Value) -> Result<Record, ReadError>
     let width = read_width(value)?;
     let entries = read_entries(alloc, width, value)?;
     let report = read_report(alloc, entries.len(), value)?;
-    Ok(record_of(limits, width, entries, report))
+    Ok(recorded_from(limits, width, entries, report))
 }
 
 /// The recorded history that the text gives, or its first fault in the order of the fields: top, format,
@@ -51,5 +51,5 @@ pub fn read_history(alloc: Global, bytes: &[u8]) -> Result<Record, ReadError>
     ensures memory { IfErr result (λ e. e ≡ ReadError.Memory → 0 < length bytes.now) }
 {
     let value = json(alloc, bytes)?;
-    history_from(alloc, &value)
+    recorded_in(alloc, &value)
 }

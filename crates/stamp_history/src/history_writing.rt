@@ -52,7 +52,7 @@ fn call_name(call: &Call) -> &'static str
 fn push_stamp(text: &mut Vec<u8>, stamp: u64) -> Result<(), AllocError>
     ensures text { OnOk result (text.new.items
         ≡ text.old.items ++ items_text true (item (number_data stamp) no_items)) }
-    ensures fits { IsU64 stamp }
+    ensures numbers { IsU64 stamp }
 {
     push_numbered(text, ",", stamp)?;
     push_text(text, "]")
@@ -61,7 +61,7 @@ fn push_stamp(text: &mut Vec<u8>, stamp: u64) -> Result<(), AllocError>
 fn push_put(text: &mut Vec<u8>, words: &Words) -> Result<(), AllocError>
     ensures text { OnOk result (text.new.items
         ≡ text.old.items ++ items_text true (item (words_data words.now) no_items)) }
-    ensures fits { OnOk result (All IsU64 words.now) }
+    ensures numbers { OnOk result (All IsU64 words.now) }
 {
     push_text(text, ",")?;
     push_words(text, words)?;
@@ -71,7 +71,7 @@ fn push_put(text: &mut Vec<u8>, words: &Words) -> Result<(), AllocError>
 fn push_put_if(text: &mut Vec<u8>, expected: &Words, words: &Words) -> Result<(), AllocError>
     ensures text { OnOk result (text.new.items
         ≡ text.old.items ++ items_text true (arguments (Call.PutIf expected.now words.now))) }
-    ensures fits { OnOk result (CallIsU64 (Call.PutIf expected.now words.now)) }
+    ensures numbers { OnOk result (CallIsU64 (Call.PutIf expected.now words.now)) }
 {
     push_text(text, ",")?;
     push_words(text, expected)?;
@@ -82,7 +82,7 @@ fn push_put_if(text: &mut Vec<u8>, expected: &Words, words: &Words) -> Result<()
 fn push_arguments(text: &mut Vec<u8>, call: &Call) -> Result<(), AllocError>
     ensures text { OnOk result (text.new.items
         ≡ text.old.items ++ items_text true (arguments call.now)) }
-    ensures fits { OnOk result (CallIsU64 call.now) }
+    ensures numbers { OnOk result (CallIsU64 call.now) }
 {
     match call {
         Call::Validate(stamp)
@@ -102,7 +102,7 @@ fn push_arguments(text: &mut Vec<u8>, call: &Call) -> Result<(), AllocError>
 pub fn push_call(text: &mut Vec<u8>, call: &Call) -> Result<(), AllocError>
     ensures text { OnOk result (text.new.items
         ≡ text.old.items ++ compact_text (call_data call.now)) }
-    ensures fits { OnOk result (CallIsU64 call.now) }
+    ensures numbers { OnOk result (CallIsU64 call.now) }
 {
     push_text(text, "[\"")?;
     push_text(text, call_name(call))?;
@@ -115,7 +115,7 @@ pub fn push_call(text: &mut Vec<u8>, call: &Call) -> Result<(), AllocError>
 pub(crate) fn push_entry(text: &mut Vec<u8>, entry: &Entry) -> Result<(), AllocError>
     ensures text { OnOk result (text.new.items
         ≡ text.old.items ++ compact_text (entry_data entry.now)) }
-    ensures fits { OnOk result (EntryIsU64 entry.now) }
+    ensures numbers { OnOk result (EntryIsU64 entry.now) }
 {
     push_text(text, "{\"call\":")?;
     push_call(text, &entry.call)?;
@@ -132,7 +132,7 @@ pub(crate) fn push_entry(text: &mut Vec<u8>, entry: &Entry) -> Result<(), AllocE
 fn push_entries(text: &mut Vec<u8>, entries: &[Entry]) -> Result<(), AllocError>
     ensures text { OnOk result (text.new.items
         ≡ text.old.items ++ compact_text (entries_data entries.now)) }
-    ensures fits { OnOk result (All EntryIsU64 entries.now) }
+    ensures numbers { OnOk result (All EntryIsU64 entries.now) }
 {
     push_text(text, "[")?;
     for (index, entry) in entries.iter().enumerate() {
@@ -145,7 +145,7 @@ fn push_entries(text: &mut Vec<u8>, entries: &[Entry]) -> Result<(), AllocError>
 
 fn push_pair(text: &mut Vec<u8>, pair: (u64, u64)) -> Result<(), AllocError>
     ensures text { OnOk result (text.new.items ≡ text.old.items ++ compact_text (pair_data pair)) }
-    ensures fits { OnOk result (PairIsU64 pair) }
+    ensures numbers { OnOk result (PairIsU64 pair) }
 {
     push_numbered(text, "[", pair.0)?;
     push_numbered(text, ",", pair.1)?;
@@ -155,7 +155,7 @@ fn push_pair(text: &mut Vec<u8>, pair: (u64, u64)) -> Result<(), AllocError>
 fn push_pairs(text: &mut Vec<u8>, pairs: &[(u64, u64)]) -> Result<(), AllocError>
     ensures text { OnOk result (text.new.items
         ≡ text.old.items ++ compact_text (report_data pairs.now)) }
-    ensures fits { OnOk result (All PairIsU64 pairs.now) }
+    ensures numbers { OnOk result (All PairIsU64 pairs.now) }
 {
     push_text(text, "[")?;
     for (index, pair) in pairs.iter().enumerate() {
@@ -186,7 +186,7 @@ fn push_format(text: &mut Vec<u8>, layout: Layout) -> Result<(), AllocError>
 fn push_report(text: &mut Vec<u8>, report: &[(u64, u64)]) -> Result<(), AllocError>
     ensures text { OnOk result ((rest : Members) → text.new.items ++ members_text true rest
         ≡ text.old.items ++ members_text true (with_report report.now rest)) }
-    ensures fits { OnOk result (All PairIsU64 report.now) }
+    ensures numbers { OnOk result (All PairIsU64 report.now) }
 {
     if report.is_empty() {
         return Ok(());
@@ -206,7 +206,7 @@ pub fn push_after_entries(
 ) -> Result<(), AllocError>
     ensures text { OnOk result (text.new.items ≡ text.old.items
         ++ members_text true (after_entries limits.now width report.now)) }
-    ensures fits { OnOk result (All PairIsU64 report.now) }
+    ensures numbers { OnOk result (All PairIsU64 report.now) }
     ensures range { OnOk result (AreInRange limits.now) }
 {
     push_format(text, limits.layout())?;
@@ -221,7 +221,7 @@ pub fn push_after_entries(
 fn push_history(text: &mut Vec<u8>, history: &Record) -> Result<(), AllocError>
     ensures text { OnOk result (text.new.items
         ≡ text.old.items ++ compact_text (history_data history.now)) }
-    ensures fits { OnOk result (AreU64 history.now) }
+    ensures numbers { OnOk result (AreU64 history.now) }
     ensures range { OnOk result (AreInRange history.now.limits) }
 {
     push_text(text, "{\"entries\":")?;

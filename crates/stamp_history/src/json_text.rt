@@ -3,7 +3,7 @@
 ghost use Rattle.std.specs.Prelude.{◌≡◌, ◌≤◌, ◌++◌, OnOk, length, nat_lt};
 ghost use Rattle.std.specs.List.{All};
 ghost use Rattle.serde_json.specs.Written.{comma_if, compact_text};
-ghost use Rattle.stamp_core.specs.Record.{ReplyFits};
+ghost use Rattle.stamp_core.specs.Record.{HasFewWords};
 ghost use Rattle.stamp_history.specs.HistoryLaws.{IsU64, ReplyIsU64};
 ghost use Rattle.stamp_history.specs.ReplayText.{number_data, words_data, reply_data};
 
@@ -22,7 +22,7 @@ pub fn push_text(text: &mut Vec<u8>, piece: &str) -> Result<(), AllocError>
 pub(crate) fn push_number(text: &mut Vec<u8>, number: u64) -> Result<(), AllocError>
     ensures text { OnOk result (text.new.items
         ≡ text.old.items ++ compact_text (number_data number)) }
-    ensures fits { IsU64 number }
+    ensures numbers { IsU64 number }
 {
     let mut digits = Buffer::new();
     push_text(text, digits.format(number))
@@ -32,7 +32,7 @@ pub(crate) fn push_number(text: &mut Vec<u8>, number: u64) -> Result<(), AllocEr
 pub fn push_numbered(text: &mut Vec<u8>, before: &str, number: u64) -> Result<(), AllocError>
     ensures text { OnOk result (text.new.items
         ≡ text.old.items ++ (before.now ++ compact_text (number_data number))) }
-    ensures fits { IsU64 number }
+    ensures numbers { IsU64 number }
 {
     push_text(text, before)?;
     push_number(text, number)
@@ -58,7 +58,7 @@ pub fn push_comma(text: &mut Vec<u8>, index: usize) -> Result<(), AllocError>
 fn push_numbers(text: &mut Vec<u8>, numbers: &[u64]) -> Result<(), AllocError>
     ensures text { OnOk result (text.new.items
         ≡ text.old.items ++ compact_text (words_data numbers.now)) }
-    ensures fits { OnOk result (All IsU64 numbers.now) }
+    ensures numbers { OnOk result (All IsU64 numbers.now) }
 {
     push_text(text, "[")?;
     for (index, number) in numbers.iter().enumerate() {
@@ -73,7 +73,7 @@ fn push_numbers(text: &mut Vec<u8>, numbers: &[u64]) -> Result<(), AllocError>
 pub(crate) fn push_words(text: &mut Vec<u8>, words: &Words) -> Result<(), AllocError>
     ensures text { OnOk result (text.new.items
         ≡ text.old.items ++ compact_text (words_data words.now)) }
-    ensures fits { OnOk result (All IsU64 words.now) }
+    ensures numbers { OnOk result (All IsU64 words.now) }
     ensures some { 1 ≤ length words.now }
     ensures few { length words.now ≤ 16 }
 {
@@ -86,7 +86,7 @@ pub(crate) fn push_words(text: &mut Vec<u8>, words: &Words) -> Result<(), AllocE
 fn push_count(text: &mut Vec<u8>, count: u64) -> Result<(), AllocError>
     ensures text { OnOk result (text.new.items
         ≡ text.old.items ++ compact_text (reply_data (Reply.Count count))) }
-    ensures fits { IsU64 count }
+    ensures numbers { IsU64 count }
 {
     push_numbered(text, "{\"count\":", count)?;
     push_text(text, "}")
@@ -97,8 +97,8 @@ fn push_count(text: &mut Vec<u8>, count: u64) -> Result<(), AllocError>
 pub fn push_reply(text: &mut Vec<u8>, reply: &Reply) -> Result<(), AllocError>
     ensures text { OnOk result (text.new.items
         ≡ text.old.items ++ compact_text (reply_data reply.now)) }
-    ensures fits { OnOk result (ReplyIsU64 reply.now) }
-    ensures words { OnOk result (ReplyFits reply.now) }
+    ensures numbers { OnOk result (ReplyIsU64 reply.now) }
+    ensures words { OnOk result (HasFewWords reply.now) }
 {
     match reply {
         Reply::Stamp(stamp) => push_number(text, *stamp),

@@ -63,7 +63,7 @@ fn read_versions(text: TextKind, layout: Layout, value: &Value) -> Result<u64, R
 }
 
 /// Limits that were found in range.
-fn limits_of(layout: Layout, readers: u64, versions: u64) -> Limits
+fn limits_from(layout: Layout, readers: u64, versions: u64) -> Limits
     requires { AreInRange (record { layout = layout; readers = readers; versions = versions }) }
     ensures { result ≡ record { layout = layout; readers = readers; versions = versions } }
 {
@@ -83,5 +83,5 @@ pub fn read_limits(text: TextKind, value: &Value) -> Result<Limits, ReadError>
     let layout = read_layout(text, value)?;
     let readers = read_readers(text, layout, value)?;
     let versions = read_versions(text, layout, value)?;
-    Ok(limits_of(layout, readers, versions))
+    Ok(limits_from(layout, readers, versions))
 }

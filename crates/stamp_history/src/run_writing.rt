@@ -2,7 +2,7 @@
 
 ghost use Rattle.std.specs.Prelude.{◌≡◌, ◌++◌, OnOk, IfOk, IsOkUnless};
 ghost use Rattle.serde_json.specs.Written.{compact_text};
-ghost use Rattle.stamp_machines.specs.RunRecord.{run_record};
+ghost use Rattle.stamp_machines.specs.RecordedRun.{recorded_run};
 ghost use Rattle.stamp_history.specs.HistoryText.{entries_data, history_data, history_text};
 
 use crate::history_writing::{push_after_entries, push_entry};
@@ -43,7 +43,7 @@ fn push_completions(text: &mut Vec<u8>, completions: &mut Completions) -> Result
 
 fn push_run(text: &mut Vec<u8>, alloc: Global, script: &Script) -> Result<(), AllocError>
     ensures { OnOk result (text.new.items
-        ≡ text.old.items ++ compact_text (history_data (run_record script.now))) }
+        ≡ text.old.items ++ compact_text (history_data (recorded_run script.now))) }
 {
     push_text(text, "{\"entries\":")?;
     let mut completions = Completions::start(alloc, script).map_err(refused)?;
@@ -57,7 +57,7 @@ fn push_run(text: &mut Vec<u8>, alloc: Global, script: &Script) -> Result<(), Al
 /// nothing is kept.
 #[tactic(auto, unfolding(crate::specs::HistoryText::history_text))]
 pub fn write_run(alloc: Global, script: &Script) -> Result<Vec<u8>, ReadError>
-    ensures text { IfOk result (λ text. text.items ≡ history_text (run_record script.now)) }
+    ensures text { IfOk result (λ text. text.items ≡ history_text (recorded_run script.now)) }
     ensures refused { IsOkUnless result ReadError.Memory }
 {
     let mut text = Vec::new(alloc);

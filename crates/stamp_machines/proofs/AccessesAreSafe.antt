@@ -1,4 +1,4 @@
--- What a step needs of the world: its access is within the memory, and what it finds as a lock's
+-- What a step needs of the world: its access is to one of its words, and what it finds as a lock's
 -- word is one that the limits admit, at the record's lock with a version left.
 use Rattle.std.proofs.Common.{◌≡◌, ℕ, ◌+◌, ◌<◌, ◌≤◌, Bool, true, false, List, length, Option, Some}
 use Rattle.std.proofs.Common.{None, if◌then◌else◌, refl, sym, subst, arith, nat_lt}
@@ -32,7 +32,7 @@ phase-index i limits call (Some word) = go (decision limits word call)
     go (Change new r) = refl
     go Wait = refl
 
--- the access is within the memory, and what it finds may be resumed with
+-- the access is to one of the words, and what it finds may be resumed with
 abbrev pub IsSafeIn : Shape → Call → Stage → List ℕ → Type 0
 IsSafeIn shape call stage words =
     (index_of (plan_in shape call stage) < length words)
@@ -55,16 +55,16 @@ copying-safe shape call job first loaded words n w = go (nat_lt (length loaded) 
     go false q = (omega (arith, n), λ k. w)
 
 pub record-safe : (shape : Shape) (call : Call) (limits : Bounds) (k wr : ℕ)
-    (content items : List ℕ) (job : Job) (stage : RecordStage) (words : List ℕ) →
+    (content record_words : List ℕ) (job : Job) (stage : RecordStage) (words : List ℕ) →
     length words ≡ 2 + shape.width → length content ≡ shape.width →
     IsAdmittedAt (record_limits shape) (slice_index words 1) →
-    HasVersionLeft shape (slice_index words 1) → FitsRecordStage limits k wr content items job stage →
+    HasVersionLeft shape (slice_index words 1) → FitsRecordStage limits k wr content record_words job stage →
     IsSafeIn shape call (OnRecord job stage) words
-record-safe shape call limits k wr content items job on_record.LoadingLock words n l w v f =
+record-safe shape call limits k wr content record_words job on_record.LoadingLock words n l w v f =
     (omega (arith, n), w)
-record-safe shape call limits k wr content items job (on_record.Copying first loaded) words n l w
+record-safe shape call limits k wr content record_words job (on_record.Copying first loaded) words n l w
     v f = copying-safe shape call job first loaded words n w
-record-safe shape call limits k wr content items job (on_record.Locking e seen) words n l w
+record-safe shape call limits k wr content record_words job (on_record.Locking e seen) words n l w
     v f =
     let at : index_of (with_lock 1 (phase_plan (record_limits shape) (call_for e) seen)) ≡ 1 =
     phase-index 1 (record_limits shape) (call_for e) seen in (
@@ -74,14 +74,14 @@ record-safe shape call limits k wr content items job (on_record.Locking e seen) 
         subst (λ (i : ℕ). HasVersionLeft shape (slice_index words i)) (sym at) v,
       ),
     )
-record-safe shape call limits k wr content items job (on_record.Reading s loaded) words n l w
+record-safe shape call limits k wr content record_words job (on_record.Reading s loaded) words n l w
     v f =
     (omega (arith, n, l, f.2), tt)
-record-safe shape call limits k wr content items job (on_record.Checking s loaded) words n l w
+record-safe shape call limits k wr content record_words job (on_record.Checking s loaded) words n l w
     v f = (omega (arith, n, l, f.4), tt)
-record-safe shape call limits k wr content items job (on_record.Storing s i) words n l w v f =
+record-safe shape call limits k wr content record_words job (on_record.Storing s i) words n l w v f =
     (omega (arith, n, l, f.3), tt)
-record-safe shape call limits k wr content items job (on_record.Releasing s a) words n l w v
+record-safe shape call limits k wr content record_words job (on_record.Releasing s a) words n l w v
     f =
     (omega (arith, n), tt)
 

@@ -13,7 +13,7 @@ use Rattle.stamp_core.specs.declared.decision.Decision.TheVariants.{Answer, Chan
 use Rattle.stamp_machines.specs.Access.{words_after, found_by}
 use Rattle.stamp_core.specs.CountedDecision.{decision}
 use Rattle.stamp_machines.specs.LocalAccess.{LocalAccess, LoadLock, CasLock, LoadWord, StoreWord}
-use Rattle.stamp_machines.specs.LocalAccess.{lock_after, items_after, with_lock, local_found}
+use Rattle.stamp_machines.specs.LocalAccess.{lock_after, record_words_after, with_lock, local_found}
 use Rattle.stamp_machines.specs.LockPhase.{phase_plan, plan_on}
 
 -- the access is to the lock's word
@@ -37,19 +37,19 @@ pub split-words : (words : List ℕ) (n : ℕ) → length words ≡ 2 + n →
     words ≡ slice_index words 0 ∷ slice_index words 1 ∷ drop 2 words
 split-words [] n h = absurd (omega arith)
 split-words (x ∷ []) n h = absurd (omega arith)
-split-words (x ∷ y ∷ items) n h = refl
+split-words (x ∷ y ∷ record_words) n h = refl
 
-on-lock : (a : LocalAccess) (x y : ℕ) (items : List ℕ) → IsToLock a →
-    words_after (with_lock 0 a) (x ∷ y ∷ items) ≡ lock_after a x ∷ y ∷ items
-on-lock LoadLock x y items h = refl
-on-lock (CasLock old new) x y items h = go (x == old)
+on-lock : (a : LocalAccess) (x y : ℕ) (record_words : List ℕ) → IsToLock a →
+    words_after (with_lock 0 a) (x ∷ y ∷ record_words) ≡ lock_after a x ∷ y ∷ record_words
+on-lock LoadLock x y record_words h = refl
+on-lock (CasLock old new) x y record_words h = go (x == old)
   where
-    go : (b : Bool) → (if b then slice_set (x ∷ y ∷ items) 0 new else x ∷ y ∷ items)
-        ≡ (if b then new else x) ∷ y ∷ items
+    go : (b : Bool) → (if b then slice_set (x ∷ y ∷ record_words) 0 new else x ∷ y ∷ record_words)
+        ≡ (if b then new else x) ∷ y ∷ record_words
     go true = refl
     go false = refl
-on-lock (LoadWord i) x y items h = absurd h
-on-lock (StoreWord i v) x y items h = absurd h
+on-lock (LoadWord i) x y record_words h = absurd h
+on-lock (StoreWord i v) x y record_words h = absurd h
 
 -- an access to a lock's word changes no other
 word-set : (at : ℕ) (a : LocalAccess) (words : List ℕ) → IsToLock a →
@@ -77,34 +77,34 @@ pub won-word : (limits : Bounds) (call : Call) (seen : Option ℕ) (found : ℕ)
 won-word limits call seen found new reply is says =
     let same : (found == found) ≡ true = grind (arith, nat_tests) in rw (is, says, same) refl
 
-found-lock : (a : LocalAccess) (x y : ℕ) (items : List ℕ) → IsToLock a →
-    found_by (with_lock 0 a) (x ∷ y ∷ items) ≡ local_found a x []
-found-lock LoadLock x y items h = refl
-found-lock (CasLock old new) x y items h = refl
-found-lock (LoadWord i) x y items h = absurd h
-found-lock (StoreWord i v) x y items h = absurd h
+found-lock : (a : LocalAccess) (x y : ℕ) (record_words : List ℕ) → IsToLock a →
+    found_by (with_lock 0 a) (x ∷ y ∷ record_words) ≡ local_found a x []
+found-lock LoadLock x y record_words h = refl
+found-lock (CasLock old new) x y record_words h = refl
+found-lock (LoadWord i) x y record_words h = absurd h
+found-lock (StoreWord i v) x y record_words h = absurd h
 
 two-more : (i : ℕ) → 2 + i ≡ suc (suc i)
 two-more i = omega arith
 
-on-record : (a : LocalAccess) (x y : ℕ) (items : List ℕ) →
-    words_after (with_lock 1 a) (x ∷ y ∷ items) ≡ x ∷ lock_after a y ∷ items_after a items
-on-record LoadLock x y items = refl
-on-record (CasLock old new) x y items = go (y == old)
+on-record : (a : LocalAccess) (x y : ℕ) (record_words : List ℕ) →
+    words_after (with_lock 1 a) (x ∷ y ∷ record_words) ≡ x ∷ lock_after a y ∷ record_words_after a record_words
+on-record LoadLock x y record_words = refl
+on-record (CasLock old new) x y record_words = go (y == old)
   where
-    go : (b : Bool) → (if b then slice_set (x ∷ y ∷ items) 1 new else x ∷ y ∷ items)
-        ≡ x ∷ (if b then new else y) ∷ items
+    go : (b : Bool) → (if b then slice_set (x ∷ y ∷ record_words) 1 new else x ∷ y ∷ record_words)
+        ≡ x ∷ (if b then new else y) ∷ record_words
     go true = refl
     go false = refl
-on-record (LoadWord i) x y items = refl
-on-record (StoreWord i v) x y items = rw (two-more i) refl
+on-record (LoadWord i) x y record_words = refl
+on-record (StoreWord i v) x y record_words = rw (two-more i) refl
 
-found-record : (a : LocalAccess) (x y : ℕ) (items : List ℕ) →
-    found_by (with_lock 1 a) (x ∷ y ∷ items) ≡ local_found a y items
-found-record LoadLock x y items = refl
-found-record (CasLock old new) x y items = refl
-found-record (LoadWord i) x y items = rw (two-more i) refl
-found-record (StoreWord i v) x y items = rw (two-more i) refl
+found-record : (a : LocalAccess) (x y : ℕ) (record_words : List ℕ) →
+    found_by (with_lock 1 a) (x ∷ y ∷ record_words) ≡ local_found a y record_words
+found-record LoadLock x y record_words = refl
+found-record (CasLock old new) x y record_words = refl
+found-record (LoadWord i) x y record_words = rw (two-more i) refl
+found-record (StoreWord i v) x y record_words = rw (two-more i) refl
 
 -- an access to the lock leaves all other words
 pub record LockMoves (words : List ℕ) (a : LocalAccess) : Type 0 where
@@ -115,19 +115,19 @@ pub record LockMoves (words : List ℕ) (a : LocalAccess) : Type 0 where
 -- an access of a call of the record leaves the word of the lock
 pub record RecordMoves (words : List ℕ) (a : LocalAccess) : Type 0 where
   pub after : words_after (with_lock 1 a) words
-      ≡ slice_index words 0 ∷ lock_after a (slice_index words 1) ∷ items_after a (drop 2 words)
+      ≡ slice_index words 0 ∷ lock_after a (slice_index words 1) ∷ record_words_after a (drop 2 words)
   pub found : found_by (with_lock 1 a) words ≡ local_found a (slice_index words 1) (drop 2 words)
 
 pub lock-moves : (words : List ℕ) (n : ℕ) (a : LocalAccess) → length words ≡ 2 + n → IsToLock a →
     LockMoves words a
 lock-moves [] n a h i = absurd (omega arith)
 lock-moves (x ∷ []) n a h i = absurd (omega arith)
-lock-moves (x ∷ y ∷ items) n a h i =
-    record { after = on-lock a x y items i; found = found-lock a x y items i }
+lock-moves (x ∷ y ∷ record_words) n a h i =
+    record { after = on-lock a x y record_words i; found = found-lock a x y record_words i }
 
 pub record-moves : (words : List ℕ) (n : ℕ) (a : LocalAccess) → length words ≡ 2 + n →
     RecordMoves words a
 record-moves [] n a h = absurd (omega arith)
 record-moves (x ∷ []) n a h = absurd (omega arith)
-record-moves (x ∷ y ∷ items) n a h =
-    record { after = on-record a x y items; found = found-record a x y items }
+record-moves (x ∷ y ∷ record_words) n a h =
+    record { after = on-record a x y record_words; found = found-record a x y record_words }

@@ -16,7 +16,7 @@ use Rattle.stamp_machines.specs.declared.script.ScriptCall.TheVariants.{TryUnloc
 use Rattle.stamp_machines.specs.declared.script.ScriptCall.TheVariants.{TryUnlockRead}
 use Rattle.stamp_machines.specs.declared.script.ScriptCall.TheVariants.{IsWriteLocked, IsReadLocked}
 use Rattle.stamp_machines.specs.declared.script.ScriptCall.TheVariants.{ReadCount, Get, Put, PutIf}
-use Rattle.stamp_machines.specs.Job.{Job, Getting, Putting, PuttingIf, job_in, new_words, is_get}
+use Rattle.stamp_machines.specs.Job.{Job, Getting, Putting, PuttingIf, job_of_call, new_words, is_get}
 use Rattle.stamp_machines.specs.RecordStage.{first_record_stage}
 use Rattle.stamp_machines.specs.declared.shape.Shape.{Shape}
 use Rattle.stamp_machines.specs.MachineState.{first_stage, start}
@@ -36,18 +36,18 @@ first_place_writes Getting = refl
 first_place_writes (Putting a) = refl
 first_place_writes (PuttingIf a b) = refl
 
-first_place_fits : (limits : Bounds) (k w : ℕ) (content items : List ℕ) (job : Job) →
-    FitsRecordStage limits k w content items job (first_record_stage job)
-first_place_fits limits k w content items Getting = refl
-first_place_fits limits k w content items (Putting a) = refl
-first_place_fits limits k w content items (PuttingIf a b) = tt
+first_place_fits : (limits : Bounds) (k w : ℕ) (content record_words : List ℕ) (job : Job) →
+    FitsRecordStage limits k w content record_words job (first_record_stage job)
+first_place_fits limits k w content record_words Getting = refl
+first_place_fits limits k w content record_words (Putting a) = refl
+first_place_fits limits k w content record_words (PuttingIf a b) = tt
 
 abbrev pub SuitsJob : ℕ → Option Job → Type 0
 SuitsJob width None = Unit {0}
 SuitsJob width (Some job) = (0 < width) × ((is_get job ≡ true) ⊎ (length (new_words job) ≡ width))
 
 suits-job : (stamps : ℕ → List ℕ) (width : ℕ) (c : ScriptCall) → Suits width c →
-    SuitsJob width (job_in (resolved stamps c))
+    SuitsJob width (job_of_call (resolved stamps c))
 suits-job stamps width TryWrite s = tt
 suits-job stamps width TryRead s = tt
 suits-job stamps width WriteLock s = tt
@@ -70,29 +70,29 @@ suits-job stamps width (Put a) s = (s.0, inr s.1)
 suits-job stamps width (PutIf a b) s = (s.0, inr s.2)
 
 -- what is known of a thread's current call, beside its call under way
-pub record Ready (limits : Bounds) (shape : Shape) (k w : ℕ) (content items : List ℕ)
+pub record Ready (limits : Bounds) (shape : Shape) (k w : ℕ) (content record_words : List ℕ)
     (slot : Option Begun) (b : Begun) : Type 0 where
   pub of : IsOf shape (Some b)
   pub reads : read_in (record_call_in slot) ≡ read_in (record_call_at b.machine.stage)
   pub writes : written_in (record_call_in slot) ≡ written_in (record_call_at b.machine.stage)
-  pub fits : FitsIn limits k w content items (record_call_at b.machine.stage)
+  pub fits : FitsIn limits k w content record_words (record_call_at b.machine.stage)
   pub lock : record_call_at b.machine.stage ≡ None → record_call_in slot ≡ None
 
-first-ready : (limits : Bounds) (shape : Shape) (k w : ℕ) (content items : List ℕ) (call : Call)
-    (first : ℕ) (j : Option Job) → job_in call ≡ j → SuitsJob (length content) j →
-    Ready limits shape k w content items None
+first-ready : (limits : Bounds) (shape : Shape) (k w : ℕ) (content record_words : List ℕ) (call : Call)
+    (first : ℕ) (j : Option Job) → job_of_call call ≡ j → SuitsJob (length content) j →
+    Ready limits shape k w content record_words None
     (record {
       machine = record { shape = shape; call = call; stage = first_stage j };
       first = first;
     })
-first-ready limits shape k w content items call first None e s =
+first-ready limits shape k w content record_words call first None e s =
     record { of = (refl, e); reads = refl; writes = refl; fits = tt; lock = λ _. refl }
-first-ready limits shape k w content items call first (Some job) e s =
+first-ready limits shape k w content record_words call first (Some job) e s =
     record {
       of = (refl, e);
       reads = sym (first_place_reads job);
       writes = sym (first_place_writes job);
-      fits = (s.0, s.1, first_place_fits limits k w content items job);
+      fits = (s.0, s.1, first_place_fits limits k w content record_words job);
       lock = λ _. refl;
     }
 
@@ -118,38 +118,38 @@ slot-within (x ∷ begun) zero b e = omega arith
 slot-within (x ∷ begun) (suc t) b e = let h = slot-within begun t b e in omega (arith, h)
 
 next-ready : (limits : Bounds) (script : Scripted) (stamps : ℕ → List ℕ) (position t : ℕ) (k w : ℕ)
-    (content items : List ℕ) (c : Option ScriptCall) (b : Begun) →
+    (content record_words : List ℕ) (c : Option ScriptCall) (b : Begun) →
     (All (λ calls. All (Suits script.width) calls) script.threads) → length content ≡ script.width →
     slice_get (calls_of script t) (length (stamps t)) ≡ c →
     begun_call (shape_of script) stamps position c ≡ Some b → (t < length script.threads)
-    × Ready limits (shape_of script) k w content items None b
-next-ready limits script stamps position t k w content items None b h n e q = cc
-next-ready limits script stamps position t k w content items (Some c) b h n e q =
+    × Ready limits (shape_of script) k w content record_words None b
+next-ready limits script stamps position t k w content record_words None b h n e q = cc
+next-ready limits script stamps position t k w content record_words (Some c) b h n e q =
     let within : t < length script.threads = thread-within script.threads t (length (stamps t)) c e in
     let suits : Suits script.width c =
     call-suits script.width (calls_of script t) (length (stamps t)) c (h t [] within) e in
     let same : record { machine = start (shape_of script) (resolved stamps c); first = position } ≡ b =
     cc in (
       within,
-      subst (λ (x : Begun). Ready limits (shape_of script) k w content items None x) same
-          (first-ready limits (shape_of script) k w content items (resolved stamps c) position
-          (job_in (resolved stamps c)) refl (rw n (suits-job stamps script.width c suits))),
+      subst (λ (x : Begun). Ready limits (shape_of script) k w content record_words None x) same
+          (first-ready limits (shape_of script) k w content record_words (resolved stamps c) position
+          (job_of_call (resolved stamps c)) refl (rw n (suits-job stamps script.width c suits))),
     )
 
 pub current-ready : (limits : Bounds) (script : Scripted) (world : World) (t : ℕ) (k w : ℕ)
-    (content items : List ℕ) (slot : Option Begun) (b : Begun) →
+    (content record_words : List ℕ) (slot : Option Begun) (b : Begun) →
     (All (λ calls. All (Suits script.width) calls) script.threads) → length content ≡ script.width →
     length world.begun ≡ length script.threads → slice_index_or world.begun t None ≡ slot →
-    IsOf (shape_of script) slot → FitsIn limits k w content items (record_call_in slot) →
+    IsOf (shape_of script) slot → FitsIn limits k w content record_words (record_call_in slot) →
     current_of script (λ x. stamps_of x world.entries) world.position t slot ≡ Some b →
-    (t < length world.begun) × Ready limits (shape_of script) k w content items slot b
-current-ready limits script world t k w content items (Some d) b h n l at o f e =
+    (t < length world.begun) × Ready limits (shape_of script) k w content record_words slot b
+current-ready limits script world t k w content record_words (Some d) b h n l at o f e =
     let same : d ≡ b = cc in (
       slot-within world.begun t d at,
-      subst (λ (x : Begun). Ready limits (shape_of script) k w content items (Some d) x) same
+      subst (λ (x : Begun). Ready limits (shape_of script) k w content record_words (Some d) x) same
           (record { of = o; reads = refl; writes = refl; fits = f; lock = λ q. q }),
     )
-current-ready limits script world t k w content items None b h n l at o f e =
+current-ready limits script world t k w content record_words None b h n l at o f e =
     let r = next-ready limits script (λ x. stamps_of x world.entries) world.position t k w content
-    items (slice_get (calls_of script t) (length (stamps_of t world.entries))) b h n refl e in
+    record_words (slice_get (calls_of script t) (length (stamps_of t world.entries))) b h n refl e in
     (rw l r.0, r.1)

@@ -8,7 +8,7 @@ use Rattle.std.specs.List.{All}
 use Rattle.std.proofs.lemmas.List.Elements.{All-push, All-nil}
 use Rattle.stamp_core.specs.Limits.{Bounds}
 use Rattle.stamp_core.specs.History.{History, IsLegal}
-use Rattle.stamp_core.specs.Linearized.{history_of, AreLinearized, IsAnswered, Fits}
+use Rattle.stamp_core.specs.Linearized.{history_of, AreLinearized, IsAnswered, MayFollow}
 use Rattle.stamp_core.specs.declared.reply.Reply.{Reply}
 use Rattle.stamp_core.specs.declared.entry.Entry.{Entry}
 use Rattle.stamp_core.proofs.Linearizing.{linearized_none, linearized_more}
@@ -146,11 +146,11 @@ last-answered limits width entries e legal =
     (legal_rest limits [] (zeros width) (history_of entries) ((e.call, e.reply) ∷ [])
     (subst (λ (h : History). IsLegal limits width h) (history_more entries e) legal)).0
 
--- the entry fits after those before it
+-- the entry may follow those before it
 entry-fits : (script : Scripted) (world : World) (t : ℕ) (b : Begun) (r : Reply) →
     InOrder script world → IsSince world.position world.entries t (Some b) →
     IsAnswered script.limits script.width world.entries (entry_of world t b r) →
-    Fits script.limits script.width world.entries (entry_of world t b r)
+    MayFollow script.limits script.width world.entries (entry_of world t b r)
 entry-fits script world t b r o since answered = record {
   within = record { begun = since.0; ended = omega arith };
   rises = λ d some.

@@ -16,7 +16,7 @@ use Rattle.stamp_machines.specs.LockPhase.{turn_on}
 use Rattle.stamp_machines.specs.PhaseState.{PhaseState}
 use Rattle.stamp_machines.specs.IsLockPhase.{Changing, IsChanging}
 use Rattle.stamp_machines.specs.declared.access.Access.TheVariants.{Cas}
-use Rattle.stamp_machines.specs.LockCallSteps.{Plans, Ends, LeadsBy}
+use Rattle.stamp_machines.specs.LockCallSteps.{Plans, Ends, PhaseLeads}
 
 -- a word that a change leads to is of the limits' layout
 pub by_number : (limits : Bounds) (old : LockWord) (call : Call) (new : LockWord) (reply : Reply) →
@@ -38,7 +38,7 @@ decided limits call number d range is =
 pub lost : (p : PhaseState) (found : ℕ) (d : Decision) → AreInRange p.limits →
     IsTrue (is_lock_call p.call) → IsAdmitted p.limits (word_at p.limits found) →
     p.seen ≢ Some found → Decides p.limits (word_at p.limits found) p.call d →
-    LeadsBy p found (turn_on found d)
+    PhaseLeads p found (turn_on found d)
 lost p found (Answer reply) range lock a other says =
     record { won = λ won. absurd (other won); answered = λ n. says }
 lost p found (Change new reply) range lock a other says =

@@ -158,16 +158,16 @@ tried-leaves limits call lock old (Change new r) range a e = go (lock == old) re
         let e' : decision limits lock call ≡ Change new r = rw same e in
         rw e' at (decision-meets_at limits lock call range a)
 
-pub phase-leaves : (limits : Bounds) (call : Call) (lock : ℕ) (items : List ℕ) (seen : Option ℕ) →
+pub phase-leaves : (limits : Bounds) (call : Call) (lock : ℕ) (record_words : List ℕ) (seen : Option ℕ) →
     AreInRange limits → IsAdmittedAt limits lock →
     PhaseLeaves limits call lock (lock_after (phase_plan limits call seen) lock)
-    (phase_after limits call seen (local_found (phase_plan limits call seen) lock items))
-phase-leaves limits call lock items None range a = loaded-leaves limits call lock range a
-phase-leaves limits call lock items (Some old) range a = go (decision limits old call) refl
+    (phase_after limits call seen (local_found (phase_plan limits call seen) lock record_words))
+phase-leaves limits call lock record_words None range a = loaded-leaves limits call lock range a
+phase-leaves limits call lock record_words (Some old) range a = go (decision limits old call) refl
   where
     go : (d : Decision) → decision limits old call ≡ d →
         PhaseLeaves limits call lock (lock_after (plan_on old d) lock)
-        (tried limits call old (local_found (plan_on old d) lock items) d)
+        (tried limits call old (local_found (plan_on old d) lock record_words) d)
     go (Answer r) e = tried-leaves limits call lock old (Answer r) range a e
     go Wait e = tried-leaves limits call lock old Wait range a e
     go (Change new r) e = tried-leaves limits call lock old (Change new r) range a e

@@ -10,7 +10,7 @@ use Rattle.std.proofs.lemmas.Bool.Decides.{nat_tests}
 use Rattle.stamp_core.specs.LockEvent.{Counts, counts}
 use Rattle.stamp_core.specs.LockEvent.LockEvent.{WriteAcquired, WriteReleased, ReadReleased}
 use Rattle.stamp_core.specs.Limits.{Bounds, AreInRange, units}
-use Rattle.stamp_core.specs.IsWellFormed.{Within}
+use Rattle.stamp_core.specs.IsWellFormed.{CountsAreWithin}
 use Rattle.stamp_core.specs.Decoded.{after_events}
 use Rattle.stamp_core.specs.Stamp.{write_stamp, read_stamp}
 use Rattle.stamp_core.specs.Word.{word_number}
@@ -36,7 +36,7 @@ use Rattle.stamp_machines.specs.RecordStage.{unchanged}
 use Rattle.stamp_machines.specs.LockPhase as phases
 use Rattle.stamp_machines.specs.LockPhase.{plan_on, phase_plan, phase_after}
 use Rattle.stamp_machines.specs.LockPhase.{PhaseTurn}
-use Rattle.stamp_machines.specs.LocalAccess.{LoadLock, LoadWord, lock_after, items_after}
+use Rattle.stamp_machines.specs.LocalAccess.{LoadLock, LoadWord, lock_after, record_words_after}
 use Rattle.stamp_machines.specs.LocalAccess.{local_found}
 use Rattle.stamp_machines.specs.RecordKept.{read_by, written_by, FitsRecordStage, SameFor, AloneFor, MovedRightly}
 use Rattle.stamp_machines.specs.RecordKept.{Stands, IsRead}
@@ -45,12 +45,12 @@ use Rattle.stamp_machines.proofs.LockPhaseSteps.{counts-of, shared_at, left_at, 
 use Rattle.stamp_machines.proofs.LockPhaseSteps.{upgraded_at}
 
 -- an access that changes nothing, after which the call holds what it held
-stays : (limits : Bounds) (job : Job) (stage to : RecordStage) (lock : ℕ) (items content : List ℕ) →
-    Stands limits job stage lock items content → read_by to ≡ read_by stage →
+stays : (limits : Bounds) (job : Job) (stage to : RecordStage) (lock : ℕ) (record_words content : List ℕ) →
+    Stands limits job stage lock record_words content → read_by to ≡ read_by stage →
     written_by to ≡ written_by stage →
-    FitsRecordStage limits (counts_at limits lock).write_count (counts_at limits lock).writers content items
-    job to → MovedRightly limits job stage lock items content lock items (Going to)
-stays limits job stage to lock items content s r w f = (
+    FitsRecordStage limits (counts_at limits lock).write_count (counts_at limits lock).writers content record_words
+    job to → MovedRightly limits job stage lock record_words content lock record_words (Going to)
+stays limits job stage to lock record_words content s r w f = (
   record {
     admitted = s.admitted;
     writers = omega (arith, w);
@@ -65,13 +65,13 @@ stays limits job stage to lock items content s r w f = (
 )
 
 -- one more word of the content
-begins_more : (loaded items content : List ℕ) → items ≡ content →
+begins_more : (loaded record_words content : List ℕ) → record_words ≡ content →
     loaded ≡ take (length loaded) content → length loaded < length content →
-    loaded ++ slice_index items (length loaded) ∷ []
-    ≡ take (length (loaded ++ slice_index items (length loaded) ∷ [])) content
-begins_more loaded items content e b h =
+    loaded ++ slice_index record_words (length loaded) ∷ []
+    ≡ take (length (loaded ++ slice_index record_words (length loaded) ∷ [])) content
+begins_more loaded record_words content e b h =
     let m = take_more content (length loaded) 0 h in
-    let n : length (loaded ++ slice_index items (length loaded) ∷ []) ≡ length loaded + 1 =
+    let n : length (loaded ++ slice_index record_words (length loaded) ∷ []) ≡ length loaded + 1 =
     grind (arith, common_steps) in
     rw (n, e) (ap (λ l. l ++ slice_index content (length loaded) ∷ []) b ∙ sym m)
 
@@ -79,29 +79,30 @@ all_of : (loaded content : List ℕ) → loaded ≡ take (length loaded) content
     length content ≤ length loaded → loaded ≡ content
 all_of loaded content b h = grind (arith, common_steps)
 
-loading-lock : (limits : Bounds) (n : ℕ) (job : Job) (lock : ℕ) (items content : List ℕ) →
-    Stands limits job LoadingLock lock items content → n ≡ length content →
-    MovedRightly limits job LoadingLock lock items content lock items (after limits n job LoadingLock lock)
-loading-lock limits n job lock items content s e = go ((counts_at limits lock).writers == 0) refl
+loading-lock : (limits : Bounds) (n : ℕ) (job : Job) (lock : ℕ) (record_words content : List ℕ) →
+    Stands limits job LoadingLock lock record_words content → n ≡ length content →
+    MovedRightly limits job LoadingLock lock record_words content lock record_words
+    (after limits n job LoadingLock lock)
+loading-lock limits n job lock record_words content s e = go ((counts_at limits lock).writers == 0) refl
   where
     go : (b : Bool) → ((counts_at limits lock).writers == 0) ≡ b →
-        MovedRightly limits job LoadingLock lock items content lock items (if b then Going (Copying lock [])
-        else Going (Locking Share None))
+        MovedRightly limits job LoadingLock lock record_words content lock record_words
+        (if b then Going (Copying lock []) else Going (Locking Share None))
     go true q =
         let z : (counts_at limits lock).writers ≡ 0 = grind (arith, q) in
-        stays limits job LoadingLock (Copying lock []) lock items content s refl refl
+        stays limits job LoadingLock (Copying lock []) lock record_words content s refl refl
         (s.fits, omega arith, omega arith, λ _. (z, refl))
-    go false q = stays limits job LoadingLock (Locking Share None) lock items content s refl refl tt
+    go false q = stays limits job LoadingLock (Locking Share None) lock record_words content s refl refl tt
 
 copying : (limits : Bounds) (n : ℕ) (job : Job) (first : ℕ) (loaded : List ℕ) (lock : ℕ)
-    (items content : List ℕ) → Stands limits job (Copying first loaded) lock items content →
+    (record_words content : List ℕ) → Stands limits job (Copying first loaded) lock record_words content →
     n ≡ length content →
-    MovedRightly limits job (Copying first loaded) lock items content
+    MovedRightly limits job (Copying first loaded) lock record_words content
     (lock_after (plan limits n job (Copying first loaded)) lock)
-    (items_after (plan limits n job (Copying first loaded)) items)
+    (record_words_after (plan limits n job (Copying first loaded)) record_words)
     (after limits n job (Copying first loaded)
-    (local_found (plan limits n job (Copying first loaded)) lock items))
-copying limits n job first loaded lock items content s e = go (nat_lt (length loaded) n) refl
+    (local_found (plan limits n job (Copying first loaded)) lock record_words))
+copying limits n job first loaded lock record_words content s e = go (nat_lt (length loaded) n) refl
   where
     right : (job : Job) → is_get job ≡ true → loaded ≡ content →
         (reply.Content loaded ≡ reply_to content job) × (content_with content job ≡ content)
@@ -110,10 +111,10 @@ copying limits n job first loaded lock items content s e = go (nat_lt (length lo
     right (PuttingIf a b) g q = cc
 
     validated : (b : Bool) → unchanged limits first lock ≡ b → length content ≤ length loaded →
-        MovedRightly limits job (Copying first loaded) lock items content lock items (if b
+        MovedRightly limits job (Copying first loaded) lock record_words content lock record_words (if b
         then Done (reply.Content loaded) else Going (Locking Share None))
     validated false q h =
-        stays limits job (Copying first loaded) (Locking Share None) lock items content s refl
+        stays limits job (Copying first loaded) (Locking Share None) lock record_words content s refl
         refl tt
     validated true q h =
         let same : (counts_at limits lock).write_count ≡ (counts_at limits first).write_count =
@@ -135,30 +136,30 @@ copying limits n job first loaded lock items content s e = go (nat_lt (length lo
         )
 
     go : (b : Bool) → nat_lt (length loaded) n ≡ b →
-        MovedRightly limits job (Copying first loaded) lock items content
+        MovedRightly limits job (Copying first loaded) lock record_words content
         (lock_after (if b then LoadWord (length loaded) else LoadLock) lock)
-        (items_after (if b then LoadWord (length loaded) else LoadLock) items) (if b
+        (record_words_after (if b then LoadWord (length loaded) else LoadLock) record_words) (if b
         then Going (Copying first
         (loaded ++ local_found (if b then LoadWord (length loaded) else LoadLock) lock
-        items ∷ []))
+        record_words ∷ []))
         else (if unchanged limits first
-        (local_found (if b then LoadWord (length loaded) else LoadLock) lock items)
+        (local_found (if b then LoadWord (length loaded) else LoadLock) lock record_words)
         then Done (reply.Content loaded) else Going (Locking Share None)))
     go true q =
         let h : length loaded < length content = grind (arith, q, e) in
         stays limits job (Copying first loaded)
-        (Copying first (loaded ++ slice_index items (length loaded) ∷ [])) lock items content s
+        (Copying first (loaded ++ slice_index record_words (length loaded) ∷ [])) lock record_words content s
         refl refl (
           s.fits.0,
           s.fits.1,
           grind (arith, common_steps),
           λ p. let k = s.fits.3 p in
-              (k.0, begins_more loaded items content (s.free k.0) k.1 h),
+              (k.0, begins_more loaded record_words content (s.free k.0) k.1 h),
         )
     go false q = validated (unchanged limits first lock) refl (grind (arith, q, e))
 
 within_of : (limits : Bounds) (lock : ℕ) → AreInRange limits → IsAdmittedAt limits lock →
-    Within limits (counts_at limits lock)
+    CountsAreWithin limits (counts_at limits lock)
 within_of limits lock range w =
     rw (counts-of limits lock w.events range w.represented)
     (obeys_now limits w.events w.represented.well_formed).within
@@ -174,50 +175,50 @@ no_reader limits lock range a h = let w = within_of limits lock range a in
     (omega (arith, w.one_writer), w.apart (omega arith))
 
 reading : (limits : Bounds) (n : ℕ) (job : Job) (t : ℕ) (loaded : List ℕ) (lock : ℕ)
-    (items content : List ℕ) → Stands limits job (Reading t loaded) lock items content →
+    (record_words content : List ℕ) → Stands limits job (Reading t loaded) lock record_words content →
     n ≡ length content →
-    MovedRightly limits job (Reading t loaded) lock items content lock items
-    (after limits n job (Reading t loaded) (slice_index items (length loaded)))
-reading limits n job t loaded lock items content s e = go (nat_lt (length loaded + 1) n) refl
+    MovedRightly limits job (Reading t loaded) lock record_words content lock record_words
+    (after limits n job (Reading t loaded) (slice_index record_words (length loaded)))
+reading limits n job t loaded lock record_words content s e = go (nat_lt (length loaded + 1) n) refl
   where
-    more : loaded ++ slice_index items (length loaded) ∷ []
-        ≡ take (length (loaded ++ slice_index items (length loaded) ∷ [])) content
-    more = begins_more loaded items content
+    more : loaded ++ slice_index record_words (length loaded) ∷ []
+        ≡ take (length (loaded ++ slice_index record_words (length loaded) ∷ [])) content
+    more = begins_more loaded record_words content
         (s.free (no_writer limits lock s.range s.admitted (omega (arith, s.reads)))) s.fits.1.1
         s.fits.2
 
-    count : length (loaded ++ slice_index items (length loaded) ∷ []) ≡ length loaded + 1
+    count : length (loaded ++ slice_index record_words (length loaded) ∷ []) ≡ length loaded + 1
     count = grind (arith, common_steps)
 
     done : (g x : Bool) → is_get job ≡ g →
-        expects job (loaded ++ slice_index items (length loaded) ∷ []) ≡ x →
-        loaded ++ slice_index items (length loaded) ∷ [] ≡ content →
-        MovedRightly limits job (Reading t loaded) lock items content lock items (if g
-        then Going (Locking (Leave t (loaded ++ slice_index items (length loaded) ∷ [])) None)
+        expects job (loaded ++ slice_index record_words (length loaded) ∷ []) ≡ x →
+        loaded ++ slice_index record_words (length loaded) ∷ [] ≡ content →
+        MovedRightly limits job (Reading t loaded) lock record_words content lock record_words (if g
+        then Going (Locking (Leave t (loaded ++ slice_index record_words (length loaded) ∷ [])) None)
         else (if x then Going (Locking (Upgrade t) None)
         else Going (Locking (Refuse t) None)))
     done true x g q all =
         stays limits job (Reading t loaded)
-        (Locking (Leave t (loaded ++ slice_index items (length loaded) ∷ [])) None) lock items
+        (Locking (Leave t (loaded ++ slice_index record_words (length loaded) ∷ [])) None) lock record_words
         content s refl refl (g, s.fits.0, all)
     done false true g q all =
-        stays limits job (Reading t loaded) (Locking (Upgrade t) None) lock items content s refl
+        stays limits job (Reading t loaded) (Locking (Upgrade t) None) lock record_words content s refl
         refl (g, s.fits.0, rw all at q)
     done false false g q all =
-        stays limits job (Reading t loaded) (Locking (Refuse t) None) lock items content s refl
+        stays limits job (Reading t loaded) (Locking (Refuse t) None) lock record_words content s refl
         refl (g, s.fits.0, rw all at q)
 
     go : (b : Bool) → nat_lt (length loaded + 1) n ≡ b →
-        MovedRightly limits job (Reading t loaded) lock items content lock items (if b
-        then Going (Reading t (loaded ++ slice_index items (length loaded) ∷ []))
-        else all_read job t (loaded ++ slice_index items (length loaded) ∷ []))
+        MovedRightly limits job (Reading t loaded) lock record_words content lock record_words (if b
+        then Going (Reading t (loaded ++ slice_index record_words (length loaded) ∷ []))
+        else all_read job t (loaded ++ slice_index record_words (length loaded) ∷ []))
     go true q =
         stays limits job (Reading t loaded)
-        (Reading t (loaded ++ slice_index items (length loaded) ∷ [])) lock items content s refl
+        (Reading t (loaded ++ slice_index record_words (length loaded) ∷ [])) lock record_words content s refl
         refl
         (s.fits.0, (rw count (omega (arith, s.fits.2)), more), rw count (grind (arith, q, e)))
     go false q =
-        done (is_get job) (expects job (loaded ++ slice_index items (length loaded) ∷ [])) refl refl
+        done (is_get job) (expects job (loaded ++ slice_index record_words (length loaded) ∷ [])) refl refl
         (all_of _ content more (rw count (grind (arith, q, e))))
 
 -- the words while a writer stores, after one more word is stored
@@ -231,10 +232,10 @@ stored_at (x ∷ words) (y ∷ content) zero h l = refl
 stored_at (x ∷ words) (y ∷ content) (suc i) h l =
     ap (λ xs. x ∷ xs) (stored_at words content i (omega arith) (omega arith))
 
-stored_more : (words items content : List ℕ) (i : ℕ) → items ≡ take i words ++ drop i content →
+stored_more : (words record_words content : List ℕ) (i : ℕ) → record_words ≡ take i words ++ drop i content →
     i < length content → length words ≡ length content →
-    slice_set items i (slice_index words i) ≡ take (i + 1) words ++ drop (i + 1) content
-stored_more words items content i e h l = rw (add-one, e) (stored_at words content i h l)
+    slice_set record_words i (slice_index words i) ≡ take (i + 1) words ++ drop (i + 1) content
+stored_more words record_words content i e h l = rw (add-one, e) (stored_at words content i h l)
 
 put_words : (job : Job) (content : List ℕ) → is_get job ≡ false → (is_get job ≡ true)
     ⊎ (length (new_words job) ≡ length content) → length (new_words job) ≡ length content
@@ -247,12 +248,12 @@ stored_right Getting content g x = cc
 stored_right (Putting a) content g x = (refl, refl)
 stored_right (PuttingIf a b) content g x = (rw x refl, rw x refl)
 
-storing : (limits : Bounds) (n : ℕ) (job : Job) (t i : ℕ) (lock : ℕ) (items content : List ℕ) →
-    Stands limits job (Storing t i) lock items content → n ≡ length content →
-    MovedRightly limits job (Storing t i) lock items content lock
-    (slice_set items i (slice_index (new_words job) i))
-    (after limits n job (Storing t i) (slice_index items i))
-storing limits n job t i lock items content s e = go (nat_lt (i + 1) n) refl
+storing : (limits : Bounds) (n : ℕ) (job : Job) (t i : ℕ) (lock : ℕ) (record_words content : List ℕ) →
+    Stands limits job (Storing t i) lock record_words content → n ≡ length content →
+    MovedRightly limits job (Storing t i) lock record_words content lock
+    (slice_set record_words i (slice_index (new_words job) i))
+    (after limits n job (Storing t i) (slice_index record_words i))
+storing limits n job t i lock record_words content s e = go (nat_lt (i + 1) n) refl
   where
     alone : ((counts_at limits lock).writers ≡ 1) × ((counts_at limits lock).readers ≡ 0)
     alone = no_reader limits lock s.range s.admitted s.writes
@@ -260,21 +261,21 @@ storing limits n job t i lock items content s e = go (nat_lt (i + 1) n) refl
     words : length (new_words job) ≡ length content
     words = put_words job content s.fits.0 s.words
 
-    more : slice_set items i (slice_index (new_words job) i) ≡ take (i + 1) (new_words job)
+    more : slice_set record_words i (slice_index (new_words job) i) ≡ take (i + 1) (new_words job)
         ++ drop (i + 1) content
-    more = stored_more (new_words job) items content i s.fits.4 s.fits.3 words
+    more = stored_more (new_words job) record_words content i s.fits.4 s.fits.3 words
 
     moved : (to : RecordStage) → read_by to ≡ 0 → written_by to ≡ 1 →
         FitsRecordStage limits (counts_at limits lock).write_count (counts_at limits lock).writers content
-        (slice_set items i (slice_index (new_words job) i)) job to →
-        MovedRightly limits job (Storing t i) lock items content lock
-        (slice_set items i (slice_index (new_words job) i)) (Going to)
+        (slice_set record_words i (slice_index (new_words job) i)) job to →
+        MovedRightly limits job (Storing t i) lock record_words content lock
+        (slice_set record_words i (slice_index (new_words job) i)) (Going to)
     moved to r w f = (
       record {
         admitted = s.admitted;
         writers = omega (arith, w);
         readers = omega (arith, r);
-        width = length-set items i _ ∙ s.width;
+        width = length-set record_words i _ ∙ s.width;
         same_width = refl;
         free = λ z. absurd (omega (arith, alone.0));
         fits = (s.some, s.words, f);
@@ -284,8 +285,8 @@ storing limits n job t i lock items content s e = go (nat_lt (i + 1) n) refl
     )
 
     go : (b : Bool) → nat_lt (i + 1) n ≡ b →
-        MovedRightly limits job (Storing t i) lock items content lock
-        (slice_set items i (slice_index (new_words job) i)) (if b then Going (Storing t (i + 1))
+        MovedRightly limits job (Storing t i) lock record_words content lock
+        (slice_set record_words i (slice_index (new_words job) i)) (if b then Going (Storing t (i + 1))
         else Going (Releasing t (stored_reply job)))
     go true q = moved (Storing t (i + 1)) refl refl
         (s.fits.0, s.fits.1, s.fits.2, grind (arith, q, e), more)
@@ -300,17 +301,17 @@ storing limits n job t i lock items content s e = go (nat_lt (i + 1) n) refl
         (s.fits.1, right.0, more ∙ whole ∙ sym right.1)
 
 checking : (limits : Bounds) (n : ℕ) (job : Job) (t : ℕ) (loaded : List ℕ) (lock : ℕ)
-    (items content : List ℕ) → Stands limits job (Checking t loaded) lock items content →
+    (record_words content : List ℕ) → Stands limits job (Checking t loaded) lock record_words content →
     n ≡ length content →
-    MovedRightly limits job (Checking t loaded) lock items content lock items
-    (after limits n job (Checking t loaded) (slice_index items (length loaded)))
-checking limits n job t loaded lock items content s e = go (nat_lt (length loaded + 1) n) refl
+    MovedRightly limits job (Checking t loaded) lock record_words content lock record_words
+    (after limits n job (Checking t loaded) (slice_index record_words (length loaded)))
+checking limits n job t loaded lock record_words content s e = go (nat_lt (length loaded + 1) n) refl
   where
-    more : loaded ++ slice_index items (length loaded) ∷ []
-        ≡ take (length (loaded ++ slice_index items (length loaded) ∷ [])) content
-    more = begins_more loaded items content s.fits.2 s.fits.3.1 s.fits.4
+    more : loaded ++ slice_index record_words (length loaded) ∷ []
+        ≡ take (length (loaded ++ slice_index record_words (length loaded) ∷ [])) content
+    more = begins_more loaded record_words content s.fits.2 s.fits.3.1 s.fits.4
 
-    count : length (loaded ++ slice_index items (length loaded) ∷ []) ≡ length loaded + 1
+    count : length (loaded ++ slice_index record_words (length loaded) ∷ []) ≡ length loaded + 1
     count = grind (arith, common_steps)
 
     refused : (job : Job) → is_get job ≡ false → expects job content ≡ false →
@@ -319,26 +320,26 @@ checking limits n job t loaded lock items content s e = go (nat_lt (length loade
     refused (Putting a) g x = cc
     refused (PuttingIf a b) g x = (rw x refl, rw x refl)
 
-    done : (x : Bool) → expects job (loaded ++ slice_index items (length loaded) ∷ []) ≡ x →
-        loaded ++ slice_index items (length loaded) ∷ [] ≡ content →
-        MovedRightly limits job (Checking t loaded) lock items content lock items (if x
+    done : (x : Bool) → expects job (loaded ++ slice_index record_words (length loaded) ∷ []) ≡ x →
+        loaded ++ slice_index record_words (length loaded) ∷ [] ≡ content →
+        MovedRightly limits job (Checking t loaded) lock record_words content lock record_words (if x
         then Going (Storing t 0) else Going (Releasing t reply.No))
     done true q all =
-        stays limits job (Checking t loaded) (Storing t 0) lock items content s refl refl
+        stays limits job (Checking t loaded) (Storing t 0) lock record_words content s refl refl
         (s.fits.0, s.fits.1, rw all at q, s.some, s.fits.2)
     done false q all =
         let r = refused job s.fits.0 (rw all at q) in
-        stays limits job (Checking t loaded) (Releasing t reply.No) lock items content s refl refl
+        stays limits job (Checking t loaded) (Releasing t reply.No) lock record_words content s refl refl
         (s.fits.1, r.0, s.fits.2 ∙ sym r.1)
 
     go : (b : Bool) → nat_lt (length loaded + 1) n ≡ b →
-        MovedRightly limits job (Checking t loaded) lock items content lock items (if b
-        then Going (Checking t (loaded ++ slice_index items (length loaded) ∷ []))
-        else (if expects job (loaded ++ slice_index items (length loaded) ∷ [])
+        MovedRightly limits job (Checking t loaded) lock record_words content lock record_words (if b
+        then Going (Checking t (loaded ++ slice_index record_words (length loaded) ∷ []))
+        else (if expects job (loaded ++ slice_index record_words (length loaded) ∷ [])
         then Going (Storing t 0) else Going (Releasing t reply.No)))
     go true q =
         stays limits job (Checking t loaded)
-        (Checking t (loaded ++ slice_index items (length loaded) ∷ [])) lock items content s
+        (Checking t (loaded ++ slice_index record_words (length loaded) ∷ [])) lock record_words content s
         refl refl (
           s.fits.0,
           s.fits.1,
@@ -347,7 +348,7 @@ checking limits n job t loaded lock items content s e = go (nat_lt (length loade
           rw count (grind (arith, q, e)),
         )
     go false q =
-        done (expects job (loaded ++ slice_index items (length loaded) ∷ [])) refl
+        done (expects job (loaded ++ slice_index record_words (length loaded) ∷ [])) refl
         (all_of _ content more (rw count (grind (arith, q, e))))
 
 -- the word that a release leaves
@@ -399,17 +400,17 @@ released limits lock t range w h e =
     )
 
 pub releasing-wins : (limits : Bounds) (job : Job) (t : ℕ) (a : Reply) (lock : ℕ)
-    (items content : List ℕ) → Stands limits job (Releasing t a) lock items content → lock ≡ t
-releasing-wins limits job t a lock items content s =
+    (record_words content : List ℕ) → Stands limits job (Releasing t a) lock record_words content → lock ≡ t
+releasing-wins limits job t a lock record_words content s =
     let alone = no_reader limits lock s.range s.admitted s.writes in
     (released limits lock t s.range s.admitted alone.0 s.fits.0).0
 
 releasing : (limits : Bounds) (n : ℕ) (job : Job) (t : ℕ) (a : Reply) (lock : ℕ)
-    (items content : List ℕ) → Stands limits job (Releasing t a) lock items content →
+    (record_words content : List ℕ) → Stands limits job (Releasing t a) lock record_words content →
     n ≡ length content →
-    MovedRightly limits job (Releasing t a) lock items content (if lock == t then t + (units limits).writer
-    else lock) items (Done a)
-releasing limits n job t a lock items content s e =
+    MovedRightly limits job (Releasing t a) lock record_words content (if lock == t then t + (units limits).writer
+    else lock) record_words (Done a)
+releasing limits n job t a lock record_words content s e =
     let alone = no_reader limits lock s.range s.admitted s.writes in
     let r = released limits lock t s.range s.admitted alone.0 s.fits.0 in
     let won : (lock == t) ≡ true = grind (arith, r.0) in
@@ -427,51 +428,51 @@ releasing limits n job t a lock items content s e =
       s.fits.1,
     )
 
-items_same : (limits : Bounds) (call : Call) (seen : Option ℕ) (items : List ℕ) →
-    items_after (phase_plan limits call seen) items ≡ items
-items_same limits call None items = refl
-items_same limits call (Some word) items = go (decision limits word call)
+items_same : (limits : Bounds) (call : Call) (seen : Option ℕ) (record_words : List ℕ) →
+    record_words_after (phase_plan limits call seen) record_words ≡ record_words
+items_same limits call None record_words = refl
+items_same limits call (Some word) record_words = go (decision limits word call)
   where
-    go : (d : Decision) → items_after (plan_on word d) items ≡ items
+    go : (d : Decision) → record_words_after (plan_on word d) record_words ≡ record_words
     go (Answer r) = refl
     go (Change new r) = refl
     go Wait = refl
 
 -- a lock step goes on with another word seen
 still : (limits : Bounds) (job : Job) (e : OwnLockCall) (seen now : Option ℕ) (lock : ℕ)
-    (items content : List ℕ) → Stands limits job (Locking e seen) lock items content →
-    MovedRightly limits job (Locking e seen) lock items content lock items (Going (Locking e now))
-still limits job Share seen now lock items content s =
-    stays limits job (Locking Share seen) (Locking Share now) lock items content s refl refl
+    (record_words content : List ℕ) → Stands limits job (Locking e seen) lock record_words content →
+    MovedRightly limits job (Locking e seen) lock record_words content lock record_words (Going (Locking e now))
+still limits job Share seen now lock record_words content s =
+    stays limits job (Locking Share seen) (Locking Share now) lock record_words content s refl refl
     s.fits
-still limits job (Leave t loaded) seen now lock items content s =
-    stays limits job (Locking (Leave t loaded) seen) (Locking (Leave t loaded) now) lock items
+still limits job (Leave t loaded) seen now lock record_words content s =
+    stays limits job (Locking (Leave t loaded) seen) (Locking (Leave t loaded) now) lock record_words
     content s refl refl s.fits
-still limits job (Refuse t) seen now lock items content s =
-    stays limits job (Locking (Refuse t) seen) (Locking (Refuse t) now) lock items content s
+still limits job (Refuse t) seen now lock record_words content s =
+    stays limits job (Locking (Refuse t) seen) (Locking (Refuse t) now) lock record_words content s
     refl refl s.fits
-still limits job (Upgrade t) seen now lock items content s =
-    stays limits job (Locking (Upgrade t) seen) (Locking (Upgrade t) now) lock items content s
+still limits job (Upgrade t) seen now lock record_words content s =
+    stays limits job (Locking (Upgrade t) seen) (Locking (Upgrade t) now) lock record_words content s
     refl refl s.fits
-still limits job (ReleaseFirst t) seen now lock items content s =
-    stays limits job (Locking (ReleaseFirst t) seen) (Locking (ReleaseFirst t) now) lock items content s
+still limits job (ReleaseFirst t) seen now lock record_words content s =
+    stays limits job (Locking (ReleaseFirst t) seen) (Locking (ReleaseFirst t) now) lock record_words content s
     refl refl s.fits
-still limits job Claim seen now lock items content s =
-    stays limits job (Locking Claim seen) (Locking Claim now) lock items content s refl refl
+still limits job Claim seen now lock record_words content s =
+    stays limits job (Locking Claim seen) (Locking Claim now) lock record_words content s refl refl
     s.fits
 
 -- an exchange on the lock, after which the call goes on
-goes : (limits : Bounds) (job : Job) (stage to : RecordStage) (lock lock' : ℕ) (items content : List ℕ) →
-    Stands limits job stage lock items content → IsAdmittedAt limits lock' →
+goes : (limits : Bounds) (job : Job) (stage to : RecordStage) (lock lock' : ℕ) (record_words content : List ℕ) →
+    Stands limits job stage lock record_words content → IsAdmittedAt limits lock' →
     (counts_at limits lock').writers + written_by stage ≡ (counts_at limits lock).writers
     + written_by to → (counts_at limits lock').readers + read_by stage
     ≡ (counts_at limits lock).readers + read_by to →
-    ((counts_at limits lock').writers ≡ 0 → items ≡ content) →
-    FitsRecordStage limits (counts_at limits lock').write_count (counts_at limits lock').writers content items
-    job to → SameFor limits lock items content lock' items content
+    ((counts_at limits lock').writers ≡ 0 → record_words ≡ content) →
+    FitsRecordStage limits (counts_at limits lock').write_count (counts_at limits lock').writers content record_words
+    job to → SameFor limits lock record_words content lock' record_words content
     ⊎ AloneFor limits stage lock lock' →
-    MovedRightly limits job stage lock items content lock' items (Going to)
-goes limits job stage to lock lock' items content s a w r f g e = (
+    MovedRightly limits job stage lock record_words content lock' record_words (Going to)
+goes limits job stage to lock lock' record_words content s a w r f g e = (
   record {
     admitted = a;
     writers = w;
@@ -497,12 +498,12 @@ write_some limits k s e =
           (grind (arith, nat_tests))
     ]
 
-read_locked : (limits : Bounds) (job : Job) (seen : Option ℕ) (lock lock' : ℕ) (items content : List ℕ)
-    (r : Reply) → Stands limits job (Locking Share seen) lock items content →
+read_locked : (limits : Bounds) (job : Job) (seen : Option ℕ) (lock lock' : ℕ) (record_words content : List ℕ)
+    (r : Reply) → Stands limits job (Locking Share seen) lock record_words content →
     CallLeaves limits ReadLock lock lock' r →
-    MovedRightly limits job (Locking Share seen) lock items content lock' items
+    MovedRightly limits job (Locking Share seen) lock record_words content lock' record_words
     (Going (Reading (stamp_in r) []))
-read_locked limits job seen lock lock' items content r s t =
+read_locked limits job seen lock lock' record_words content r s t =
     let h = shared_at limits (counts_at limits lock) t.taken t.transition in
     let cs : counts_at limits lock' ≡ record {
       write_count = (counts_at limits lock).write_count;
@@ -518,7 +519,7 @@ read_locked limits job seen lock lock' items content r s t =
     ap (λ (c : Counts). c.readers) cs in
     let st : stamp_in r ≡ read_stamp (units limits) (counts_at limits lock).write_count
     ((counts_at limits lock).readers + 1) = ap stamp_in (sym t.reply ∙ h.3) in
-    goes limits job (Locking Share seen) (Reading (stamp_in r) []) lock lock' items content s
+    goes limits job (Locking Share seen) (Reading (stamp_in r) []) lock lock' record_words content s
     (left-admitted _ _ _ _ _ s.admitted t) (omega (arith, w)) (omega (arith, n)) (λ _. s.free h.0)
     (is_read limits _ _ _ _ s.range h.1 k st, (omega arith, refl), s.some)
     (inl (k, w, refl, refl))
@@ -544,15 +545,15 @@ left_counts limits lock lock' t r u i h =
     )
 
 -- an unlock that ends a call which changes nothing
-leaves : (limits : Bounds) (job : Job) (stage : RecordStage) (lock lock' t : ℕ) (items content : List ℕ)
-    (r : Reply) (a : Reply) → Stands limits job stage lock items content → read_by stage ≡ 1 →
+leaves : (limits : Bounds) (job : Job) (stage : RecordStage) (lock lock' t : ℕ) (record_words content : List ℕ)
+    (r : Reply) (a : Reply) → Stands limits job stage lock record_words content → read_by stage ≡ 1 →
     written_by stage ≡ 0 → CallLeaves limits (UnlockRead t) lock lock' r →
     IsRead limits (counts_at limits lock).write_count t → a ≡ reply_to content job →
     content_with content job ≡ content →
-    MovedRightly limits job stage lock items content lock' items (Done a)
-leaves limits job stage lock lock' t items content r a s rd wr u i right same =
+    MovedRightly limits job stage lock record_words content lock' record_words (Done a)
+leaves limits job stage lock lock' t record_words content r a s rd wr u i right same =
     let l = left_counts limits lock lock' t r u i (omega (arith, s.reads, rd)) in
-    let free : items ≡ content =
+    let free : record_words ≡ content =
     s.free (no_writer limits lock s.range s.admitted (omega (arith, s.reads, rd))) in (
       record {
         admitted = left-admitted _ _ _ _ _ s.admitted u;
@@ -581,7 +582,7 @@ refused_no (PuttingIf a b) content g x = (rw x refl, rw x refl)
 
 -- write mode was got, by a call that holds nothing or the only read lock
 claims : (limits : Bounds) (job : Job) (stage to : RecordStage) (lock lock' st : ℕ)
-    (items content : List ℕ) → Stands limits job stage lock items content →
+    (record_words content : List ℕ) → Stands limits job stage lock record_words content →
     IsAdmittedAt limits lock' → written_by stage ≡ 0 → (counts_at limits lock).writers ≡ 0 →
     (counts_at limits lock).readers ≡ read_by stage →
     counts_at limits lock' ≡ record {
@@ -589,18 +590,18 @@ claims : (limits : Bounds) (job : Job) (stage to : RecordStage) (lock lock' st :
       writers = 1;
       readers = 0;
     } → read_by to ≡ 0 → written_by to ≡ 1 →
-    FitsRecordStage limits ((counts_at limits lock).write_count + 1) 1 content items job to →
-    MovedRightly limits job stage lock items content lock' items (Going to)
-claims limits job stage to lock lock' st items content s a wr free alone cs r w f =
+    FitsRecordStage limits ((counts_at limits lock).write_count + 1) 1 content record_words job to →
+    MovedRightly limits job stage lock record_words content lock' record_words (Going to)
+claims limits job stage to lock lock' st record_words content s a wr free alone cs r w f =
     let k : (counts_at limits lock').write_count ≡ (counts_at limits lock).write_count + 1 =
     ap (λ (c : Counts). c.write_count) cs in
     let n : (counts_at limits lock').writers ≡ 1 = ap (λ (c : Counts). c.writers) cs in
     let m : (counts_at limits lock').readers ≡ 0 = ap (λ (c : Counts). c.readers) cs in
-    let P : ℕ → ℕ → Type 0 = λ x y. FitsRecordStage limits x y content items job to in
-    goes limits job stage to lock lock' items content s a (omega (arith, n, wr, free, w))
+    let P : ℕ → ℕ → Type 0 = λ x y. FitsRecordStage limits x y content record_words job to in
+    goes limits job stage to lock lock' record_words content s a (omega (arith, n, wr, free, w))
     (omega (arith, m, alone, r)) (λ z. absurd (omega (arith, n, z)))
-    (subst (λ (x : ℕ). FitsRecordStage limits x (counts_at limits lock').writers content items job to) (sym k)
-    (subst (λ (y : ℕ). FitsRecordStage limits ((counts_at limits lock).write_count + 1) y content items
+    (subst (λ (x : ℕ). FitsRecordStage limits x (counts_at limits lock').writers content record_words job to) (sym k)
+    (subst (λ (y : ℕ). FitsRecordStage limits ((counts_at limits lock).write_count + 1) y content record_words
     job to) (sym n) f))
     (inr (free ∙ sym wr, alone, inl k))
 
@@ -615,12 +616,12 @@ claim_counts : (c : Counts) → c.writers ≡ 0 → c.readers ≡ 0 →
 claim_counts c w r = rw r refl
 
 upgraded : (limits : Bounds) (job : Job) (u : ℕ) (seen : Option ℕ) (lock lock' : ℕ)
-    (items content : List ℕ) (r : Reply) →
-    Stands limits job (Locking (Upgrade u) seen) lock items content →
+    (record_words content : List ℕ) (r : Reply) →
+    Stands limits job (Locking (Upgrade u) seen) lock record_words content →
     CallLeaves limits (ToWrite u) lock lock' r →
-    MovedRightly limits job (Locking (Upgrade u) seen) lock items content lock' items
+    MovedRightly limits job (Locking (Upgrade u) seen) lock record_words content lock' record_words
     (own_call_done job (Upgrade u) (stamp_in r))
-upgraded limits job u seen lock lock' items content r s t =
+upgraded limits job u seen lock lock' record_words content r s t =
     go (upgraded_at limits (counts_at limits lock) u t.taken t.transition free
     (omega (arith, s.reads)))
   where
@@ -632,14 +633,14 @@ upgraded limits job u seen lock lock' items content r s t =
         × (t.taken.reply
         ≡ reply.Stamp (write_stamp (units limits) ((counts_at limits lock).write_count + 1))))
         ⊎ ((t.taken.appended ≡ []) × (t.taken.reply ≡ reply.Stamp 0)) →
-        MovedRightly limits job (Locking (Upgrade u) seen) lock items content lock' items
+        MovedRightly limits job (Locking (Upgrade u) seen) lock record_words content lock' record_words
         (own_call_done job (Upgrade u) (stamp_in r))
     go (inl h) =
         let st : stamp_in r ≡ write_stamp (units limits) ((counts_at limits lock).write_count + 1) =
         ap stamp_in (sym t.reply ∙ h.2) in
         let some : (stamp_in r == 0) ≡ false = write_some limits _ _ st in
         rw some (claims limits job (Locking (Upgrade u) seen) (Storing (stamp_in r) 0) lock lock'
-        0 items content s (left-admitted _ _ _ _ _ s.admitted t) refl free h.0
+        0 record_words content s (left-admitted _ _ _ _ _ s.admitted t) refl free h.0
         (t.counts ∙ ap (after_events (counts_at limits lock)) h.1
         ∙ upgrade_counts (counts_at limits lock) free h.0) refl refl
         (s.fits.0, st, s.fits.2, s.some, s.free free))
@@ -654,92 +655,93 @@ upgraded limits job u seen lock lock' items content r s t =
         let n : (counts_at limits lock').readers ≡ (counts_at limits lock).readers =
         ap (λ (c : Counts). c.readers) cs in
         rw st (goes limits job (Locking (Upgrade u) seen) (Locking (ReleaseFirst u) None) lock lock'
-        items content s (left-admitted _ _ _ _ _ s.admitted t) (omega (arith, w))
+        record_words content s (left-admitted _ _ _ _ _ s.admitted t) (omega (arith, w))
         (omega (arith, n)) (λ _. s.free free)
         (s.fits.0, rw k s.fits.1) (inl (k, w, refl, refl)))
 
-claim-ends : (limits : Bounds) (job : Job) (seen : Option ℕ) (lock lock' : ℕ) (items content : List ℕ)
-    (r : Reply) → Stands limits job (Locking Claim seen) lock items content →
+claim-ends : (limits : Bounds) (job : Job) (seen : Option ℕ) (lock lock' : ℕ) (record_words content : List ℕ)
+    (r : Reply) → Stands limits job (Locking Claim seen) lock record_words content →
     CallLeaves limits WriteLock lock lock' r →
-    MovedRightly limits job (Locking Claim seen) lock items content lock' items
+    MovedRightly limits job (Locking Claim seen) lock record_words content lock' record_words
     (own_call_done job Claim (stamp_in r))
-claim-ends limits Getting seen lock lock' items content r s t = absurd (true_false s.fits)
+claim-ends limits Getting seen lock lock' record_words content r s t = absurd (true_false s.fits)
   where
     true_false : true ≡ false → ⊥
     true_false e = cc
-claim-ends limits (Putting a) seen lock lock' items content r s t =
+claim-ends limits (Putting a) seen lock lock' record_words content r s t =
     let h = claimed_at limits (counts_at limits lock) t.taken t.transition s.room in
-    claims limits (Putting a) (Locking Claim seen) (Storing (stamp_in r) 0) lock lock' 0 items
+    claims limits (Putting a) (Locking Claim seen) (Storing (stamp_in r) 0) lock lock' 0 record_words
     content s (left-admitted _ _ _ _ _ s.admitted t) refl h.0 h.1
     (t.counts ∙ ap (after_events (counts_at limits lock)) h.2
     ∙ claim_counts (counts_at limits lock) h.0 h.1) refl refl
     (refl, ap stamp_in (sym t.reply ∙ h.3), refl, s.some, s.free h.0)
-claim-ends limits (PuttingIf a b) seen lock lock' items content r s t =
+claim-ends limits (PuttingIf a b) seen lock lock' record_words content r s t =
     let h = claimed_at limits (counts_at limits lock) t.taken t.transition s.room in
     claims limits (PuttingIf a b) (Locking Claim seen) (Checking (stamp_in r) []) lock lock' 0
-    items content s (left-admitted _ _ _ _ _ s.admitted t) refl h.0 h.1
+    record_words content s (left-admitted _ _ _ _ _ s.admitted t) refl h.0 h.1
     (t.counts ∙ ap (after_events (counts_at limits lock)) h.2
     ∙ claim_counts (counts_at limits lock) h.0 h.1) refl refl
     (refl, ap stamp_in (sym t.reply ∙ h.3), s.free h.0, (omega arith, refl), s.some)
 
 ended : (limits : Bounds) (job : Job) (e : OwnLockCall) (seen : Option ℕ) (lock lock' : ℕ)
-    (items content : List ℕ) (r : Reply) → Stands limits job (Locking e seen) lock items content →
+    (record_words content : List ℕ) (r : Reply) → Stands limits job (Locking e seen) lock record_words content →
     CallLeaves limits (call_for e) lock lock' r →
-    MovedRightly limits job (Locking e seen) lock items content lock' items
+    MovedRightly limits job (Locking e seen) lock record_words content lock' record_words
     (own_call_done job e (stamp_in r))
-ended limits job Share seen lock lock' items content r s t =
-    read_locked limits job seen lock lock' items content r s t
-ended limits job (Leave u loaded) seen lock lock' items content r s t =
+ended limits job Share seen lock lock' record_words content r s t =
+    read_locked limits job seen lock lock' record_words content r s t
+ended limits job (Leave u loaded) seen lock lock' record_words content r s t =
     let g = got_content job loaded content s.fits.0 s.fits.2 in
-    leaves limits job (Locking (Leave u loaded) seen) lock lock' u items content r
+    leaves limits job (Locking (Leave u loaded) seen) lock lock' u record_words content r
     (reply.Content loaded) s refl refl t s.fits.1 g.0 g.1
-ended limits job (Refuse u) seen lock lock' items content r s t =
+ended limits job (Refuse u) seen lock lock' record_words content r s t =
     let g = refused_no job content s.fits.0 s.fits.2 in
-    leaves limits job (Locking (Refuse u) seen) lock lock' u items content r reply.No s refl refl
+    leaves limits job (Locking (Refuse u) seen) lock lock' u record_words content r reply.No s refl refl
     t s.fits.1 g.0 g.1
-ended limits job (ReleaseFirst u) seen lock lock' items content r s t =
+ended limits job (ReleaseFirst u) seen lock lock' record_words content r s t =
     let l = left_counts limits lock lock' u r t s.fits.1 s.reads in
-    goes limits job (Locking (ReleaseFirst u) seen) (Locking Claim None) lock lock' items content s
+    goes limits job (Locking (ReleaseFirst u) seen) (Locking Claim None) lock lock' record_words content s
     (left-admitted _ _ _ _ _ s.admitted t) (omega (arith, l.1)) (omega (arith, l.2))
     (λ z. s.free (sym l.1 ∙ z)) s.fits.0 (inl (l.0, l.1, refl, refl))
-ended limits job (Upgrade u) seen lock lock' items content r s t =
-    upgraded limits job u seen lock lock' items content r s t
-ended limits job Claim seen lock lock' items content r s t =
-    claim-ends limits job seen lock lock' items content r s t
+ended limits job (Upgrade u) seen lock lock' record_words content r s t =
+    upgraded limits job u seen lock lock' record_words content r s t
+ended limits job Claim seen lock lock' record_words content r s t =
+    claim-ends limits job seen lock lock' record_words content r s t
 
 locking : (limits : Bounds) (job : Job) (e : OwnLockCall) (seen : Option ℕ) (lock : ℕ)
-    (items content : List ℕ) → Stands limits job (Locking e seen) lock items content →
-    MovedRightly limits job (Locking e seen) lock items content
+    (record_words content : List ℕ) → Stands limits job (Locking e seen) lock record_words content →
+    MovedRightly limits job (Locking e seen) lock record_words content
     (lock_after (phase_plan limits (call_for e) seen) lock)
-    (items_after (phase_plan limits (call_for e) seen) items)
+    (record_words_after (phase_plan limits (call_for e) seen) record_words)
     (passed job e
     (phase_after limits (call_for e) seen
-    (local_found (phase_plan limits (call_for e) seen) lock items)))
-locking limits job e seen lock items content s =
-    rw (items_same limits (call_for e) seen items)
-    (go _ _ (phase-leaves limits (call_for e) lock items seen s.range s.admitted))
+    (local_found (phase_plan limits (call_for e) seen) lock record_words)))
+locking limits job e seen lock record_words content s =
+    rw (items_same limits (call_for e) seen record_words)
+    (go _ _ (phase-leaves limits (call_for e) lock record_words seen s.range s.admitted))
   where
     go : (lock' : ℕ) (p : PhaseTurn) → PhaseLeaves limits (call_for e) lock lock' p →
-        MovedRightly limits job (Locking e seen) lock items content lock' items (passed job e p)
-    go lock' (phases.Going now) l = rw l (still limits job e seen now lock items content s)
-    go lock' (phases.Done r) t = ended limits job e seen lock lock' items content r s t
+        MovedRightly limits job (Locking e seen) lock record_words content lock' record_words (passed job e p)
+    go lock' (phases.Going now) l = rw l (still limits job e seen now lock record_words content s)
+    go lock' (phases.Done r) t = ended limits job e seen lock lock' record_words content r s t
 
 -- one access of a record call
 pub own-step : (limits : Bounds) (n : ℕ) (job : Job) (stage : RecordStage) (lock : ℕ)
-    (items content : List ℕ) → Stands limits job stage lock items content → n ≡ length content →
-    MovedRightly limits job stage lock items content (lock_after (plan limits n job stage) lock)
-    (items_after (plan limits n job stage) items)
-    (after limits n job stage (local_found (plan limits n job stage) lock items))
-own-step limits n job LoadingLock lock items content s e = loading-lock limits n job lock items content s e
-own-step limits n job (Copying first loaded) lock items content s e =
-    copying limits n job first loaded lock items content s e
-own-step limits n job (Locking own_call seen) lock items content s e =
-    locking limits job own_call seen lock items content s
-own-step limits n job (Reading t loaded) lock items content s e =
-    reading limits n job t loaded lock items content s e
-own-step limits n job (Checking t loaded) lock items content s e =
-    checking limits n job t loaded lock items content s e
-own-step limits n job (Storing t i) lock items content s e =
-    storing limits n job t i lock items content s e
-own-step limits n job (Releasing t a) lock items content s e =
-    releasing limits n job t a lock items content s e
+    (record_words content : List ℕ) → Stands limits job stage lock record_words content → n ≡ length content →
+    MovedRightly limits job stage lock record_words content (lock_after (plan limits n job stage) lock)
+    (record_words_after (plan limits n job stage) record_words)
+    (after limits n job stage (local_found (plan limits n job stage) lock record_words))
+own-step limits n job LoadingLock lock record_words content s e =
+    loading-lock limits n job lock record_words content s e
+own-step limits n job (Copying first loaded) lock record_words content s e =
+    copying limits n job first loaded lock record_words content s e
+own-step limits n job (Locking own_call seen) lock record_words content s e =
+    locking limits job own_call seen lock record_words content s
+own-step limits n job (Reading t loaded) lock record_words content s e =
+    reading limits n job t loaded lock record_words content s e
+own-step limits n job (Checking t loaded) lock record_words content s e =
+    checking limits n job t loaded lock record_words content s e
+own-step limits n job (Storing t i) lock record_words content s e =
+    storing limits n job t i lock record_words content s e
+own-step limits n job (Releasing t a) lock record_words content s e =
+    releasing limits n job t a lock record_words content s e

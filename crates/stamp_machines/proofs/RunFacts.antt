@@ -15,7 +15,7 @@ use Rattle.stamp_core.specs.History.{events_of}
 use Rattle.stamp_core.specs.Linearized.{history_of}
 use Rattle.stamp_machines.specs.Invariant.{Invariant, events_in}
 use Rattle.stamp_machines.specs.RunFields.{run_view_of, IsAt}
-use Rattle.stamp_machines.specs.RunRecord.{IsRecordOf}
+use Rattle.stamp_machines.specs.RecordedRun.{IsRecordedRun}
 use Rattle.stamp_core.specs.Record.{Recorded, recorded, IsRecorded}
 use Rattle.stamp_machines.proofs.StepsKeep.{always-kept, execution_of-more}
 use Rattle.stamp_machines.proofs.EntryOrder.{InOrder, always-in-order}
@@ -41,8 +41,8 @@ pub same-kept : (script : Scripted) (old mid : RunState) (n : ℕ) → SameState
     Invariant script (world_at [] old n) → Invariant script (world_at [] mid n)
 same-kept script old mid n s k = rw (same_world [] old mid n s) k
 
-pub run-memory : (r : Inside) → IsAt r → 0 < length r.state.words.items
-run-memory r h = let k = run-kept r h in omega (arith, k.memory)
+pub run-words : (r : Inside) → IsAt r → 0 < length r.state.words.items
+run-words r h = let k = run-kept r h in omega (arith, k.words)
 
 pub run-in-order : (r : Inside) → IsAt r →
     InOrder r.script.now (world_at [] r.state (length r.steps.items))
@@ -82,7 +82,7 @@ run-reported r h report each =
 -- a record with its entries is that of the steps so far
 pub record-of : (r : Inside) → IsAt r → (report : List (ℕ × ℕ)) → (made : Recorded) →
     made ≡ recorded r.script.now.limits r.script.now.width r.state.entries.items report →
-    IsRecordOf (run_view_of r) report made
+    IsRecordedRun (run_view_of r) report made
 record-of r h report made is =
     let order = run-in-order r h in
     record {

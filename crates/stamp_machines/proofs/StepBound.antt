@@ -38,11 +38,11 @@ use Rattle.stamp_machines.specs.declared.state.Begun.{Begun}
 use Rattle.stamp_machines.specs.declared.machine.Turn.{Turn}
 use Rattle.stamp_machines.specs.declared.machine.Turn.TheVariants.{Going, Done}
 use Rattle.stamp_machines.specs.Access.{words_after, found_by}
-use Rattle.stamp_machines.specs.Job.{job_in}
+use Rattle.stamp_machines.specs.Job.{job_of_call}
 use Rattle.stamp_machines.specs.LocalAccess.{LocalAccess, LoadLock, CasLock, LoadWord, StoreWord}
 use Rattle.stamp_machines.specs.LocalAccess.{with_lock, lock_after, local_found}
 use Rattle.stamp_machines.specs.Machine.{plan_of, after_access, lock_turn}
-use Rattle.stamp_machines.specs.Invariant.{Invariant, IsOf, events_in, job_at}
+use Rattle.stamp_machines.specs.Invariant.{Invariant, IsOf, events_in, job_of_stage}
 use Rattle.stamp_machines.proofs.LockCallSteps.{decided}
 use Rattle.stamp_machines.proofs.TwoKindsOfCall.{lock_none}
 use Rattle.stamp_machines.proofs.LockPhaseSteps.{PhaseLeaves, phase-leaves}
@@ -240,9 +240,9 @@ current-bounded script steps n b all = by (slice_index_or (execution_of script s
     fresh : (call : Call) → NeverWaits call →
         BoundedStage script.limits call (lock_word (execution_of script steps))
         (own_since steps n (length steps)) (changes_since script steps n (length steps))
-        (first_stage (job_in call))
+        (first_stage (job_of_call call))
     fresh call never =
-        let lock : job_in call ≡ None = lock_none call never.lock in
+        let lock : job_of_call call ≡ None = lock_none call never.lock in
         let none : drop (length steps) steps ≡ [] = drop_all (length steps) steps (omega arith) in
         rw (lock, none) refl
 
@@ -291,15 +291,15 @@ found-is (StoreWord i v) word h = absurd h
 
 turn-bounded : (script : Scripted) (world : World) (b : Begun) (stage : Stage) (own changes : ℕ) →
     Invariant script world → IsSound script → b.machine.shape ≡ shape_of script →
-    job_in b.machine.call ≡ job_at b.machine.stage → NeverWaits b.machine.call →
+    job_of_call b.machine.call ≡ job_of_stage b.machine.stage → NeverWaits b.machine.call →
     b.machine.stage ≡ stage →
     BoundedStage script.limits b.machine.call (lock_word world) own changes stage →
     BoundedMachine script.limits b.machine.call
     (slice_index (words_after (plan_of b.machine) world.words) 0) (own + 1) changes
     (after_access b.machine (found_by (plan_of b.machine) world.words))
 turn-bounded script world b (OnRecord job stage) own changes k sound shape kind never at bounded =
-    let none : job_in b.machine.call ≡ None = lock_none b.machine.call never.lock in
-    let some : job_in b.machine.call ≡ Some job = kind ∙ ap job_at at in
+    let none : job_of_call b.machine.call ≡ None = lock_none b.machine.call never.lock in
+    let some : job_of_call b.machine.call ≡ Some job = kind ∙ ap job_of_stage at in
     let apart : None ≡ Some job = sym none ∙ some in
     cc
 turn-bounded script world b (OnLock seen) own changes k sound shape kind never at bounded =
@@ -307,7 +307,7 @@ turn-bounded script world b (OnLock seen) own changes k sound shape kind never a
     let a : LocalAccess = phase_plan script.limits call seen in
     let word : ℕ = lock_word world in
     let to_lock : IsToLock a = phase-to_lock script.limits call seen in
-    let m = lock-moves world.words script.width a k.memory to_lock in
+    let m = lock-moves world.words script.width a k.words to_lock in
     let admitted : IsAdmittedAt script.limits word =
     record { events = events_in script world; represented = k.represented } in
     let found : local_found a word [] ≡ word = found-is a word to_lock in
@@ -483,13 +483,13 @@ steps_are_bounded script steps sound few =
 
 -- a call under way
 under-way : (limits : Bounds) (call : Call) (word own changes : ℕ) (stage : Stage) →
-    job_in call ≡ job_at stage → NeverWaits call →
+    job_of_call call ≡ job_of_stage stage → NeverWaits call →
     BoundedStage limits call word own changes stage → own < changes + 2
 under-way limits call word own changes (OnLock None) kind never bounded = omega (arith, bounded)
 under-way limits call word own changes (OnLock (Some w)) kind never bounded = let h = bounded.0 in
     omega (arith, h)
 under-way limits call word own changes (OnRecord job stage) kind never bounded =
-    let none : job_in call ≡ None = lock_none call never.lock in
+    let none : job_of_call call ≡ None = lock_none call never.lock in
     let apart : None ≡ Some job = sym none ∙ kind in
     cc
 

@@ -20,7 +20,7 @@ use Rattle.stamp_machines.specs.declared.access.Access.{Access}
 use Rattle.stamp_machines.specs.declared.access.Access.TheVariants.{Load, Cas, Store}
 use Rattle.stamp_machines.specs.Access.{words_after, found_by}
 use Rattle.stamp_machines.specs.LockNumber.{RepresentsAt, IsAdmittedAt, counts_at}
-use Rattle.stamp_machines.specs.Job.{Job, job_in, content_with, reply_to}
+use Rattle.stamp_machines.specs.Job.{Job, job_of_call, content_with, reply_to}
 use Rattle.stamp_core.specs.History.{IsLegal, History, IsReply, appended_by, content_after}
 use Rattle.stamp_core.specs.History.{events_of}
 use Rattle.stamp_machines.specs.RecordStage as on_record
@@ -40,7 +40,7 @@ use Rattle.stamp_machines.specs.World.{World, opening, opening_word, current, wo
 use Rattle.stamp_machines.specs.World.{execution_of, entry_of, shape_of}
 use Rattle.stamp_machines.specs.RecordKept.{RecordCallAt, RecordKept, MovedRightly, Stands, read_in, written_in}
 use Rattle.stamp_machines.specs.RecordKept.{read_by, written_by, FitsIn, SameFor, AloneFor}
-use Rattle.stamp_machines.specs.Invariant.{Invariant, IsOf, record_call_in, record_call_at, job_at, content_in}
+use Rattle.stamp_machines.specs.Invariant.{Invariant, IsOf, record_call_in, record_call_at, job_of_stage, content_in}
 use Rattle.stamp_machines.specs.Invariant.{events_in}
 use Rattle.stamp_machines.proofs.LockPhaseSteps.{PhaseLeaves, phase-leaves, counts-of}
 use Rattle.stamp_machines.proofs.OtherRecordCalls.{moved-kept, le_sum}
@@ -102,7 +102,7 @@ going-kept script world t b words m k o n s r f =
       represented = rw s k.represented;
       record_kept = r;
       width = k.width;
-      memory = n;
+      words = n;
       threads = length-set world.begun t _ ∙ k.threads;
       begun = each_after_set (IsOf (shape_of script)) world.begun t
           (Some (record { machine = m; first = b.first })) k.begun o;
@@ -144,7 +144,7 @@ done-kept script world t b words r events content k ends s rk w n f =
       represented = rw events_now s;
       record_kept = rw content_now rk;
       width = rw content_now w;
-      memory = n;
+      words = n;
       threads = length-set world.begun t None ∙ k.threads;
       begun = each_after_set (IsOf (shape_of script)) world.begun t None k.begun tt;
       few = f;
@@ -152,7 +152,7 @@ done-kept script world t b words r events content k ends s rk w n f =
 
 -- a call of the lock whose transition was taken
 lock-ends : (script : Scripted) (world : World) (call : Call) (r : Reply) (taken : Transition) →
-    job_in call ≡ None → transition script.limits (events_in script world) call ≡ Some taken →
+    job_of_call call ≡ None → transition script.limits (events_in script world) call ≡ Some taken →
     taken.reply ≡ r →
     AnswersAtEnd script world call r (events_in script world ++ taken.appended) (content_in script world)
 lock-ends script world call r taken j e q =
@@ -165,7 +165,7 @@ lock-ends script world call r taken j e q =
 
 -- a call of the record
 record-ends : (script : Scripted) (world : World) (call : Call) (job : Job) (r : Reply) →
-    job_in call ≡ Some job → r ≡ reply_to (content_in script world) job →
+    job_of_call call ≡ Some job → r ≡ reply_to (content_in script world) job →
     AnswersAtEnd script world call r (events_in script world) (content_with (content_in script world) job)
 record-ends script world call job r j e =
     let of : OfRecord call job = of_record call job j in
@@ -179,7 +179,7 @@ record-ends script world call job r j e =
 -- a step of a lock call
 lock-step : (script : Scripted) (world : World) (t : ℕ) (b : Begun) (now : ℕ) (words : List ℕ)
     (p : PhaseTurn) → Invariant script world → IsSound script → b.machine.shape ≡ shape_of script →
-    job_in b.machine.call ≡ None → record_call_in (slice_index_or world.begun t None) ≡ None →
+    job_of_call b.machine.call ≡ None → record_call_in (slice_index_or world.begun t None) ≡ None →
     words ≡ now ∷ slice_index world.words 1 ∷ drop 2 world.words → length words ≡ 2 + script.width →
     PhaseLeaves script.limits b.machine.call (slice_index world.words 0) now p →
     Invariant script (world_after world t b words (lock_turn b.machine.shape b.machine.call p))
@@ -210,16 +210,16 @@ lock-step script world t b now words (phases.Done r) k sound o j z w n l =
 
 -- a step of a call of the record
 record-step : (script : Scripted) (world : World) (t : ℕ) (b : Begun) (job : Job) (stage : RecordStage)
-    (lock : ℕ) (items words : List ℕ) (turned : RecordStageTurn) → Invariant script world →
-    t < length world.begun → b.machine.shape ≡ shape_of script → job_in b.machine.call ≡ Some job →
+    (lock : ℕ) (record_words words : List ℕ) (turned : RecordStageTurn) → Invariant script world →
+    t < length world.begun → b.machine.shape ≡ shape_of script → job_of_call b.machine.call ≡ Some job →
     read_in (record_call_in (slice_index_or world.begun t None)) ≡ read_by stage →
     written_in (record_call_in (slice_index_or world.begun t None)) ≡ written_by stage →
-    words ≡ slice_index world.words 0 ∷ lock ∷ items → length words ≡ 2 + script.width →
+    words ≡ slice_index world.words 0 ∷ lock ∷ record_words → length words ≡ 2 + script.width →
     (counts_at (record_limits (shape_of script)) lock).write_count ≤ world.position + 1 →
     MovedRightly (record_limits (shape_of script)) job stage (slice_index world.words 1) (drop 2 world.words)
-    (content_in script world) lock items turned →
+    (content_in script world) lock record_words turned →
     Invariant script (world_after world t b words (record_turn b.machine.shape b.machine.call job turned))
-record-step script world t b job stage lock items words (on_record.Going to) k h o j rd wr w n f
+record-step script world t b job stage lock record_words words (on_record.Going to) k h o j rd wr w n f
     s =
     going-kept script world t b words (record b.machine { stage = OnRecord job to }) k (o, j) n
     (rw w refl)
@@ -235,7 +235,7 @@ record-step script world t b job stage lock items words (on_record.Going to) k h
     (rw (length-map world.begun) h) (rw (map-index world.begun t) rd)
     (rw (map-index world.begun t) wr) s.0))
     (rw w f)
-record-step script world t b job stage lock items words (on_record.Done r) k h o j rd wr w n f s =
+record-step script world t b job stage lock record_words words (on_record.Done r) k h o j rd wr w n f s =
     done-kept script world t b words r _ _ k (record-ends script world b.machine.call job r j s.1)
     (rw w k.represented)
     (rw (w, map-set record_call_in world.begun t None)
@@ -255,11 +255,11 @@ length-words_after (Cas i old new) words = go (slice_index words i == old)
 length-words_after (Store i value) words = length-set words i value
 
 at_most_one_more : (limits : Bounds) (before : RecordStage) (lock lock' : ℕ)
-    (items content items' content' : List ℕ) →
-    SameFor limits lock items content lock' items' content' ⊎ AloneFor limits before lock lock' →
+    (record_words content record_words' content' : List ℕ) →
+    SameFor limits lock record_words content lock' record_words' content' ⊎ AloneFor limits before lock lock' →
     (counts_at limits lock').write_count ≤ (counts_at limits lock).write_count + 1
-at_most_one_more limits before lock lock' items content items' content' (inl e) = omega (arith, e.0)
-at_most_one_more limits before lock lock' items content items' content' (inr e) =
+at_most_one_more limits before lock lock' record_words content record_words' content' (inl e) = omega (arith, e.0)
+at_most_one_more limits before lock lock' record_words content record_words' content' (inr e) =
     elim e.2 [ inl p ↦ omega (arith, p) | inr p ↦ omega (arith, p.1) ]
 
 -- what is known of a thread's current call
@@ -327,16 +327,16 @@ begun-kept : (script : Scripted) (world : World) (t : ℕ) (b : Begun) (stage : 
     (found_by (plan_in (shape_of script) b.machine.call stage) world.words) stage))
 begun-kept script world t b (OnLock seen) k sound room h ready e =
     let a : LocalAccess = phase_plan script.limits b.machine.call seen in
-    let m = lock-moves world.words script.width a k.memory
+    let m = lock-moves world.words script.width a k.words
     (phase-to_lock script.limits b.machine.call seen) in
     let w : IsAdmittedAt script.limits (slice_index world.words 0) =
     record { events = (events_in script world); represented = k.represented } in
     let l = phase-leaves script.limits b.machine.call (slice_index world.words 0) [] seen sound.range
     w in
-    let j : job_in b.machine.call ≡ None = ready.of.1 ∙ ap job_at e in
+    let j : job_of_call b.machine.call ≡ None = ready.of.1 ∙ ap job_of_stage e in
     let slot : record_call_in (slice_index_or world.begun t None) ≡ None = ready.lock (ap record_call_at e) in
     let n : length (words_after (with_lock 0 a) world.words) ≡ 2 + script.width =
-    length-words_after (with_lock 0 a) world.words ∙ k.memory in
+    length-words_after (with_lock 0 a) world.words ∙ k.words in
     rw m.found (subst
     (λ (s : Shape). Invariant script
     (world_after world t b (words_after (with_lock 0 a) world.words)
@@ -347,9 +347,9 @@ begun-kept script world t b (OnLock seen) k sound room h ready e =
 begun-kept script world t b (OnRecord job stage) k sound room h ready e =
     let limits : Bounds = record_limits (shape_of script) in
     let a : LocalAccess = on_record.plan limits script.width job stage in
-    let m = record-moves world.words script.width a k.memory in
+    let m = record-moves world.words script.width a k.words in
     let d : record_call_at b.machine.stage ≡ Some (record { job = job; stage = stage }) = ap record_call_at e in
-    let j : job_in b.machine.call ≡ Some job = ready.of.1 ∙ ap job_at e in
+    let j : job_of_call b.machine.call ≡ Some job = ready.of.1 ∙ ap job_of_stage e in
     let rd : read_in (record_call_in (slice_index_or world.begun t None)) ≡ read_by stage =
     ready.reads ∙ ap read_in d in
     let wr : written_in (record_call_in (slice_index_or world.begun t None)) ≡ written_by stage =
@@ -358,7 +358,7 @@ begun-kept script world t b (OnRecord job stage) k sound room h ready e =
     let s = own-step limits script.width job stage (slice_index world.words 1) (drop 2 world.words)
     (content_in script world) st (sym k.width) in
     let n : length (words_after (with_lock 1 a) world.words) ≡ 2 + script.width =
-    length-words_after (with_lock 1 a) world.words ∙ k.memory in
+    length-words_after (with_lock 1 a) world.words ∙ k.words in
     let few : (counts_at limits (lock_after a (slice_index world.words 1))).write_count
     ≤ world.position + 1 =
     (let one = at_most_one_more limits stage (slice_index world.words 1) _ (drop 2 world.words)
@@ -396,7 +396,7 @@ world_stepped-kept script world t None k sound room e =
       represented = k.represented;
       record_kept = k.record_kept;
       width = k.width;
-      memory = k.memory;
+      words = k.words;
       threads = k.threads;
       begun = k.begun;
       few = (let f = k.few in omega (arith, f));
@@ -417,19 +417,19 @@ none-begun shape zero k = tt
 none-begun shape (suc n) zero = tt
 none-begun shape (suc n) (suc k) = none-begun shape n k
 
-none-doing : (n : ℕ) → map record_call_in (replicate {A = Option Begun} n None) ≡ replicate n None
-none-doing zero = refl
-none-doing (suc n) = ap (λ (xs : List (Option RecordCallAt)). None ∷ xs) (none-doing n)
+none-under_way : (n : ℕ) → map record_call_in (replicate {A = Option Begun} n None) ≡ replicate n None
+none-under_way zero = refl
+none-under_way (suc n) = ap (λ (xs : List (Option RecordCallAt)). None ∷ xs) (none-under_way n)
 
 none-summed : (f : Option RecordCallAt → ℕ) (n : ℕ) → f None ≡ 0 → sum_by f (replicate n None) ≡ 0
 none-summed f zero z = refl
 none-summed f (suc n) z = omega (arith, sum_by-cons f None (replicate n None), none-summed f n z)
 
-none-fits : (limits : Bounds) (k w : ℕ) (content items : List ℕ) (n t : ℕ) →
-    FitsIn limits k w content items (slice_index_or (replicate n None) t None)
-none-fits limits k w content items zero t = tt
-none-fits limits k w content items (suc n) zero = tt
-none-fits limits k w content items (suc n) (suc t) = none-fits limits k w content items n t
+none-fits : (limits : Bounds) (k w : ℕ) (content record_words : List ℕ) (n t : ℕ) →
+    FitsIn limits k w content record_words (slice_index_or (replicate n None) t None)
+none-fits limits k w content record_words zero t = tt
+none-fits limits k w content record_words (suc n) zero = tt
+none-fits limits k w content record_words (suc n) (suc t) = none-fits limits k w content record_words n t
 
 opening-shown : (limits : Bounds) → RepresentsAt limits (opening_word limits) []
 opening-shown limits = record { well_formed = well_formed_none; layout = refl; spelled = refl }
@@ -446,14 +446,14 @@ opening-kept script sound =
       represented = opening-shown script.limits;
       record_kept = record {
         admitted = record { events = []; represented = represented };
-        writers = rw (none-doing n, zeros) (none-summed written_in n refl);
-        readers = rw (none-doing n, zeros) (none-summed read_in n refl);
+        writers = rw (none-under_way n, zeros) (none-summed written_in n refl);
+        readers = rw (none-under_way n, zeros) (none-summed read_in n refl);
         width = refl;
         free = λ _. refl;
-        fits = λ t. rw (none-doing n) (none-fits limits _ _ _ _ n t);
+        fits = λ t. rw (none-under_way n) (none-fits limits _ _ _ _ n t);
       };
       width = length-replicate {A = ℕ} script.width 0;
-      memory = (let e = length-replicate {A = ℕ} script.width 0 in omega (arith, e));
+      words = (let e = length-replicate {A = ℕ} script.width 0 in omega (arith, e));
       threads = length-replicate {A = Option Begun} n None;
       begun = none-begun (shape_of script) n;
       few = rw zeros (omega arith);
@@ -494,11 +494,11 @@ stage-safe : (script : Scripted) (world : World) (call : Call) (stage : Stage) �
     (content_in script world) (drop 2 world.words) (record_call_at stage) →
     IsSafeIn (shape_of script) call stage world.words
 stage-safe script world call (OnLock seen) k room f =
-    lock-safe (shape_of script) call seen world.words k.memory
+    lock-safe (shape_of script) call seen world.words k.words
     (record { events = (events_in script world); represented = k.represented })
 stage-safe script world call (OnRecord job stage) k room f =
     record-safe (shape_of script) call (record_limits (shape_of script)) _ _ (content_in script world)
-    (drop 2 world.words) job stage world.words k.memory k.width k.record_kept.admitted
+    (drop 2 world.words) job stage world.words k.words k.width k.record_kept.admitted
     (let v = record_room script.limits.layout in let few = k.few in omega (arith, v, few, room)) f.2
 
 -- what a thread's step needs

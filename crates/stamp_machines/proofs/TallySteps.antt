@@ -9,7 +9,7 @@ use Rattle.std.proofs.lemmas.List.{get_or-set_other}
 use Rattle.std.proofs.lemmas.List.Elements.{All-head, All-tail}
 use Rattle.std.proofs.lemmas.List.Sums.{count_by-le-length}
 use Rattle.std.proofs.Math.Seq.{take-length}
-use Rattle.stamp_core.specs.Linearized.{IsWithin}
+use Rattle.stamp_core.specs.Linearized.{HasPointInside}
 use Rattle.stamp_core.specs.declared.reply.Reply.{Reply}
 use Rattle.stamp_core.specs.declared.entry.Entry.{Entry}
 use Rattle.stamp_machines.specs.declared.script.ScriptCall.{ScriptCall}
@@ -27,7 +27,7 @@ use Rattle.stamp_machines.specs.MachineState.{start}
 use Rattle.stamp_machines.specs.Stepped.{AnswersStep}
 use Rattle.stamp_machines.specs.Interference.{lock_word, own_since, changes_since, cost}
 use Rattle.stamp_machines.specs.Tally.{TallyState, IsMetered, IsTallied, idle_meter, meter_at}
-use Rattle.stamp_machines.specs.Tally.{meter_after, before_in, tally_after}
+use Rattle.stamp_machines.specs.Tally.{meter_after, not_others_in, tally_after}
 use Rattle.stamp_machines.proofs.EntryOrder.{InOrder, always-in-order, slot_other, slot_none}
 use Rattle.stamp_machines.proofs.StepsKeep.{execution-position, execution_of-more, always-kept}
 use Rattle.stamp_machines.proofs.StepBound.{own_since-more, changes_since-more, own-more}
@@ -67,7 +67,7 @@ have-stood : (script : Scripted) (steps : List ℕ) → IsSound script → lengt
     All (HasStood steps) (finished_calls script steps)
 have-stood script steps sound few = λ k d lt.
     let o : InOrder script (execution_of script steps) = always-in-order script steps sound few in
-    let within : IsWithin (slice_index_or (finished_calls script steps) k d) =
+    let within : HasPointInside (slice_index_or (finished_calls script steps) k d) =
     o.linearized.within k d lt in
     let begun = within.begun in
     let ended = within.ended in
@@ -80,7 +80,7 @@ pub record Measures (script : Scripted) (steps : List ℕ) (changes n : ℕ) (b 
     (m : Meter) : Type 0 where
   pub within : b.first ≤ length steps
   pub own : m.steps ≡ own_since steps n b.first
-  pub others : before_in changes m + changes_since script steps n b.first ≡ changes
+  pub others : not_others_in changes m + changes_since script steps n b.first ≡ changes
 
 current-measured : (script : Scripted) (steps : List ℕ) (n : ℕ) (b : Begun) (s : TallyState) →
     IsTallied script steps s → current script (execution_of script steps) n ≡ Some b →
@@ -239,7 +239,7 @@ cost-last : (script : Scripted) (steps : List ℕ) (n : ℕ) (b : Begun) (r : Re
     ≡ (
       (meter_after s.changes (change_by script steps n) (meter_at s.meters n)).steps,
       s.changes + change_by script steps
-          n - (meter_after s.changes (change_by script steps n) (meter_at s.meters n)).before,
+          n - (meter_after s.changes (change_by script steps n) (meter_at s.meters n)).not_others,
     )
 cost-last script steps n b r s measures =
     let here : (execution_of script steps).position ≡ length steps = execution-position script steps in
@@ -254,7 +254,7 @@ cost-last script steps n b r s measures =
     let first : own_since (steps ++ n ∷ []) n b.first ≡ (meter_at s.meters n).steps + 1 =
     omega (arith, own, made) in
     let second : changes_since script (steps ++ n ∷ []) n b.first ≡ s.changes
-    + change_by script steps n - (before_in s.changes (meter_at s.meters n)
+    + change_by script steps n - (not_others_in s.changes (meter_at s.meters n)
     + change_by script steps n) = omega (arith, others, h) in
     rw (whole, first, second) refl
 
@@ -280,7 +280,7 @@ tallied-ended script steps n s b e words (turned.Done r) sound few within all me
     (costs-older script steps n (finished_calls script steps) (have-stood script steps sound few)) in
     let last = cost-last script steps n b r s measures in
     let m : Meter = meter_after s.changes (change_by script steps n) (meter_at s.meters n) in
-    let pair : ℕ × ℕ = (m.steps, s.changes + change_by script steps n - m.before) in
+    let pair : ℕ × ℕ = (m.steps, s.changes + change_by script steps n - m.not_others) in
     let joined : map (cost script (steps ++ n ∷ [])) (finished_calls script steps ++ x ∷ [])
     ≡ map (cost script (steps ++ n ∷ [])) (finished_calls script steps)
     ++ cost script (steps ++ n ∷ []) x ∷ [] =

@@ -19,7 +19,7 @@ use Rattle.stamp_core.specs.declared.call.Call.TheVariants.{IsReadLocked, ReadCo
 use Rattle.stamp_core.specs.declared.call.Call.TheVariants.{PutIf}
 use Rattle.stamp_core.specs.declared.reply.Reply.{Reply}
 use Rattle.stamp_core.specs.declared.reply.Reply.TheVariants.{Yes, No}
-use Rattle.stamp_machines.specs.Job.{Job, Getting, Putting, PuttingIf, job_in, content_with}
+use Rattle.stamp_machines.specs.Job.{Job, Getting, Putting, PuttingIf, job_of_call, content_with}
 use Rattle.stamp_machines.specs.Job.{reply_to}
 
 -- a call of the lock leaves the content
@@ -27,7 +27,7 @@ pub record OfLock (call : Call) : Type 0 where
   pub lock : is_lock_call call ≡ true
   pub content : (content : List ℕ) (r : Reply) → content_next content call r ≡ content
 
-pub of_lock : (call : Call) → job_in call ≡ None → OfLock call
+pub of_lock : (call : Call) → job_of_call call ≡ None → OfLock call
 of_lock TryWrite e = record { lock = refl; content = λ content r. refl }
 of_lock TryRead e = record { lock = refl; content = λ content r. refl }
 of_lock WriteLock e = record { lock = refl; content = λ content r. refl }
@@ -91,7 +91,7 @@ of_some : (call : Call) (job other : Job) → OfRecord call other → Some other
     OfRecord call job
 of_some call job other is e = let same : other ≡ job = cc in rw (← same) is
 
-pub of_record : (call : Call) (job : Job) → job_in call ≡ Some job → OfRecord call job
+pub of_record : (call : Call) (job : Job) → job_of_call call ≡ Some job → OfRecord call job
 of_record TryWrite job e = cc
 of_record TryRead job e = cc
 of_record WriteLock job e = cc
@@ -114,7 +114,7 @@ of_record (Put words) job e = of_some (Put words) job (Putting words) (put_is wo
 of_record (PutIf expected words) job e =
     of_some (PutIf expected words) job (PuttingIf expected words) (put_if_is expected words) e
 
-pub lock_none : (call : Call) → IsTrue (is_lock_call call) → job_in call ≡ None
+pub lock_none : (call : Call) → IsTrue (is_lock_call call) → job_of_call call ≡ None
 lock_none TryWrite lock = refl
 lock_none TryRead lock = refl
 lock_none WriteLock lock = refl

@@ -5,7 +5,7 @@ use Rattle.stamp_core.specs.LockEvent.{LockEvent}
 use Rattle.stamp_core.specs.History.{IsLegal, events_of, content_after}
 use Rattle.stamp_core.specs.Linearized.{history_of}
 use Rattle.stamp_machines.specs.LockNumber.{RepresentsAt, counts_at}
-use Rattle.stamp_machines.specs.Job.{Job, job_in}
+use Rattle.stamp_machines.specs.Job.{Job, job_of_call}
 use Rattle.stamp_machines.specs.declared.shape.Shape.{Shape}
 use Rattle.stamp_machines.specs.MachineState.{Stage, OnLock, OnRecord, record_limits}
 use Rattle.stamp_machines.specs.Script.{Scripted}
@@ -22,14 +22,14 @@ abbrev pub record_call_in : Option Begun → Option RecordCallAt
 record_call_in None = None
 record_call_in (Some b) = record_call_at b.machine.stage
 
-abbrev pub job_at : Stage → Option Job
-job_at (OnLock seen) = None
-job_at (OnRecord job stage) = Some job
+abbrev pub job_of_stage : Stage → Option Job
+job_of_stage (OnLock seen) = None
+job_of_stage (OnRecord job stage) = Some job
 
 -- a call's machine has the script's shape, and its stage is one of its call
 abbrev pub IsOf : Shape → Option Begun → Type 0
 IsOf shape None = Unit {0}
-IsOf shape (Some b) = (b.machine.shape ≡ shape) × (job_in b.machine.call ≡ job_at b.machine.stage)
+IsOf shape (Some b) = (b.machine.shape ≡ shape) × (job_of_call b.machine.call ≡ job_of_stage b.machine.stage)
 
 -- the events and the content that the finished calls leave
 abbrev pub events_in : Scripted → World → List LockEvent
@@ -47,7 +47,7 @@ pub record Invariant (script : Scripted) (world : World) : Type 0 where
   pub record_kept : RecordKept (record_limits (shape_of script)) (slice_index world.words 1)
       (drop 2 world.words) (content_in script world) (map record_call_in world.begun)
   pub width : length (content_in script world) ≡ script.width
-  pub memory : length world.words ≡ 2 + script.width
+  pub words : length world.words ≡ 2 + script.width
   pub threads : length world.begun ≡ length script.threads
   pub begun : (t : ℕ) → IsOf (shape_of script) (slice_index_or world.begun t None)
   -- write mode of the record's lock is got at most once a step

@@ -12,11 +12,11 @@ pub data Job : Type 0 where
   PuttingIf : List ℕ → List ℕ → Job
 
 -- the call of the record that a call is; none for a call of the lock
-abbrev pub job_in : Call → Option Job
-job_in Get = Some Getting
-job_in (Put words) = Some (Putting words)
-job_in (PutIf expected words) = Some (PuttingIf expected words)
-job_in _ = None
+abbrev pub job_of_call : Call → Option Job
+job_of_call Get = Some Getting
+job_of_call (Put words) = Some (Putting words)
+job_of_call (PutIf expected words) = Some (PuttingIf expected words)
+job_of_call _ = None
 
 abbrev pub content_with : List ℕ → Job → List ℕ
 content_with content Getting = content

@@ -28,6 +28,6 @@ pub mod Stepped
 pub mod StepKind
 pub mod StateStep
 pub mod RunFields
-pub mod RunRecord
+pub mod RecordedRun
 pub mod Completing
 pub mod CompletionsFields

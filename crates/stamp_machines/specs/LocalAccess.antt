@@ -23,14 +23,14 @@ lock_after (CasLock old new) lock = if lock == old then new else lock
 lock_after (LoadWord i) lock = lock
 lock_after (StoreWord i value) lock = lock
 
-abbrev pub items_after : LocalAccess → List ℕ → List ℕ
-items_after LoadLock items = items
-items_after (CasLock old new) items = items
-items_after (LoadWord i) items = items
-items_after (StoreWord i value) items = slice_set items i value
+abbrev pub record_words_after : LocalAccess → List ℕ → List ℕ
+record_words_after LoadLock record_words = record_words
+record_words_after (CasLock old new) record_words = record_words
+record_words_after (LoadWord i) record_words = record_words
+record_words_after (StoreWord i value) record_words = slice_set record_words i value
 
 abbrev pub local_found : LocalAccess → ℕ → List ℕ → ℕ
-local_found LoadLock lock items = lock
-local_found (CasLock old new) lock items = lock
-local_found (LoadWord i) lock items = slice_index items i
-local_found (StoreWord i value) lock items = slice_index items i
+local_found LoadLock lock record_words = lock
+local_found (CasLock old new) lock record_words = lock
+local_found (LoadWord i) lock record_words = slice_index record_words i
+local_found (StoreWord i value) lock record_words = slice_index record_words i

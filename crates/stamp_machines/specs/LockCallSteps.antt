@@ -43,9 +43,9 @@ pub record Goes (p : PhaseState) (found : ℕ) (q : PhaseState) : Type 0 where
       × HasNone p.limits (word_at p.limits found) p.call)
 
 -- what comes of finding this word: the turn of the phase
-abbrev pub LeadsBy : PhaseState → ℕ → PhaseTurn → Type 0
-LeadsBy p found (phases.Going seen) = Goes p found (record p { seen = seen })
-LeadsBy p found (phases.Done reply) = Ends p found reply
+abbrev pub PhaseLeads : PhaseState → ℕ → PhaseTurn → Type 0
+PhaseLeads p found (phases.Going seen) = Goes p found (record p { seen = seen })
+PhaseLeads p found (phases.Done reply) = Ends p found reply
 
 -- where a call of the lock is, which has word 0
 abbrev pub on_lock : Bounds → Call → Option ℕ → PhaseState
@@ -60,6 +60,6 @@ abbrev pub lock_phase : MachineState → PhaseState
 lock_phase m = record { at = 0; limits = m.shape.limits; call = m.call; seen = seen_in m.stage }
 
 -- what comes of finding this word: the turn of the machine
-abbrev pub Leads : PhaseState → ℕ → Turn → Type 0
-Leads p found (Going m) = Goes p found (lock_phase m)
-Leads p found (Done reply) = Ends p found reply
+abbrev pub LockCallLeads : PhaseState → ℕ → Turn → Type 0
+LockCallLeads p found (Going m) = Goes p found (lock_phase m)
+LockCallLeads p found (Done reply) = Ends p found reply

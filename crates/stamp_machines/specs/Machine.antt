@@ -59,7 +59,7 @@ HasVersionLeft shape found =
 -- is about its lock, one with a version left
 abbrev pub IsFoundAt : Shape → RecordStage → ℕ → Type 0
 IsFoundAt shape on_record.LoadingLock found = IsAdmittedAt (record_limits shape) found
-IsFoundAt shape (on_record.Copying lock_word loaded) found =
+IsFoundAt shape (on_record.Copying at_first loaded) found =
     shape.width ≤ length loaded → IsAdmittedAt (record_limits shape) found
 IsFoundAt shape (on_record.Locking e seen) found =
     IsAdmittedAt (record_limits shape) found × HasVersionLeft shape found

@@ -9,7 +9,7 @@ use Rattle.stamp_core.specs.declared.reply.Reply.{Reply}
 use Rattle.stamp_core.specs.declared.reply.Reply.TheVariants.{No}
 use Rattle.stamp_machines.specs.LockNumber.{IsAdmittedAt}
 use Rattle.stamp_machines.specs.IsLockPhase.{IsChanging, IsLockPhase}
-use Rattle.stamp_machines.specs.Job.{Job, Getting, job_in, is_get, new_words, stored_reply}
+use Rattle.stamp_machines.specs.Job.{Job, Getting, job_of_call, is_get, new_words, stored_reply}
 use Rattle.stamp_machines.specs.RecordStage as on_record
 use Rattle.stamp_machines.specs.RecordStage.{call_for}
 use Rattle.stamp_machines.specs.MachineState as states
@@ -27,13 +27,13 @@ use Rattle.stamp_machines.specs.declared.machine.Turn.TheVariants.{Going}
 use Rattle.stamp_machines.specs.declared.machine.Turn.TheVariants as turned
 use Rattle.stamp_machines.specs.declared.machine.Machine.TheInside.{Inside}
 
-abbrev pub job_or : Option Job → Job
-job_or None = Getting
-job_or (Some job) = job
+abbrev pub or_get : Option Job → Job
+or_get None = Getting
+or_get (Some job) = job
 
 -- the job of a call of the record; a lock call has none, and stands here as `Getting`
-abbrev pub job_of : Call → Job
-job_of call = job_or (job_in call)
+abbrev pub job_or_get : Call → Job
+job_or_get call = or_get (job_of_call call)
 
 -- with these words loaded
 abbrev pub own_call_in : List ℕ → OwnLockCall → on_record.OwnLockCall
@@ -50,15 +50,15 @@ released_reply job is_stored = if is_stored then stored_reply job else No
 
 abbrev pub stage_at : Call → List ℕ → Stage → states.Stage
 stage_at call loaded (OnLock seen) = states.OnLock seen
-stage_at call loaded LoadingLock = OnRecord (job_of call) on_record.LoadingLock
-stage_at call loaded (Copying lock_word) = OnRecord (job_of call) (on_record.Copying lock_word loaded)
+stage_at call loaded LoadingLock = OnRecord (job_or_get call) on_record.LoadingLock
+stage_at call loaded (Copying at_first) = OnRecord (job_or_get call) (on_record.Copying at_first loaded)
 stage_at call loaded (Locking own_call seen) =
-    OnRecord (job_of call) (on_record.Locking (own_call_in loaded own_call) seen)
-stage_at call loaded (Reading stamp) = OnRecord (job_of call) (on_record.Reading stamp loaded)
-stage_at call loaded (Checking stamp) = OnRecord (job_of call) (on_record.Checking stamp loaded)
-stage_at call loaded (Storing stamp stored) = OnRecord (job_of call) (on_record.Storing stamp stored)
+    OnRecord (job_or_get call) (on_record.Locking (own_call_in loaded own_call) seen)
+stage_at call loaded (Reading stamp) = OnRecord (job_or_get call) (on_record.Reading stamp loaded)
+stage_at call loaded (Checking stamp) = OnRecord (job_or_get call) (on_record.Checking stamp loaded)
+stage_at call loaded (Storing stamp stored) = OnRecord (job_or_get call) (on_record.Storing stamp stored)
 stage_at call loaded (Releasing stamp is_stored) =
-    OnRecord (job_of call) (on_record.Releasing stamp (released_reply (job_of call) is_stored))
+    OnRecord (job_or_get call) (on_record.Releasing stamp (released_reply (job_or_get call) is_stored))
 
 abbrev pub machine_state_of : Inside → MachineState
 machine_state_of m = record { shape = m.shape; call = m.call; stage = stage_at m.call m.loaded m.stage }
@@ -77,13 +77,13 @@ turn_in shape call loaded reply (Break _) = turned.Done reply
 abbrev pub IsRecordCall : Shape → Call → Type 0
 IsRecordCall shape call =
     (is_lock_call call ≡ false) × (0 < shape.width) × (shape.width ≤ 16)
-    × ((is_get (job_of call) ≡ true) ⊎ (length (new_words (job_of call)) ≡ shape.width))
+    × ((is_get (job_or_get call) ≡ true) ⊎ (length (new_words (job_or_get call)) ≡ shape.width))
 
 -- a put or a put_if of the record's width
 abbrev pub IsPutCall : Shape → Call → Type 0
 IsPutCall shape call =
     (is_lock_call call ≡ false) × (0 < shape.width) × (shape.width ≤ 16)
-    × (is_get (job_of call) ≡ false) × (length (new_words (job_of call)) ≡ shape.width)
+    × (is_get (job_or_get call) ≡ false) × (length (new_words (job_or_get call)) ≡ shape.width)
 
 abbrev pub IsOwnLockCall : Shape → Call → List ℕ → OwnLockCall → Type 0
 IsOwnLockCall shape call loaded Share = IsRecordCall shape call
@@ -96,8 +96,8 @@ IsOwnLockCall shape call loaded Claim = IsPutCall shape call
 abbrev pub IsStage : Shape → Call → List ℕ → Stage → Type 0
 IsStage shape call loaded (OnLock seen) = IsLockPhase shape.limits call seen
 IsStage shape call loaded LoadingLock = IsRecordCall shape call
-IsStage shape call loaded (Copying lock_word) =
-    IsRecordCall shape call × IsAdmittedAt (record_limits shape) lock_word
+IsStage shape call loaded (Copying at_first) =
+    IsRecordCall shape call × IsAdmittedAt (record_limits shape) at_first
     × (length loaded ≤ shape.width)
 IsStage shape call loaded (Locking own_call seen) =
     IsOwnLockCall shape call loaded own_call

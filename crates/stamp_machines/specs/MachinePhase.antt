@@ -1,7 +1,7 @@
 -- The lock phase that a machine is in: on word 0 of a lock call, on word 1 of a call of the record.
 use Rattle.std.specs.Prelude.{◌≡◌, ℕ, Option, Some, None}
 use Rattle.stamp_core.specs.declared.call.Call.{Call}
-use Rattle.stamp_machines.specs.LockCallSteps.{on_lock, LeadsBy}
+use Rattle.stamp_machines.specs.LockCallSteps.{on_lock, PhaseLeads}
 use Rattle.stamp_machines.specs.LockPhase.{PhaseTurn}
 use Rattle.stamp_machines.specs.Machine.{lock_turn, record_turn}
 use Rattle.stamp_machines.specs.MachineState.{MachineState, Stage, OnLock, OnRecord, record_limits}
@@ -35,5 +35,5 @@ abbrev pub phase_of : MachineState → Option MachinePhase
 phase_of m = phase_in m.shape m.call m.stage
 
 -- what comes of finding this word: the machine's turn by where the phase leads
-abbrev pub LeadsIn : MachinePhase → ℕ → Turn → Type 0
-LeadsIn p found turn = (t : PhaseTurn) × LeadsBy p.state found t × (turn ≡ p.turn t)
+abbrev pub MachineLeads : MachinePhase → ℕ → Turn → Type 0
+MachineLeads p found turn = (t : PhaseTurn) × PhaseLeads p.state found t × (turn ≡ p.turn t)

@@ -2,7 +2,7 @@
 use Rattle.std.specs.Prelude.{ℕ, Option, Some, None}
 use Rattle.stamp_core.specs.Limits.{Bounds, widest}
 use Rattle.stamp_core.specs.declared.call.Call.{Call}
-use Rattle.stamp_machines.specs.Job.{Job, job_in}
+use Rattle.stamp_machines.specs.Job.{Job, job_of_call}
 use Rattle.stamp_machines.specs.RecordStage.{RecordStage, first_record_stage}
 use Rattle.stamp_machines.specs.declared.shape.Shape.{Shape}
 
@@ -21,7 +21,7 @@ first_stage None = OnLock None
 first_stage (Some job) = OnRecord job (first_record_stage job)
 
 abbrev pub start : Shape → Call → MachineState
-start shape call = record { shape = shape; call = call; stage = first_stage (job_in call) }
+start shape call = record { shape = shape; call = call; stage = first_stage (job_of_call call) }
 
 -- the limits of the record's lock
 abbrev pub record_limits : Shape → Bounds

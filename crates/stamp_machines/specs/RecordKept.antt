@@ -15,7 +15,7 @@ use Rattle.stamp_machines.specs.RecordStage.{RecordStageTurn}
 -- how many read and write locks a call at this stage holds
 abbrev pub read_by : RecordStage → ℕ
 read_by LoadingLock = 0
-read_by (Copying lock_word loaded) = 0
+read_by (Copying at_first loaded) = 0
 read_by (Locking Share seen) = 0
 read_by (Locking (Leave s loaded) seen) = 1
 read_by (Locking (Refuse s) seen) = 1
@@ -29,7 +29,7 @@ read_by (Releasing s a) = 0
 
 abbrev pub written_by : RecordStage → ℕ
 written_by LoadingLock = 0
-written_by (Copying lock_word loaded) = 0
+written_by (Copying at_first loaded) = 0
 written_by (Locking e seen) = 0
 written_by (Reading s loaded) = 0
 written_by (Checking s loaded) = 1
@@ -46,33 +46,33 @@ IsRead limits k s =
     (read_stamp (units limits) k 1 ≤ s) × (s ≤ read_stamp (units limits) k (units limits).readers)
 
 abbrev pub FitsRecordStage : Bounds → ℕ → ℕ → List ℕ → List ℕ → Job → RecordStage → Type 0
-FitsRecordStage limits k w content items job LoadingLock = is_get job ≡ true
-FitsRecordStage limits k w content items job (Copying lock_word loaded) =
-    (is_get job ≡ true) × ((counts_at limits lock_word).write_count ≤ k)
+FitsRecordStage limits k w content record_words job LoadingLock = is_get job ≡ true
+FitsRecordStage limits k w content record_words job (Copying at_first loaded) =
+    (is_get job ≡ true) × ((counts_at limits at_first).write_count ≤ k)
     × (length loaded ≤ length content)
-    × ((counts_at limits lock_word).write_count ≡ k → (w ≡ 0) × (loaded ≡ take (length loaded) content))
-FitsRecordStage limits k w content items job (Locking Share seen) = Unit {0}
-FitsRecordStage limits k w content items job (Locking (Leave s loaded) seen) =
+    × ((counts_at limits at_first).write_count ≡ k → (w ≡ 0) × (loaded ≡ take (length loaded) content))
+FitsRecordStage limits k w content record_words job (Locking Share seen) = Unit {0}
+FitsRecordStage limits k w content record_words job (Locking (Leave s loaded) seen) =
     (is_get job ≡ true) × IsRead limits k s × (loaded ≡ content)
-FitsRecordStage limits k w content items job (Locking (Refuse s) seen) =
+FitsRecordStage limits k w content record_words job (Locking (Refuse s) seen) =
     (is_get job ≡ false) × IsRead limits k s × (expects job content ≡ false)
-FitsRecordStage limits k w content items job (Locking (Upgrade s) seen) =
+FitsRecordStage limits k w content record_words job (Locking (Upgrade s) seen) =
     (is_get job ≡ false) × IsRead limits k s × (expects job content ≡ true)
-FitsRecordStage limits k w content items job (Locking (ReleaseFirst s) seen) =
+FitsRecordStage limits k w content record_words job (Locking (ReleaseFirst s) seen) =
     (is_get job ≡ false) × IsRead limits k s
-FitsRecordStage limits k w content items job (Locking Claim seen) = is_get job ≡ false
-FitsRecordStage limits k w content items job (Reading s loaded) =
+FitsRecordStage limits k w content record_words job (Locking Claim seen) = is_get job ≡ false
+FitsRecordStage limits k w content record_words job (Reading s loaded) =
     IsRead limits k s × Begins loaded content × (length loaded < length content)
-FitsRecordStage limits k w content items job (Checking s loaded) =
-    (is_get job ≡ false) × (s ≡ write_stamp (units limits) k) × (items ≡ content)
+FitsRecordStage limits k w content record_words job (Checking s loaded) =
+    (is_get job ≡ false) × (s ≡ write_stamp (units limits) k) × (record_words ≡ content)
     × Begins loaded content × (length loaded < length content)
-FitsRecordStage limits k w content items job (Storing s i) =
+FitsRecordStage limits k w content record_words job (Storing s i) =
     (is_get job ≡ false) × (s ≡ write_stamp (units limits) k) × (expects job content ≡ true)
     × (i < length content)
-    × (items ≡ take i (new_words job) ++ drop i content)
-FitsRecordStage limits k w content items job (Releasing s a) =
+    × (record_words ≡ take i (new_words job) ++ drop i content)
+FitsRecordStage limits k w content record_words job (Releasing s a) =
     (s ≡ write_stamp (units limits) k) × (a ≡ reply_to content job)
-    × (items ≡ content_with content job)
+    × (record_words ≡ content_with content job)
 
 -- a call of the record, as `OnRecord job stage` says where it stands
 pub record RecordCallAt : Type 0 where
@@ -88,28 +88,28 @@ written_in None = 0
 written_in (Some d) = written_by d.stage
 
 abbrev pub FitsIn : Bounds → ℕ → ℕ → List ℕ → List ℕ → Option RecordCallAt → Type 0
-FitsIn limits k w content items None = Unit {0}
-FitsIn limits k w content items (Some d) =
+FitsIn limits k w content record_words None = Unit {0}
+FitsIn limits k w content record_words (Some d) =
     (0 < length content) × ((is_get d.job ≡ true) ⊎ (length (new_words d.job) ≡ length content))
-    × FitsRecordStage limits k w content items d.job d.stage
+    × FitsRecordStage limits k w content record_words d.job d.stage
 
 -- what holds of the record after every step, by the content that the finished calls leave
-pub record RecordKept (limits : Bounds) (lock : ℕ) (items : List ℕ) (content : List ℕ)
-    (doing : List (Option RecordCallAt)) : Type 0 where
+pub record RecordKept (limits : Bounds) (lock : ℕ) (record_words : List ℕ) (content : List ℕ)
+    (under_way : List (Option RecordCallAt)) : Type 0 where
   pub admitted : IsAdmittedAt limits lock
-  pub writers : sum_by written_in doing ≡ (counts_at limits lock).writers
-  pub readers : sum_by read_in doing ≡ (counts_at limits lock).readers
-  pub width : length items ≡ length content
-  pub free : (counts_at limits lock).writers ≡ 0 → items ≡ content
+  pub writers : sum_by written_in under_way ≡ (counts_at limits lock).writers
+  pub readers : sum_by read_in under_way ≡ (counts_at limits lock).readers
+  pub width : length record_words ≡ length content
+  pub free : (counts_at limits lock).writers ≡ 0 → record_words ≡ content
   pub fits : (t : ℕ) →
       FitsIn limits (counts_at limits lock).write_count (counts_at limits lock).writers content
-      items (slice_index_or doing t None)
+      record_words (slice_index_or under_way t None)
 
 abbrev pub SameFor : Bounds → ℕ → List ℕ → List ℕ → ℕ → List ℕ → List ℕ → Type 0
-SameFor limits lock items content lock' items' content' =
+SameFor limits lock record_words content lock' record_words' content' =
     ((counts_at limits lock').write_count ≡ (counts_at limits lock).write_count)
     × ((counts_at limits lock').writers ≡ (counts_at limits lock).writers)
-    × (content' ≡ content) × (items' ≡ items)
+    × (content' ≡ content) × (record_words' ≡ record_words)
 
 abbrev pub AloneFor : Bounds → RecordStage → ℕ → ℕ → Type 0
 AloneFor limits before lock lock' =
@@ -120,20 +120,20 @@ AloneFor limits before lock lock' =
     × ((counts_at limits lock').write_count ≡ (counts_at limits lock).write_count)))
 
 -- what the access of one thread, whose call stood at `before`, makes of the record
-pub record Moved (limits : Bounds) (before : RecordStage) (lock : ℕ) (items : List ℕ) (content : List ℕ)
-    (lock' : ℕ) (items' : List ℕ) (content' : List ℕ) (now : Option RecordCallAt) : Type 0 where
+pub record Moved (limits : Bounds) (before : RecordStage) (lock : ℕ) (record_words : List ℕ) (content : List ℕ)
+    (lock' : ℕ) (record_words' : List ℕ) (content' : List ℕ) (now : Option RecordCallAt) : Type 0 where
   pub admitted : IsAdmittedAt limits lock'
   pub writers : (counts_at limits lock').writers + written_by before
       ≡ (counts_at limits lock).writers + written_in now
   pub readers : (counts_at limits lock').readers + read_by before ≡ (counts_at limits lock).readers
       + read_in now
-  pub width : length items' ≡ length content'
+  pub width : length record_words' ≡ length content'
   pub same_width : length content' ≡ length content
-  pub free : (counts_at limits lock').writers ≡ 0 → items' ≡ content'
+  pub free : (counts_at limits lock').writers ≡ 0 → record_words' ≡ content'
   pub fits : FitsIn limits (counts_at limits lock').write_count (counts_at limits lock').writers
-      content' items' now
+      content' record_words' now
   -- either nothing changed that another call relies on, or no other call holds anything
-  pub effect : SameFor limits lock items content lock' items' content'
+  pub effect : SameFor limits lock record_words content lock' record_words' content'
       ⊎ AloneFor limits before lock lock'
 
 -- the call after an access, the content after it, and that what it answered is right
@@ -150,21 +150,21 @@ RightIn content job (Going stage) = Unit {0}
 RightIn content job (Done a) = a ≡ reply_to content job
 
 abbrev pub MovedRightly : Bounds → Job → RecordStage → ℕ → List ℕ → List ℕ → ℕ → List ℕ → RecordStageTurn → Type 0
-MovedRightly limits job stage lock items content lock' items' turned =
-    Moved limits stage lock items content lock' items' (content_of content job turned)
+MovedRightly limits job stage lock record_words content lock' record_words' turned =
+    Moved limits stage lock record_words content lock' record_words' (content_of content job turned)
     (now_of job turned) × RightIn content job turned
 
 -- what a call may rely on as it steps
-pub record Stands (limits : Bounds) (job : Job) (stage : RecordStage) (lock : ℕ) (items : List ℕ)
+pub record Stands (limits : Bounds) (job : Job) (stage : RecordStage) (lock : ℕ) (record_words : List ℕ)
     (content : List ℕ) : Type 0 where
   pub range : AreInRange limits
   pub admitted : IsAdmittedAt limits lock
   pub room : (counts_at limits lock).write_count < limits.versions
-  pub width : length items ≡ length content
+  pub width : length record_words ≡ length content
   pub some : 0 < length content
-  pub free : (counts_at limits lock).writers ≡ 0 → items ≡ content
+  pub free : (counts_at limits lock).writers ≡ 0 → record_words ≡ content
   pub reads : read_by stage ≤ (counts_at limits lock).readers
   pub writes : written_by stage ≤ (counts_at limits lock).writers
   pub words : (is_get job ≡ true) ⊎ (length (new_words job) ≡ length content)
   pub fits : FitsRecordStage limits (counts_at limits lock).write_count (counts_at limits lock).writers content
-      items job stage
+      record_words job stage

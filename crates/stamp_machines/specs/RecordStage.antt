@@ -26,7 +26,7 @@ pub data OwnLockCall : Type 0 where
 
 pub data RecordStage : Type 0 where
   LoadingLock : RecordStage
-  Copying : ℕ → List ℕ → RecordStage  -- the lock word first found, the words loaded
+  Copying : ℕ → List ℕ → RecordStage  -- what the record's lock held at first, the words loaded
   Locking : OwnLockCall → Option ℕ → RecordStage  -- a lock phase, with the word that it has seen
   Reading : ℕ → List ℕ → RecordStage  -- under a read stamp
   Checking : ℕ → List ℕ → RecordStage  -- under a write stamp, of a put_if
@@ -52,7 +52,7 @@ first_record_stage (PuttingIf a b) = Locking Share None
 
 abbrev pub plan : Bounds → ℕ → Job → RecordStage → LocalAccess
 plan limits n job LoadingLock = LoadLock
-plan limits n job (Copying lock_word loaded) =
+plan limits n job (Copying at_first loaded) =
     if nat_lt (length loaded) n then LoadWord (length loaded) else LoadLock
 plan limits n job (Locking e seen) = phase_plan limits (call_for e) seen
 plan limits n job (Reading s loaded) = LoadWord (length loaded)
@@ -80,9 +80,9 @@ passed job e (phases.Going seen) = Going (Locking e seen)
 passed job e (phases.Done r) = own_call_done job e (stamp_in r)
 
 abbrev pub unchanged : Bounds → ℕ → ℕ → Bool
-unchanged limits lock_word found =
+unchanged limits at_first found =
     ((counts_at limits found).writers == 0)
-    && ((counts_at limits found).write_count == (counts_at limits lock_word).write_count)
+    && ((counts_at limits found).write_count == (counts_at limits at_first).write_count)
 
 abbrev pub all_read : Job → ℕ → List ℕ → RecordStageTurn
 all_read job s loaded =
@@ -94,9 +94,9 @@ abbrev pub after : Bounds → ℕ → Job → RecordStage → ℕ → RecordStag
 after limits n job LoadingLock found =
     if (counts_at limits found).writers == 0 then Going (Copying found [])
     else Going (Locking Share None)
-after limits n job (Copying lock_word loaded) found =
-    if nat_lt (length loaded) n then Going (Copying lock_word (loaded ++ found ∷ []))
-    else (if unchanged limits lock_word found then Done (reply.Content loaded)
+after limits n job (Copying at_first loaded) found =
+    if nat_lt (length loaded) n then Going (Copying at_first (loaded ++ found ∷ []))
+    else (if unchanged limits at_first found then Done (reply.Content loaded)
     else Going (Locking Share None))
 after limits n job (Locking e seen) found =
     passed job e (phase_after limits (call_for e) seen found)

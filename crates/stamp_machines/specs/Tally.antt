@@ -19,17 +19,17 @@ abbrev pub tally_of : Tally → TallyState
 tally_of t = record { changes = t.changes; meters = t.meters.items; report = t.report.items }
 
 abbrev pub idle_meter : Meter
-idle_meter = record { steps = 0; before = 0 }
+idle_meter = record { steps = 0; not_others = 0 }
 
 abbrev pub meter_at : List Meter → ℕ → Meter
 meter_at meters thread = slice_index_or meters thread idle_meter
 
 -- the changes that others do not count: those before the call, and its own
-abbrev pub before_in : ℕ → Meter → ℕ
-before_in changes m = if m.steps == 0 then changes else m.before
+abbrev pub not_others_in : ℕ → Meter → ℕ
+not_others_in changes m = if m.steps == 0 then changes else m.not_others
 
 abbrev pub meter_after : ℕ → ℕ → Meter → Meter
-meter_after changes change m = record { steps = m.steps + 1; before = before_in changes m + change }
+meter_after changes change m = record { steps = m.steps + 1; not_others = not_others_in changes m + change }
 
 abbrev pub tally_after : TallyState → ℕ → ℕ → Stepped → TallyState
 tally_after s thread change Idle = s
@@ -45,7 +45,7 @@ tally_after s thread change (Ended e) =
     record {
       changes = s.changes + change;
       meters = slice_set s.meters thread idle_meter;
-      report = s.report ++ (m.steps, s.changes + change - m.before) ∷ [];
+      report = s.report ++ (m.steps, s.changes + change - m.not_others) ∷ [];
     }
 
 -- the meter of a thread with this call under way, or with none
@@ -53,7 +53,7 @@ abbrev pub IsMetered : Scripted → List ℕ → ℕ → ℕ → Option Begun �
 IsMetered script steps changes t None m = m ≡ idle_meter
 IsMetered script steps changes t (Some b) m =
     (1 ≤ m.steps) × (m.steps ≡ own_since steps t b.first)
-    × (m.before + changes_since script steps t b.first ≡ changes) × (b.first ≤ length steps)
+    × (m.not_others + changes_since script steps t b.first ≡ changes) × (b.first ≤ length steps)
 
 -- the meters are those of the calls that have begun, and the report is the cost of the finished
 -- ones

@@ -4,7 +4,7 @@ ghost use Rattle.std.specs.Prelude.{◌≡◌, ◌↔◌, ℕ, Some, IsTrue};
 ghost use Rattle.stamp_core.specs.Word.{IsAdmitted, word_at};
 ghost use Rattle.stamp_machines.specs.LocalAccess.{with_lock, lock_after};
 ghost use Rattle.stamp_machines.specs.LockPhase.{phase_plan, phase_after};
-ghost use Rattle.stamp_machines.specs.LockCallSteps.{Plans, LeadsBy};
+ghost use Rattle.stamp_machines.specs.LockCallSteps.{Plans, PhaseLeads};
 ghost use Rattle.stamp_machines.specs.IsLockPhase.{phase_turn, IsLockPhase, IsPhaseTurn};
 
 use crate::access::Access;
@@ -48,7 +48,7 @@ pub(crate) fn decide_on(
     ensures turn { phase_turn result.1 reply.new ≡ phase_after limits call.now seen found }
     ensures changing { IsPhaseTurn limits call.now (phase_turn result.1 reply.new) }
     ensures leads { (at : ℕ) →
-        LeadsBy (record { at = at; limits = limits; call = call.now; seen = seen }) found
+        PhaseLeads (record { at = at; limits = limits; call = call.now; seen = seen }) found
         (phase_turn result.1 reply.new) }
 {
     // By this call the prover knows that the limits are in range.

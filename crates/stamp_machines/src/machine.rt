@@ -1,8 +1,8 @@
 //! A call as a machine that makes one access a step.
 ghost use Rattle.std.specs.Prelude.{◌≡◌, ◌<◌, ◌≤◌, IsTrue, IfSome, length};
 ghost use Rattle.stamp_core.specs.Call.{is_lock_call, call_suits};
-ghost use Rattle.stamp_machines.specs.LockCallSteps.{Plans, Leads, lock_phase};
-ghost use Rattle.stamp_machines.specs.MachinePhase.{phase_in, phase_of, LeadsIn};
+ghost use Rattle.stamp_machines.specs.LockCallSteps.{Plans, LockCallLeads, lock_phase};
+ghost use Rattle.stamp_machines.specs.MachinePhase.{phase_in, phase_of, MachineLeads};
 ghost use Rattle.stamp_machines.specs.MachineState.{start};
 ghost use Rattle.stamp_machines.specs.Machine.{plan_of, after_access, IsFound};
 ghost use Rattle.stamp_core.specs.Word.{IsAdmitted, word_at};
@@ -71,7 +71,7 @@ fn after_on_lock(
     ensures after { turn_in shape.now call.now loaded.now reply.new result
         ≡ after_in shape.now call.now found (stage_at call.now loaded.now (Stage.OnLock seen)) }
     ensures sound { IsNextStage shape.now call.now loaded.now loaded.now result }
-    ensures leads { Leads (lock_phase
+    ensures leads { LockCallLeads (lock_phase
         (record {
           shape = shape.now;
           call = call.now;
@@ -80,7 +80,7 @@ fn after_on_lock(
         (turn_in shape.now call.now loaded.now reply.new result) }
     ensures phase { IfSome
         (phase_in shape.now call.now (stage_at call.now loaded.now (Stage.OnLock seen)))
-        (λ p. LeadsIn p found (turn_in shape.now call.now loaded.now reply.new result)) }
+        (λ p. MachineLeads p found (turn_in shape.now call.now loaded.now reply.new result)) }
 {
     let (_, next) = decide_on(shape.limits, call, seen, found, reply);
     let seen = next?;
@@ -108,7 +108,7 @@ fn after_locking(
     ensures sound { IsNextStage shape.now call.now loaded.old loaded.new result }
     ensures phase { IfSome
         (phase_in shape.now call.now (stage_at call.now loaded.old (Stage.Locking own_call seen)))
-        (λ p. LeadsIn p found (turn_in shape.now call.now loaded.new reply.new result)) }
+        (λ p. MachineLeads p found (turn_in shape.now call.now loaded.new reply.new result)) }
 {
     let limits = shape.record_limits();
     let (_, next) = decide_on(limits, &call_for(own_call), seen, found, reply);
@@ -135,7 +135,7 @@ fn next(
         ≡ after_in shape.now call.now found (stage_at call.now loaded.old stage) }
     ensures sound { IsNextStage shape.now call.now loaded.old loaded.new result }
     ensures leads { IsTrue (is_lock_call call.now) →
-        Leads (lock_phase
+        LockCallLeads (lock_phase
         (record {
           shape = shape.now;
           call = call.now;
@@ -143,12 +143,12 @@ fn next(
         })) found
         (turn_in shape.now call.now loaded.new reply.new result) }
     ensures phase { IfSome (phase_in shape.now call.now (stage_at call.now loaded.old stage))
-        (λ p. LeadsIn p found (turn_in shape.now call.now loaded.new reply.new result)) }
+        (λ p. MachineLeads p found (turn_in shape.now call.now loaded.new reply.new result)) }
 {
     match stage {
         Stage::OnLock { seen } => after_on_lock(shape, call, loaded, seen, found, reply),
         Stage::LoadingLock => ControlFlow::Continue(after_lock_load(shape, call, loaded, found)),
-        Stage::Copying { lock_word } => after_copy(shape, call, lock_word, loaded, found, reply),
+        Stage::Copying { at_first } => after_copy(shape, call, at_first, loaded, found, reply),
         Stage::Locking { own_call, seen } => {
             after_locking(shape, call, own_call, seen, loaded, found, reply)
         }
@@ -239,8 +239,8 @@ impl Machine {
     pub fn resume(self, found: u64) -> Turn
         requires { IsFound self found }
         ensures after { result ≡ after_access self found }
-        ensures leads { IsTrue (is_lock_call self.call) → Leads (lock_phase self) found result }
-        ensures phase { IfSome (phase_of self) (λ p. LeadsIn p found result) }
+        ensures leads { IsTrue (is_lock_call self.call) → LockCallLeads (lock_phase self) found result }
+        ensures phase { IfSome (phase_of self) (λ p. MachineLeads p found result) }
     {
         let mut machine = self;
         let mut reply = Reply::Done;
@@ -257,7 +257,7 @@ impl Machine {
     /// seen, and `go_on` on the word found; here it is decided once, on the word found.
     #[inline(always)]
     pub(crate) fn access(&mut self, words: &mut [u64], reply: &mut Reply) -> bool
-        requires memory { index_of (plan_of self.old) < length words.old }
+        requires inside { index_of (plan_of self.old) < length words.old }
         requires word { IsFound self.old (found_by (plan_of self.old) words.old) }
         ensures words { words.new ≡ words_after (plan_of self.old) words.old }
         ensures after { turn_of self.new reply.new result
@@ -286,9 +286,9 @@ impl Machine {
         requires { IsFound self.old found }
         ensures after { turn_of self.new reply.new result ≡ after_access self.old found }
         ensures leads { IsTrue (is_lock_call self.old.call) →
-            Leads (lock_phase self.old) found (turn_of self.new reply.new result) }
+            LockCallLeads (lock_phase self.old) found (turn_of self.new reply.new result) }
         ensures phase { IfSome (phase_of self.old)
-            (λ p. LeadsIn p found (turn_of self.new reply.new result)) }
+            (λ p. MachineLeads p found (turn_of self.new reply.new result)) }
         ensures call { self.new.call ≡ self.old.call }
     {
         match next(

@@ -1,7 +1,7 @@
 //! A script from its first step to its last.
 ghost use Rattle.std.specs.Prelude.{◌≡◌, All, IfOk, OnErr};
 ghost use Rattle.stamp_core.specs.Linearized.{IsLinearized};
-ghost use Rattle.stamp_machines.specs.RunRecord.{run_record, reported_record};
+ghost use Rattle.stamp_machines.specs.RecordedRun.{recorded_run, reported_run};
 
 use crate::running::{Run, RunError};
 use crate::script::Script;
@@ -13,7 +13,7 @@ use std::alloc::Global;
 /// of their last steps, which are their points. The one error is 6 `Memory`, after which nothing is
 /// kept.
 pub fn run(alloc: Global, script: &Script) -> Result<Record, RunError>
-    ensures record { IfOk result (λ r. r ≡ run_record script.now) }
+    ensures record { IfOk result (λ r. r ≡ recorded_run script.now) }
     ensures linearized { IfOk result (λ r. IsLinearized r) }
     ensures points { IfOk result (λ r. All (λ e. e.point ≡ e.last) r.entries) }
     ensures memory { OnErr result (result ≡ Err RunError.Memory) }
@@ -29,7 +29,7 @@ pub fn run(alloc: Global, script: &Script) -> Result<Record, RunError>
 /// the steps of others between its first and its last that changed the lock's word (and not those
 /// that changed the record's own lock).
 pub fn run_reported(alloc: Global, script: &Script) -> Result<Record, RunError>
-    ensures record { IfOk result (λ r. r ≡ reported_record script.now) }
+    ensures record { IfOk result (λ r. r ≡ reported_run script.now) }
     ensures linearized { IfOk result (λ r. IsLinearized r) }
     ensures points { IfOk result (λ r. All (λ e. e.point ≡ e.last) r.entries) }
     ensures memory { OnErr result (result ≡ Err RunError.Memory) }

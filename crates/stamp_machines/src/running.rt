@@ -199,12 +199,12 @@ impl<'a> Run<'a> {
 }
 
 impl<'a> Run<'a> {
-    ghost use Rattle.stamp_machines.specs.RunRecord.{IsRecordOf};
+    ghost use Rattle.stamp_machines.specs.RecordedRun.{IsRecordedRun};
     ghost use Rattle.stamp_machines.specs.World.{finished_calls};
 
     /// The finished calls as a recorded history, with no report.
     pub(crate) fn into_record(self) -> Record
-        ensures { IsRecordOf self.entry [] result }
+        ensures { IsRecordedRun self.entry [] result }
     {
         Record::of(
             self.script.limits(),
@@ -217,7 +217,7 @@ impl<'a> Run<'a> {
     /// The finished calls as a recorded history, with a report that has a pair for each.
     pub(crate) fn into_reported(self, report: Vec<(u64, u64)>) -> Record
         requires { length report.items ≡ length (finished_calls self.script self.steps) }
-        ensures { IsRecordOf self.entry report.items result }
+        ensures { IsRecordedRun self.entry report.items result }
     {
         Record::of_reported(
             self.script.limits(),

@@ -5,14 +5,14 @@ ghost use Rattle.stamp_core.specs.Call.{is_lock_call, call_suits};
 ghost use Rattle.stamp_core.specs.Decision.{stamp_in};
 ghost use Rattle.stamp_core.specs.Word.{IsAdmitted, word_at};
 ghost use Rattle.stamp_machines.specs.LockNumber.{counts_at};
-ghost use Rattle.stamp_machines.specs.Job.{job_in, new_words, is_get, expects, stored_reply};
+ghost use Rattle.stamp_machines.specs.Job.{job_of_call, new_words, is_get, expects, stored_reply};
 ghost use Rattle.stamp_machines.specs.RecordStage.{after, unchanged, all_read, own_call_done};
 ghost use Rattle.stamp_machines.specs.RecordStage.{claimed, call_for};
 ghost use Rattle.stamp_machines.specs.RecordStage as on_record;
 ghost use Rattle.stamp_machines.specs.MachineState.{first_stage, record_limits};
 ghost use Rattle.stamp_machines.specs.Machine.{record_turn};
 ghost use Rattle.stamp_machines.specs.MachineFields.{stage_at, going_at, turn_in, own_call_in};
-ghost use Rattle.stamp_machines.specs.MachineFields.{job_of, released_reply, IsStage, IsNextStage};
+ghost use Rattle.stamp_machines.specs.MachineFields.{job_or_get, released_reply, IsStage, IsNextStage};
 ghost use Rattle.stamp_machines.specs.MachineFields.{IsRecordCall, IsPutCall, IsOwnLockCall};
 
 use crate::loaded_words::LoadedWords;
@@ -47,9 +47,9 @@ pub(crate) enum Stage {
     },
     /// The record's lock has to be loaded.
     LoadingLock,
-    /// It was found free, and words are being loaded without a lock.
+    /// It was found free, as `at_first`, and words are being loaded without a lock.
     Copying {
-        lock_word: u64,
+        at_first: u64,
     },
     /// A lock call on the record's lock.
     Locking {
@@ -92,7 +92,7 @@ pub(crate) fn stamp_in(reply: &Reply) -> u64
 }
 
 fn expects(call: &Call, words: &Words) -> bool
-    ensures { result ≡ expects (job_of call.now) words.now }
+    ensures { result ≡ expects (job_or_get call.now) words.now }
 {
     match call {
         Call::PutIf(expected, _) => words.is_same(expected),
@@ -101,7 +101,7 @@ fn expects(call: &Call, words: &Words) -> bool
 }
 
 fn is_get(call: &Call) -> bool
-    ensures { result ≡ is_get (job_of call.now) }
+    ensures { result ≡ is_get (job_or_get call.now) }
 {
     !matches!(call, Call::Put(_) | Call::PutIf(_, _))
 }
@@ -109,8 +109,8 @@ fn is_get(call: &Call) -> bool
 /// The word of this index that the call stores.
 #[inline(always)]
 pub(crate) fn new_word(call: &Call, i: usize) -> u64
-    requires { i < length (new_words (job_of call.now)) }
-    ensures { result ≡ slice_index (new_words (job_of call.now)) i }
+    requires { i < length (new_words (job_or_get call.now)) }
+    ensures { result ≡ slice_index (new_words (job_or_get call.now)) i }
 {
     match call {
         Call::Put(words) | Call::PutIf(_, words) => words.as_slice()[i],
@@ -144,23 +144,23 @@ fn is_free(limits: Limits, found: u64) -> bool
     !limits.word(found).is_writing()
 }
 
-/// Nobody writes, nor has since `lock_word` was found.
-fn is_unchanged(limits: Limits, lock_word: u64, found: u64) -> bool
+/// Nobody writes, nor has since `at_first` was found.
+fn is_unchanged(limits: Limits, at_first: u64, found: u64) -> bool
     requires word { IsAdmitted limits (word_at limits found) }
-    requires lock_word { IsAdmitted limits (word_at limits lock_word) }
-    ensures { result ≡ unchanged limits lock_word found }
+    requires at_first { IsAdmitted limits (word_at limits at_first) }
+    ensures { result ≡ unchanged limits at_first found }
 {
     // By this call the prover knows that the limits are in range.
     let _ = limits.layout();
     let now = limits.word(found);
-    !now.is_writing() && now.writes() == limits.word(lock_word).writes()
+    !now.is_writing() && now.writes() == limits.word(at_first).writes()
 }
 
 /// A lock call on the record's lock, before its first access.
 fn locking(shape: &Shape, call: &Call, loaded: &LoadedWords, own_call: OwnLockCall) -> Stage
     requires { IsOwnLockCall shape.now call.now loaded.now own_call }
     ensures after { going_at shape.now call.now loaded.now result
-        ≡ record_turn shape.now call.now (job_of call.now)
+        ≡ record_turn shape.now call.now (job_or_get call.now)
         (on_record.Going (on_record.Locking (own_call_in loaded.now own_call) None)) }
     ensures sound { IsStage shape.now call.now loaded.now result }
 {
@@ -181,14 +181,14 @@ pub(crate) fn after_lock_load(
     requires call { IsRecordCall shape.now call.now }
     requires word { IsAdmitted (record_limits shape.now) (word_at (record_limits shape.now) found) }
     ensures after { going_at shape.now call.now loaded.new result
-        ≡ record_turn shape.now call.now (job_of call.now)
-        (after (record_limits shape.now) shape.now.width (job_of call.now) (on_record.LoadingLock)
+        ≡ record_turn shape.now call.now (job_or_get call.now)
+        (after (record_limits shape.now) shape.now.width (job_or_get call.now) (on_record.LoadingLock)
         found) }
     ensures sound { IsStage shape.now call.now loaded.new result }
 {
     loaded.clear();
     if is_free(shape.record_limits(), found) {
-        Stage::Copying { lock_word: found }
+        Stage::Copying { at_first: found }
     } else {
         locking(shape, call, loaded, OwnLockCall::Share)
     }
@@ -200,27 +200,27 @@ pub(crate) fn after_lock_load(
 pub(crate) fn after_copy(
     shape: &Shape,
     call: &Call,
-    lock_word: u64,
+    at_first: u64,
     loaded: &mut LoadedWords,
     found: u64,
     reply: &mut Reply,
 ) -> ControlFlow<(), Stage>
     requires call { IsRecordCall shape.now call.now }
-    requires lock_word { IsAdmitted (record_limits shape.now)
-        (word_at (record_limits shape.now) lock_word) }
+    requires at_first { IsAdmitted (record_limits shape.now)
+        (word_at (record_limits shape.now) at_first) }
     requires length { length loaded.old ≤ shape.now.width }
     requires word { shape.now.width ≤ length loaded.old →
         IsAdmitted (record_limits shape.now) (word_at (record_limits shape.now) found) }
     ensures after { turn_in shape.now call.now loaded.new reply.new result
-        ≡ record_turn shape.now call.now (job_of call.now)
-        (after (record_limits shape.now) shape.now.width (job_of call.now)
-        (on_record.Copying lock_word loaded.old) found) }
+        ≡ record_turn shape.now call.now (job_or_get call.now)
+        (after (record_limits shape.now) shape.now.width (job_or_get call.now)
+        (on_record.Copying at_first loaded.old) found) }
     ensures sound { IsNextStage shape.now call.now loaded.old loaded.new result }
 {
     if loaded.len() < shape.word_count() {
         loaded.push(found);
-        ControlFlow::Continue(Stage::Copying { lock_word })
-    } else if is_unchanged(shape.record_limits(), lock_word, found) {
+        ControlFlow::Continue(Stage::Copying { at_first })
+    } else if is_unchanged(shape.record_limits(), at_first, found) {
         *reply = Reply::Content(loaded.words());
         ControlFlow::Break(())
     } else {
@@ -240,8 +240,8 @@ pub(crate) fn after_read(
     requires call { IsRecordCall shape.now call.now }
     requires length { length loaded.old < shape.now.width }
     ensures after { going_at shape.now call.now loaded.new result
-        ≡ record_turn shape.now call.now (job_of call.now)
-        (after (record_limits shape.now) shape.now.width (job_of call.now)
+        ≡ record_turn shape.now call.now (job_or_get call.now)
+        (after (record_limits shape.now) shape.now.width (job_or_get call.now)
         (on_record.Reading stamp loaded.old) found) }
     ensures sound { IsStage shape.now call.now loaded.new result }
 {
@@ -257,8 +257,8 @@ fn all_read(shape: &Shape, call: &Call, stamp: u64, loaded: &LoadedWords) -> Sta
     requires call { IsRecordCall shape.now call.now }
     requires some { 1 ≤ length loaded.now }
     ensures after { going_at shape.now call.now loaded.now result
-        ≡ record_turn shape.now call.now (job_of call.now)
-        (all_read (job_of call.now) stamp loaded.now) }
+        ≡ record_turn shape.now call.now (job_or_get call.now)
+        (all_read (job_or_get call.now) stamp loaded.now) }
     ensures sound { IsStage shape.now call.now loaded.now result }
 {
     if is_get(call) {
@@ -284,8 +284,8 @@ pub(crate) fn after_check(
     requires length { length loaded.old < shape.now.width }
     requires fits { stamp < 2 ^ 63 }
     ensures after { going_at shape.now call.now loaded.new result
-        ≡ record_turn shape.now call.now (job_of call.now)
-        (after (record_limits shape.now) shape.now.width (job_of call.now)
+        ≡ record_turn shape.now call.now (job_or_get call.now)
+        (after (record_limits shape.now) shape.now.width (job_or_get call.now)
         (on_record.Checking stamp loaded.old) found) }
     ensures sound { IsStage shape.now call.now loaded.new result }
 {
@@ -304,7 +304,7 @@ pub(crate) fn after_check(
 
 /// The reply of a call that has stored its words.
 fn stored_reply(call: &Call) -> Reply
-    ensures { result ≡ stored_reply (job_of call.now) }
+    ensures { result ≡ stored_reply (job_or_get call.now) }
 {
     match call {
         Call::PutIf(_, _) => Reply::Yes,
@@ -314,7 +314,7 @@ fn stored_reply(call: &Call) -> Reply
 
 /// The reply of a call that has released its write lock.
 pub(crate) fn released_reply(call: &Call, is_stored: bool) -> Reply
-    ensures { result ≡ released_reply (job_of call.now) is_stored }
+    ensures { result ≡ released_reply (job_or_get call.now) is_stored }
 {
     if is_stored {
         stored_reply(call)
@@ -337,8 +337,8 @@ pub(crate) fn after_store(
     requires length { stored < shape.now.width }
     requires fits { stamp < 2 ^ 63 }
     ensures after { going_at shape.now call.now loaded.now result
-        ≡ record_turn shape.now call.now (job_of call.now)
-        (after (record_limits shape.now) shape.now.width (job_of call.now)
+        ≡ record_turn shape.now call.now (job_or_get call.now)
+        (after (record_limits shape.now) shape.now.width (job_or_get call.now)
         (on_record.Storing stamp stored) found) }
     ensures sound { IsStage shape.now call.now loaded.now result }
 {
@@ -359,7 +359,7 @@ fn claimed(shape: &Shape, call: &Call, stamp: u64, loaded: &mut LoadedWords) -> 
     requires call { IsPutCall shape.now call.now }
     requires fits { stamp < 2 ^ 63 }
     ensures after { going_at shape.now call.now loaded.new result
-        ≡ record_turn shape.now call.now (job_of call.now) (claimed (job_of call.now) stamp) }
+        ≡ record_turn shape.now call.now (job_or_get call.now) (claimed (job_or_get call.now) stamp) }
     ensures sound { IsStage shape.now call.now loaded.new result }
 {
     loaded.clear();
@@ -374,8 +374,8 @@ fn upgraded(shape: &Shape, call: &Call, stamp: u64, loaded: &LoadedWords, got: u
     requires call { IsPutCall shape.now call.now }
     requires fits { got < 2 ^ 63 }
     ensures after { going_at shape.now call.now loaded.now result
-        ≡ record_turn shape.now call.now (job_of call.now)
-        (own_call_done (job_of call.now) (on_record.Upgrade stamp) got) }
+        ≡ record_turn shape.now call.now (job_or_get call.now)
+        (own_call_done (job_or_get call.now) (on_record.Upgrade stamp) got) }
     ensures sound { IsStage shape.now call.now loaded.now result }
 {
     if got == 0 {
@@ -392,7 +392,7 @@ fn upgraded(shape: &Shape, call: &Call, stamp: u64, loaded: &LoadedWords, got: u
 fn read_locked(shape: &Shape, call: &Call, stamp: u64, loaded: &mut LoadedWords) -> Stage
     requires { IsRecordCall shape.now call.now }
     ensures after { going_at shape.now call.now loaded.new result
-        ≡ record_turn shape.now call.now (job_of call.now)
+        ≡ record_turn shape.now call.now (job_or_get call.now)
         (on_record.Going (on_record.Reading stamp [])) }
     ensures sound { IsStage shape.now call.now loaded.new result }
 {
@@ -412,8 +412,8 @@ pub(crate) fn after_own_call(
     requires own_call { IsOwnLockCall shape.now call.now loaded.old own_call }
     requires fits { stamp_in reply.old < 2 ^ 63 }
     ensures after { turn_in shape.now call.now loaded.new reply.new result
-        ≡ record_turn shape.now call.now (job_of call.now)
-        (own_call_done (job_of call.now) (own_call_in loaded.old own_call) (stamp_in reply.old)) }
+        ≡ record_turn shape.now call.now (job_or_get call.now)
+        (own_call_done (job_or_get call.now) (own_call_in loaded.old own_call) (stamp_in reply.old)) }
     ensures sound { IsNextStage shape.now call.now loaded.old loaded.new result }
 {
     let got = stamp_in(reply);
@@ -447,7 +447,7 @@ pub(crate) fn first_stage(shape: &Shape, call: &Call) -> Stage
     requires width { shape.now.width ≤ 16 }
     ensures sound { (loaded : List ℕ) → IsStage shape.now call.now loaded result }
     ensures stage { (loaded : List ℕ) →
-        stage_at call.now loaded result ≡ first_stage (job_in call.now) }
+        stage_at call.now loaded result ≡ first_stage (job_of_call call.now) }
 {
     match call {
         Call::Get => Stage::LoadingLock,

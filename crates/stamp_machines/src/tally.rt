@@ -13,7 +13,7 @@ use std::alloc::{AllocError, Global};
 #[derive(Clone, Copy)]
 pub(crate) struct Meter {
     pub(crate) steps: u64,
-    pub(crate) before: u64,
+    pub(crate) not_others: u64,
 }
 
 /// The changes of the lock's word so far, a meter for each thread, and the cost of each finished
@@ -32,26 +32,26 @@ impl Meter {
     {
         Meter {
             steps: 0,
-            before: 0,
+            not_others: 0,
         }
     }
 
     /// After one more step, where the word had changed this many times before it, and this many by it.
     fn stepped(self, changes: u64, change: u64) -> Meter
         requires steps { self.steps ≤ 1000000 }
-        requires before { self.before ≤ 1000000 }
+        requires not_others { self.not_others ≤ 1000000 }
         requires changes { changes ≤ 1000000 }
         requires change { change ≤ 1 }
         ensures { result ≡ meter_after changes change self }
     {
-        let before = if self.steps == 0 {
+        let not_others = if self.steps == 0 {
             changes
         } else {
-            self.before
+            self.not_others
         };
         Meter {
             steps: self.steps + 1,
-            before: before + change,
+            not_others: not_others + change,
         }
     }
 }
@@ -93,7 +93,7 @@ impl Tally {
     ) -> Result<(), AllocError>
         requires thread { thread < vec_len self.old.meters }
         requires steps { (meter_at self.old.meters.items thread).steps ≤ 1000000 }
-        requires before { (meter_at self.old.meters.items thread).before ≤ self.old.changes }
+        requires not_others { (meter_at self.old.meters.items thread).not_others ≤ self.old.changes }
         requires changes { self.old.changes ≤ 1000000 }
         ensures { OnOk result
             (tally_of self.new ≡ tally_after (tally_of self.old) thread (if is_changed then 1
@@ -107,7 +107,7 @@ impl Tally {
         self.changes += change;
         if let Stepped::Ended(_) = stepped {
             self.report
-                .push((meter.steps, self.changes - meter.before))?;
+                .push((meter.steps, self.changes - meter.not_others))?;
             meter = Meter::idle();
         }
         set_meter(&mut self.meters, thread, meter);

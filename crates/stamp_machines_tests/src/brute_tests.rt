@@ -294,29 +294,17 @@ fn lock_calls(own: u64, other: u64) -> [[ScriptCall; 2]; 14] {
 
 #[test]
 fn lock_calls_in_many_orders_agree_with_the_plain_lock(rt: HostRuntime) -> Result<(), Fail> {
-    let setting = Setting::of_lock(2, 3);
-    let ended = all_agree(
-        &rt,
-        rt.alloc(),
-        setting,
-        &lock_calls(0, 1),
-        &lock_calls(1, 0),
-    )?;
-    assert!(rt; ended > 30_000);
-    Ok(())
-}
-
-#[test]
-fn lock_calls_at_narrow_limits_agree_with_the_plain_lock(rt: HostRuntime) -> Result<(), Fail> {
-    let setting = Setting::of_lock(1, 1);
-    let ended = all_agree(
-        &rt,
-        rt.alloc(),
-        setting,
-        &lock_calls(0, 1),
-        &lock_calls(1, 0),
-    )?;
-    assert!(rt; ended > 30_000);
+    for (readers, versions) in [(2, 3), (1, 1)] {
+        let setting = Setting::of_lock(readers, versions);
+        let ended = all_agree(
+            &rt,
+            rt.alloc(),
+            setting,
+            &lock_calls(0, 1),
+            &lock_calls(1, 0),
+        )?;
+        assert!(rt; ended > 30_000);
+    }
     Ok(())
 }
 

@@ -14,7 +14,7 @@ use Rattle.std.proofs.lemmas.List.Quantifiers.{all_pairs_push}
 use Rattle.stamp_explain.proofs.Lists.{pairs_none}
 use Rattle.stamp_observed.specs.declared.spans.Span.{Span}
 use Rattle.stamp_observed.specs.Span.{Follows}
-use Rattle.stamp_observed.proofs.Apart.{IsRising}
+use Rattle.stamp_observed.proofs.Meeting.{IsRising}
 
 -- a call of these ends no later than this if it is of the thread
 abbrev pub IsFreeBy : ℕ → ℕ → Span → Type 0

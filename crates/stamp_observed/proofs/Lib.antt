@@ -1,4 +1,4 @@
-pub mod Apart
+pub mod Meeting
 pub mod Following
 pub mod Seen
 pub mod Known

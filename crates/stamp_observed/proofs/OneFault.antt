@@ -18,11 +18,11 @@ use Rattle.stamp_observed.proofs.Seen.{more}
 seen_take : (es : List Observation) (n : ℕ) → n ≤ length es → AreSeen es → AreSeen (take n es)
 seen_take es n le seen = record {
   intervals = All-take IsInterval n es seen.intervals;
-  apart = λ i j d lt within.
+  none_overlap = λ i j d lt within.
       let few : j < n = omega (arith, within, length-take-le n es le) in
       subst (λ (x : Observation). DoNotOverlap (get_or (take n es) i d) x) (sym (get_or-take n es j d few))
       (subst (λ (x : Observation). DoNotOverlap x (get_or es j d)) (sym (get_or-take n es i d (omega arith)))
-      (seen.apart i j d lt (omega arith)));
+      (seen.none_overlap i j d lt (omega arith)));
 }
 
 -- with a call that breaks something, those before it can't be seen
@@ -35,7 +35,7 @@ unseen before e Overlap breaks seen =
     let lt : length before < length (before ++ e ∷ []) = omega (arith, length-append before (e ∷ [])) in
     breaks.1 (λ k d below. subst (λ (x : Observation). DoNotOverlap x e) (get_or_append_left before (e ∷ []) d k below)
     (subst (λ (x : Observation). DoNotOverlap (get_or (before ++ e ∷ []) k d) x) (get_or-append_seam before e [] d)
-    (seen.apart k (length before) d below lt)))
+    (seen.none_overlap k (length before) d below lt)))
 
 not_with : (h : ObservedHistory) (i : ℕ) (why : ObservedWhy) → IsFirstFault h i why →
     ¬ AreSeen (take (i + 1) h.entries)
@@ -49,7 +49,7 @@ within h i why fault = slice_get_within h.entries i fault.entry fault.is_entry
 pub faults_are_exact : ObservedFaultsAreExact
 faults_are_exact h i why fault observed =
     not_with h i why fault (seen_take h.entries (i + 1) (omega (arith, within h i why fault))
-    (record { intervals = observed.intervals; apart = observed.apart }))
+    (record { intervals = observed.intervals; none_overlap = observed.apart }))
 
 not_before : (h : ObservedHistory) (i j : ℕ) (a b : ObservedWhy) → IsFirstFault h i a → IsFirstFault h j b → i < j → ⊥
 not_before h i j a b x y lt =

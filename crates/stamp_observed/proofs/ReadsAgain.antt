@@ -29,7 +29,7 @@ use Rattle.stamp_history.proofs.FieldsReadAgain.{small, fields_again}
 use Rattle.stamp_history.proofs.HistoryAgain.{call_found, reply_found}
 use Rattle.stamp_history.proofs.ReadAgain.{ReadsAgain, ItemsReadAgain, number_again, no_items_again, item_again}
 use Rattle.stamp_history.proofs.ReadAgain.{array_again, no_members_again, member_again, object_again}
-use Rattle.stamp_observed.specs.ObservationFits.{ReturnFits, ObservationFits}
+use Rattle.stamp_observed.specs.ProgramValue.{ReturnIsProgramValue, ObservationIsProgramValue}
 use Rattle.stamp_observed.specs.ObservationValue as value
 use Rattle.stamp_observed.specs.ObservedFields.{top, ends_in_range, entry_at, entries}
 use Rattle.stamp_observed.specs.ObservedReading.{observed_in, observed_of}
@@ -41,12 +41,12 @@ abbrev made : ℕ → Call → ℕ → Option Returned → Observation
 made thread call first returned = record { thread = thread; call = call; first = first; returned = returned }
 
 parts_found : (w thread : ℕ) (call : Call) (first : ℕ) (returned : Option Returned) → w ≤ 16 → call_suits w call ≡
-    true → MatchOption returned (Unit {0}) ReturnFits →
+    true → MatchOption returned (Unit {0}) ReturnIsProgramValue →
     value.observation (observation_data (made thread call first returned)) ≡ Some (made thread call first returned)
 unfolding value.observation value.returned
-parts_found w thread call first None most suits fits = rw (call_found w call most suits) refl
-parts_found w thread call first (Some r) most suits fits =
-    rw (call_found w call most suits, reply_found r.reply fits.words) refl
+parts_found w thread call first None most suits is_value = rw (call_found w call most suits) refl
+parts_found w thread call first (Some r) most suits is_value =
+    rw (call_found w call most suits, reply_found r.reply is_value.words) refl
 
 in_range : (returned : Option Returned) → MatchOption returned (Unit {0}) (λ (r : Returned). r.last <
     288230376151711744) → ends_in_range returned ≡ true
@@ -54,22 +54,22 @@ in_range None low = refl
 in_range (Some r) low = lt-ltb r.last 288230376151711744 low
 
 entries_found : (w i : ℕ) (es : List Observation) → w ≤ 16 → All (λ (e : Observation). e.thread < 64) es →
-    All (λ (e : Observation). IsTrue (call_suits w e.call)) es → All IsLow es → All ObservationFits es →
+    All (λ (e : Observation). IsTrue (call_suits w e.call)) es → All IsLow es → All ObservationIsProgramValue es →
     each (entry_at w) i (items_of (map observation_data es)) ≡ Ok es
-entries_found w i [] most threads suit low fit = refl
-entries_found w i (e ∷ es) most threads suit low fit =
+entries_found w i [] most threads suit low are_values = refl
+entries_found w i (e ∷ es) most threads suit low are_values =
     let suits : call_suits w e.call ≡ true = All-head (λ (x : Observation). IsTrue (call_suits w x.call)) e es suit in
     let here = All-head IsLow e es low in
-    let fits = All-head ObservationFits e es fit in
+    let is_value = All-head ObservationIsProgramValue e es are_values in
     rw (
-      parts_found w e.thread e.call e.first e.returned most suits fits.returned,
+      parts_found w e.thread e.call e.first e.returned most suits is_value.returned,
       suits,
       lt-ltb e.thread 64 (All-head (λ (x : Observation). x.thread < 64) e es threads),
       lt-ltb e.first 288230376151711744 here.first,
       in_range e.returned here.last,
       entries_found w (i + 1) es most (All-tail (λ (x : Observation). x.thread < 64) e es threads)
           (All-tail (λ (x : Observation). IsTrue (call_suits w x.call)) e es suit) (All-tail IsLow e es low)
-          (All-tail ObservationFits e es fit),
+          (All-tail ObservationIsProgramValue e es are_values),
     ) refl
 
 top_found : (l : Layout) (readers versions w : ℕ) (d : Data) → top (with_entries d (bounds l readers versions) w []) ≡
@@ -78,9 +78,9 @@ top_found One readers versions w d = refl
 top_found Two readers versions w d = refl
 
 observed_found : (h : ObservedHistory) → AreInRange h.limits → IsSmall h → AreSuited h →
-    All ObservationFits h.entries → observed_in (observed_data h) ≡ Ok h
+    All ObservationIsProgramValue h.entries → observed_in (observed_data h) ≡ Ok h
 unfolding observed_in entries
-observed_found h range known suited fits =
+observed_found h range known suited are_values =
     let l = h.limits.layout in
     let readers = h.limits.readers in
     let versions = h.limits.versions in
@@ -93,12 +93,13 @@ observed_found h range known suited fits =
     ∙ fields_found l readers versions h.width (observations_data h.entries) [] range known.width rest
     ∙ ap (λ found. found >>= λ es. Ok (observed_as h.limits h.width es))
     (listed_found (entry_at h.width) ds h.entries h.limits h.width [] few
-    (entries_found h.width 0 h.entries known.width suited.threads suited.suit known.positions fits))
+    (entries_found h.width 0 h.entries known.width suited.threads suited.suit known.positions are_values))
 
 parts_again : (thread : ℕ) (call : Call) (first : ℕ) (returned : Option Returned) → IsU64 thread → CallIsU64 call →
     IsU64 first → MatchOption returned (Unit {0}) (λ (r : Returned). IsU64 r.last) →
-    MatchOption returned (Unit {0}) ReturnFits → ReadsAgain 3 (observation_data (made thread call first returned))
-parts_again thread call first None thread_fits call_fits first_fits low fits =
+    MatchOption returned (Unit {0}) ReturnIsProgramValue →
+    ReadsAgain 3 (observation_data (made thread call first returned))
+parts_again thread call first None thread_fits call_fits first_fits low is_value =
     let called = call_again call call_fits in
     let began = number_again first first_fits in
     let by = number_again thread thread_fits in
@@ -107,11 +108,11 @@ parts_again thread call first None thread_fits call_fits first_fits low fits =
     (member_again 0 2 (codes "first") (number_data first) _ (omega arith) refl began
     (member_again 0 2 (codes "thread") (number_data thread) no_members (omega arith) refl by (no_members_again 2))))
     (rw (called.same, began.same, by.same) refl)
-parts_again thread call first (Some r) thread_fits call_fits first_fits low fits =
+parts_again thread call first (Some r) thread_fits call_fits first_fits low is_value =
     let called = call_again call call_fits in
     let began = number_again first first_fits in
     let last = number_again r.last low in
-    let reply = reply_again r.reply fits.numbers in
+    let reply = reply_again r.reply is_value.numbers in
     let by = number_again thread thread_fits in
     object_again 2 _
     (member_again 2 2 (codes "call") (call_data call) _ (omega arith) refl called
@@ -130,26 +131,26 @@ returns_fit None low = tt
 returns_fit (Some r) low = low_fits r.last low
 
 items_again : (es : List Observation) → All (λ (e : Observation). e.thread < 64) es → All IsLow es →
-    All ObservationFits es → ItemsReadAgain 3 (items_of (map observation_data es))
-items_again [] threads low fit = no_items_again 3
-items_again (e ∷ es) threads low fit =
+    All ObservationIsProgramValue es → ItemsReadAgain 3 (items_of (map observation_data es))
+items_again [] threads low are_values = no_items_again 3
+items_again (e ∷ es) threads low are_values =
     let thread = small e.thread 64 (omega (arith, All-head (λ (x : Observation). x.thread < 64) e es threads))
     (lit< tt) in
     let here = All-head IsLow e es low in
-    let fits = All-head ObservationFits e es fit in
+    let is_value = All-head ObservationIsProgramValue e es are_values in
     item_again 3 3 (observation_data e) (items_of (map observation_data es)) (omega arith)
-    (parts_again e.thread e.call e.first e.returned thread fits.call (low_fits e.first here.first)
-    (returns_fit e.returned here.last) fits.returned)
+    (parts_again e.thread e.call e.first e.returned thread is_value.call (low_fits e.first here.first)
+    (returns_fit e.returned here.last) is_value.returned)
     (items_again es (All-tail (λ (x : Observation). x.thread < 64) e es threads) (All-tail IsLow e es low)
-    (All-tail ObservationFits e es fit))
+    (All-tail ObservationIsProgramValue e es are_values))
 
 pub reads_again : (h : ObservedHistory) → AreInRange h.limits → IsSmall h → AreSuited h →
-    All ObservationFits h.entries → observed_of (observed_text h) ≡ Ok h
+    All ObservationIsProgramValue h.entries → observed_of (observed_text h) ≡ Ok h
 unfolding observed_of observed_text
-reads_again h range known suited fits =
+reads_again h range known suited are_values =
     ap (λ found. found >>= λ d. observed_in d)
     (fields_again h.limits.layout h.limits.readers h.limits.versions h.width (observations_data h.entries) [] range
     known.width
     (array_again 3 (items_of (map observation_data h.entries))
-    (items_again h.entries suited.threads known.positions fits)) (All-nil PairIsU64))
-    ∙ observed_found h range known suited fits
+    (items_again h.entries suited.threads known.positions are_values)) (All-nil PairIsU64))
+    ∙ observed_found h range known suited are_values

@@ -15,10 +15,10 @@ use Rattle.stamp_observed.specs.ObservedFault.{AreSeen, IsFirstFault, AreInterva
 use Rattle.stamp_observed.specs.Suited.{AreSuited}
 
 -- between these indices the first overlap is
-pub record IsBetween (entries : List Observation) (apart too_many : ℕ) : Type 0 where
-  pub below : apart < too_many
+pub record IsBetween (entries : List Observation) (without too_many : ℕ) : Type 0 where
+  pub below : without < too_many
   pub within : too_many ≤ length entries
-  pub before : AllPairs DoNotOverlap (take apart entries)
+  pub before : AllPairs DoNotOverlap (take without entries)
   pub broken : ¬ AllPairs DoNotOverlap (take too_many entries)
 
 pub between_ends : (entries : List Observation) → ¬ AllPairs DoNotOverlap entries →
@@ -34,12 +34,12 @@ between_ends entries refuted = record {
     some [] refuted = absurd (refuted (pairs_none DoNotOverlap))
     some (e ∷ es) refuted = omega arith
 
-pub first_between : (entries : List Observation) (apart too_many : ℕ) → IsBetween entries apart too_many →
-    too_many ≤ apart + 1 → IsFirstOverlap entries apart
-first_between entries apart too_many is le = record {
+pub first_between : (entries : List Observation) (without too_many : ℕ) → IsBetween entries without too_many →
+    too_many ≤ without + 1 → IsFirstOverlap entries without
+first_between entries without too_many is le = record {
   within = omega (arith, is.below, is.within);
   before = is.before;
-  broken = let next : too_many ≡ apart + 1 = omega (arith, is.below, le) in
+  broken = let next : too_many ≡ without + 1 = omega (arith, is.below, le) in
       subst (λ (n : ℕ). ¬ AllPairs DoNotOverlap (take n entries)) next is.broken;
 }
 
@@ -71,7 +71,7 @@ overlap_at es count i within intervals first =
         (
           record {
             intervals = subst (All IsInterval) same (All-take IsInterval i (take count es) intervals);
-            apart = pairs;
+            none_overlap = pairs;
           },
           (
             subst IsInterval (get_or-take count es i e less ∙ get_or_from_slice_get es i e e found.1)
@@ -96,7 +96,7 @@ interval_fault h count intervals lt pairs =
     record {
       entry = at.0;
       is_entry = at.1;
-      before = record { intervals = intervals.before; apart = pairs };
+      before = record { intervals = intervals.before; none_overlap = pairs };
       breaks = intervals.broken at.0 at.1;
     }
 

@@ -6,4 +6,4 @@ pub mod ObservedFault
 pub mod ObservedLaws
 pub mod Span
 pub mod ObservedText
-pub mod ObservationFits
+pub mod ProgramValue

@@ -10,7 +10,7 @@ use Rattle.stamp_observed.specs.declared.judging.ObservedFault.{ObservedFault}
 -- no call is over before it began, and none overlaps another one of its thread
 pub record AreSeen (entries : List Observation) : Type 0 where
   pub intervals : All IsInterval entries
-  pub apart : AllPairs DoNotOverlap entries
+  pub none_overlap : AllPairs DoNotOverlap entries
 
 -- the first thing that a call breaks beside those listed before it: it is over before it began; or it overlaps
 -- one of them that is of its thread
@@ -36,7 +36,7 @@ pub record AreIntervalsTo (entries : List Observation) (index : ℕ) : Type 0 wh
   pub before : All IsInterval (take index entries)
   pub broken : (e : Observation) → slice_get entries index ≡ Some e → ¬ IsInterval e
 
--- the calls before this index are apart, and with the one there they are not
+-- of the calls before this index none overlap, and with the one there some do
 pub record IsFirstOverlap (entries : List Observation) (index : ℕ) : Type 0 where
   pub within : index < length entries
   pub before : AllPairs DoNotOverlap (take index entries)

@@ -6,7 +6,7 @@ ghost use Rattle.stamp_explain.specs.Observed.{IsLow, IsInterval, DoNotOverlap};
 ghost use Rattle.stamp_observed.specs.Suited.{AreSuited};
 ghost use Rattle.stamp_observed.specs.ObservedFault.{IsObservedJudgement, AreIntervalsTo, IsFirstOverlap};
 
-use crate::spans::are_apart;
+use crate::spans::none_overlap;
 use stamp_explain::{Observation, Observed, is_interval};
 use std::alloc::{AllocError, Global};
 
@@ -49,21 +49,21 @@ fn first_overlap(alloc: Global, entries: &[Observation]) -> Result<Option<usize>
     ensures { IfOk result (λ found. MatchOption found (AllPairs DoNotOverlap entries.now)
         (λ i. IsFirstOverlap entries.now i)) }
 {
-    if are_apart(alloc, entries)? {
+    if none_overlap(alloc, entries)? {
         return Ok(None);
     }
-    // So many are apart, and so many are not.
-    let mut apart = 0;
+    // Of the first so many none overlap; of the first so many some do.
+    let mut without = 0;
     let mut too_many = entries.len();
-    while too_many - apart > 1 {
-        let middle = apart + (too_many - apart) / 2;
-        if are_apart(alloc, &entries[..middle])? {
-            apart = middle;
+    while too_many - without > 1 {
+        let middle = without + (too_many - without) / 2;
+        if none_overlap(alloc, &entries[..middle])? {
+            without = middle;
         } else {
             too_many = middle;
         }
     }
-    Ok(Some(apart))
+    Ok(Some(without))
 }
 
 /// The first entry, in the order in which they are listed, that is over before it began or that

@@ -26,7 +26,7 @@ fn observed_from(limits: Limits, width: u64, entries: Vec<Observation>) -> Obser
 }
 
 #[tactic(auto, unfolding(crate::specs::ObservedReading::observed_in))]
-fn observed_within(alloc: Global, value: &Value) -> Result<Observed, ReadError>
+fn observed_in(alloc: Global, value: &Value) -> Result<Observed, ReadError>
     ensures read { Gives ReadError.Memory (λ found. found) result (observed_in (view value.now)) }
     ensures suited { IfOk result (λ found. AreSuited found) }
 {
@@ -52,5 +52,5 @@ pub fn read_observed(alloc: Global, bytes: &[u8]) -> Result<Observed, ReadError>
     ensures memory { IfErr result (λ e. e ≡ ReadError.Memory → 0 < length bytes.now) }
 {
     let value = json(alloc, bytes)?;
-    observed_within(alloc, &value)
+    observed_in(alloc, &value)
 }

@@ -5,7 +5,7 @@ ghost use Rattle.std.specs.List.{All};
 ghost use Rattle.serde_json.specs.Data.{Members};
 ghost use Rattle.serde_json.specs.Written.{compact_text, members_text};
 ghost use Rattle.stamp_core.specs.Limits.{AreInRange};
-ghost use Rattle.stamp_observed.specs.ObservationFits.{ReturnFits, ObservationFits};
+ghost use Rattle.stamp_observed.specs.ProgramValue.{ReturnIsProgramValue, ObservationIsProgramValue};
 ghost use Rattle.stamp_observed.specs.ObservedReading.{observed_of};
 ghost use Rattle.stamp_observed.specs.ObservedText.{with_return, observation_data, observations_data};
 ghost use Rattle.stamp_observed.specs.ObservedText.{observed_data, observed_text};
@@ -24,7 +24,7 @@ const CALL_BYTES: usize = 112;
 fn push_return(text: &mut Vec<u8>, returned: &Option<Returned>) -> Result<(), AllocError>
     ensures text { OnOk result ((rest : Members) → text.new.items ++ members_text true rest
         ≡ text.old.items ++ members_text true (with_return returned.now rest)) }
-    ensures fits { OnOk result (MatchOption returned.now (Unit {0}) ReturnFits) }
+    ensures program_value { OnOk result (MatchOption returned.now (Unit {0}) ReturnIsProgramValue) }
 {
     if let Some(returned) = returned {
         push_numbered(text, ",\"last\":", returned.last)?;
@@ -38,7 +38,7 @@ fn push_return(text: &mut Vec<u8>, returned: &Option<Returned>) -> Result<(), Al
 fn push_observation(text: &mut Vec<u8>, entry: &Observation) -> Result<(), AllocError>
     ensures text { OnOk result (text.new.items
         ≡ text.old.items ++ compact_text (observation_data entry.now)) }
-    ensures fits { OnOk result (ObservationFits entry.now) }
+    ensures program_value { OnOk result (ObservationIsProgramValue entry.now) }
 {
     push_text(text, "{\"call\":")?;
     push_call(text, &entry.call)?;
@@ -52,7 +52,7 @@ fn push_observation(text: &mut Vec<u8>, entry: &Observation) -> Result<(), Alloc
 fn push_observations(text: &mut Vec<u8>, entries: &[Observation]) -> Result<(), AllocError>
     ensures text { OnOk result (text.new.items
         ≡ text.old.items ++ compact_text (observations_data entries.now)) }
-    ensures fits { OnOk result (All ObservationFits entries.now) }
+    ensures program_value { OnOk result (All ObservationIsProgramValue entries.now) }
 {
     push_text(text, "[")?;
     for (index, entry) in entries.iter().enumerate() {
@@ -66,7 +66,7 @@ fn push_observations(text: &mut Vec<u8>, entries: &[Observation]) -> Result<(), 
 fn push_observed(text: &mut Vec<u8>, observed: &Observed) -> Result<(), AllocError>
     ensures text { OnOk result (text.new.items
         ≡ text.old.items ++ compact_text (observed_data observed.now)) }
-    ensures fits { OnOk result (All ObservationFits observed.now.entries) }
+    ensures program_value { OnOk result (All ObservationIsProgramValue observed.now.entries) }
     ensures range { OnOk result (AreInRange observed.now.limits) }
 {
     push_text(text, "{\"entries\":")?;

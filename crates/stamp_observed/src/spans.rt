@@ -78,11 +78,11 @@ fn follow(spans: &[Span]) -> bool
 }
 
 /// Whether no two calls of a thread overlap. It sorts them once.
-pub(crate) fn are_apart(alloc: Global, entries: &[Observation]) -> Result<bool, AllocError>
+pub(crate) fn none_overlap(alloc: Global, entries: &[Observation]) -> Result<bool, AllocError>
     requires low { All IsLow entries.now }
     requires intervals { All IsInterval entries.now }
     requires threads { All (λ e. e.thread < 64) entries.now }
-    ensures { IfOk result (λ apart. IsTrue apart ↔ AllPairs DoNotOverlap entries.now) }
+    ensures { IfOk result (λ none. IsTrue none ↔ AllPairs DoNotOverlap entries.now) }
 {
     let spans = spans_of(alloc, entries)?;
     let sorted = sorted(spans)?;

@@ -7,7 +7,7 @@ use Rattle.std.proofs.lemmas.List.{take_more, append-nil, length-take}
 use Rattle.std.specs.List.{All}
 use Rattle.std.proofs.lemmas.List.Elements.{All-cons, All-nil, All-tail}
 use Rattle.stamp_core.specs.Limits.{Bounds}
-use Rattle.stamp_core.specs.Record.{SuitsRecord}
+use Rattle.stamp_core.specs.Record.{EntrySuits}
 use Rattle.stamp_core.specs.declared.entry.Entry.{Entry}
 use Rattle.stamp_picture.specs.declared.bar.Bar.{Bar}
 use Rattle.stamp_picture.specs.declared.state.State.{State}
@@ -105,11 +105,11 @@ pub if_all : {X : Type 0} (P : X → Type 0) (b : Bool) (x : X) (xs : List X) �
 if_all P true x xs here all = All-cons P x xs here all
 if_all P false x xs here all = all
 
-pub few_lanes : (width : ℕ) (w : Window) (n : ℕ) (xs : List Entry) → All (SuitsRecord width) xs →
+pub few_lanes : (width : ℕ) (w : Window) (n : ℕ) (xs : List Entry) → All (EntrySuits width) xs →
     All (λ (b : Bar). b.lane < 64) (bars_from w n xs)
 few_lanes width w n [] all = All-nil (λ (b : Bar). b.lane < 64)
 few_lanes width w n (x ∷ xs) all =
-    let first : SuitsRecord width x = all 0 x (omega arith) in
-    let rest : All (SuitsRecord width) xs = All-tail (SuitsRecord width) x xs all in
+    let first : EntrySuits width x = all 0 x (omega arith) in
+    let rest : All (EntrySuits width) xs = All-tail (EntrySuits width) x xs all in
     if_all (λ (b : Bar). b.lane < 64) (meets w x) (bar_of w n x) (bars_from w (n + 1) xs) first.thread
     (few_lanes width w (n + 1) xs rest)

@@ -6,7 +6,7 @@ use Rattle.std.specs.Prelude.{slice_get}
 use Rattle.std.specs.List.{All}
 use Rattle.std.proofs.lemmas.Option.{slice_get_within, get_or_from_slice_get}
 use Rattle.std.proofs.Common.{length, take, get_or}
-use Rattle.stamp_core.specs.Record.{Recorded, SuitsRecord}
+use Rattle.stamp_core.specs.Record.{Recorded, EntrySuits}
 use Rattle.std.specs.Bool.{MatchBool}
 use Rattle.std.proofs.lemmas.List.{append-nil}
 use Rattle.stamp_core.specs.LockEvent.{LockEvent, counts, write_count}
@@ -114,7 +114,7 @@ record_due limits track call (Some reply) lock answers = record {
 -- the call of the entry at i, and the reply that is due to it
 pub due_at : (r : Recorded) (limits : Bounds) (width : ℕ) (entries : List Entry) (i : ℕ) (track : Track) (e : Entry)
     (due : Option Reply) → limits ≡ r.limits → width ≡ r.width → entries ≡ r.entries →
-    All (SuitsRecord r.width) r.entries → IsTrack limits width (take i entries) track → e ≡ get_or entries i e →
+    All (EntrySuits r.width) r.entries → IsTrack limits width (take i entries) track → e ≡ get_or entries i e →
     TellsDue limits track e.call due → (f : Entry) → slice_get r.entries i ≡ Some f →
     (e.call ≡ f.call) × IsReplyDue r.limits r.width (take i r.entries) f.call due
 due_at r limits width entries i track e due l w es suit behind is answers f at =
@@ -122,7 +122,7 @@ due_at r limits width entries i track e due l w es suit behind is answers f at =
     let is_f : get_or r.entries i f ≡ f = get_or_from_slice_get r.entries i f f at in
     let is_e : get_or r.entries i e ≡ f = get_or_from_slice_get r.entries i f e at in
     let same : e ≡ f = is ∙ ap (λ (xs : List Entry). get_or xs i e) es ∙ is_e in
-    let suits : SuitsRecord r.width f = subst (SuitsRecord r.width) is_f (suit i f lt) in
+    let suits : EntrySuits r.width f = subst (EntrySuits r.width) is_f (suit i f lt) in
     let answers_f : TellsDue r.limits track f.call due =
     subst (λ (b : Bounds). TellsDue b track f.call due) l
     (subst (λ (x : Entry). TellsDue limits track x.call due) same answers) in

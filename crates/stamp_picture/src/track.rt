@@ -57,7 +57,7 @@ fn content_shown(content: &Words, width: u64) -> Option<Words>
     if width == 0 { None } else { Some(*content) }
 }
 
-fn mode_of(limits: Limits, word: Word) -> Mode
+fn mode_in(limits: Limits, word: Word) -> Mode
     ensures { mode_in limits word result }
 {
     if word.is_writing() {
@@ -99,7 +99,7 @@ impl Track {
         ensures { Shows limits width self.now result }
     {
         State {
-            mode: mode_of(limits, self.word),
+            mode: mode_in(limits, self.word),
             version: self.word.writes(),
             content: content_shown(&self.content, width),
         }

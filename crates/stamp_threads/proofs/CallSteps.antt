@@ -16,8 +16,8 @@ use Rattle.stamp_threads.specs.PassView.{knowing, adding, finding}
 use Rattle.stamp_threads.specs.LockLog.{LockLog, events_after}
 use Rattle.stamp_threads.specs.LockPass.{LockPassView, IsConsistentWith, LeavesWord}
 use Rattle.stamp_threads.specs.LockRule.{Loaded, Won, Exchanged, making, reading, answering}
-use Rattle.stamp_threads.specs.Underway.{WentOn}
-use Rattle.stamp_threads.specs.Made.{Made, IsWaiting}
+use Rattle.stamp_threads.specs.GoesAsMachine.{WentOn}
+use Rattle.stamp_threads.specs.Made.{Made, MayWait}
 use Rattle.stamp_threads.proofs.SamePass.{no_call_by}
 
 module _ (limits : Bounds) (call : Call) (v : LockPassView) (found : ℕ) (w : LockPassView) where
@@ -94,7 +94,7 @@ module _ (limits : Bounds) (call : Call) (v : LockPassView) (found : ℕ) (w : L
       went_at l.log l.left is l.consistent
 
   -- only a call that may wait has no transition on the word found
-  pub never_waits : IsTrue (is_lock_call call) → (IsWaiting call → ⊥) → Loaded limits call v found w →
+  pub never_waits : IsTrue (is_lock_call call) → (MayWait call → ⊥) → Loaded limits call v found w →
       HasNone limits (word_at limits found) call → ⊥
   never_waits lock never l none =
       never (only_locking_waits limits (events_after limits l.log) call lock

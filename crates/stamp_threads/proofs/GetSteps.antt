@@ -18,7 +18,7 @@ use Rattle.stamp_threads.specs.declared.record_view.RecordPhase.TheVariants.{Idl
 use Rattle.stamp_threads.specs.PassView.{entry, knowing, finding}
 use Rattle.stamp_threads.specs.Seats.{alone}
 use Rattle.stamp_threads.specs.RecordWord.{word_with}
-use Rattle.stamp_threads.specs.RecordLog.{puts, puts_in, content_in, is_locked, is_own}
+use Rattle.stamp_threads.specs.RecordLog.{puts, puts_in, content_in, is_locked, is_call}
 use Rattle.stamp_threads.specs.RecordPass.{RecordPassView, Seated, IsConsistentWith, marks_ahead, first_of}
 use Rattle.stamp_threads.specs.RecordRule.{KnowsLoading, Knows, IsWriting, IsKept, calling}
 use Rattle.stamp_threads.specs.RecordRule.{starting_to_load, stopping, get_of, loading_one, loaded_one}
@@ -36,15 +36,15 @@ use Rattle.stamp_threads.proofs.RecordSteps.{idle_quiet, KeptBy, Leaves, load_le
 
 module _ {enterable : Bool} (P : List ℕ → Type 0) (shape : RecordShape) (s : State (Unit {0}) (List RecordPassView))
     (r : IsKept enterable P shape s)
-    (id : ℕ) (v : RecordPassView) (here : get_elem? s.views id ≡ some (v ∷ [])) (version : ℕ)
-    (xs : List ℕ) (loading : v.phase ≡ Loading version xs) where
+    (id : ℕ) (v : RecordPassView) (here : get_elem? s.views id ≡ some (v ∷ [])) (puts_before : ℕ)
+    (xs : List ℕ) (loading : v.phase ≡ Loading puts_before xs) where
   pub loading_quiet : IsWriting v.phase → ⊥
   loading_quiet w = subst IsWriting loading w
 
   none_ahead : marks_ahead v.phase ≡ 0
   none_ahead = ap marks_ahead loading
 
-  what : KnowsLoading shape.width r.log version xs
+  what : KnowsLoading shape.width r.log puts_before xs
   what = subst (Knows P shape.width s.words r.log v.name) loading
       (fits_here P shape s r id v here).knows
 
@@ -58,7 +58,7 @@ module _ {enterable : Bool} (P : List ℕ → Type 0) (shape : RecordShape) (s :
       let h = what in
       let more : length (xs ++ x ∷ []) ≡ k + 1 =
       length-append xs (x ∷ []) ∙ ap (λ (n : ℕ). n + 1) long in
-      let loaded : KnowsLoading shape.width r.log version (xs ++ x ∷ []) = record {
+      let loaded : KnowsLoading shape.width r.log puts_before (xs ++ x ∷ []) = record {
         before = h.before;
         few = omega arith;
         stand = λ e p j l. dite (ℕ_discrete j k)
@@ -81,7 +81,7 @@ module _ {enterable : Bool} (P : List ℕ → Type 0) (shape : RecordShape) (s :
 
   -- the lock word is as it was, and the words are the content
   confirms : length xs ≡ shape.width →
-      get_or s.words 0 0 ≡ word_with shape.limits.layout version false →
+      get_or s.words 0 0 ≡ word_with shape.limits.layout puts_before false →
       KeptBy enterable P shape s id (calling (finding v (get_or s.words 0 0)) r.log (get_of xs)) s.words ×
       IsConsistentWith shape.width (calling (finding v (get_or s.words 0 0)) r.log (get_of xs)) ×
       (xs ≡ content_in shape.width r.log) × P xs
@@ -90,7 +90,7 @@ module _ {enterable : Bool} (P : List ℕ → Type 0) (shape : RecordShape) (s :
       let log' = r.log ++ entry v.name (get_of xs) ∷ [] in
       let f = fits_here P shape s r id v here in
       let h = what in
-      let free = free_of shape.limits.layout (is_locked r.log) (puts r.log) version
+      let free = free_of shape.limits.layout (is_locked r.log) (puts r.log) puts_before
       (sym same ∙ r.word_is) in
       let whole : xs ≡ content_in shape.width r.log =
       ext_get_or 0 xs (content_in shape.width r.log) (long ∙ sym r.long)
@@ -104,7 +104,7 @@ module _ {enterable : Bool} (P : List ℕ → Type 0) (shape : RecordShape) (s :
       let quiet = none_ahead in
       let brings : Brings P shape.width s.words log' w = record {
         known = begins_all log';
-        own = made_by-same is_own v.name r.log (get_of xs) ∙
+        own = made_by-same is_call v.name r.log (get_of xs) ∙
             ap (λ (z : List RecordEvent). z ++ get_of xs ∷ []) f.part.own;
         marks = (let a = marks_called v.name r.log Get (Content xs) in
             let b = puts_in_get v.own xs in omega arith);
@@ -127,13 +127,13 @@ module _ {enterable : Bool} (P : List ℕ → Type 0) (shape : RecordShape) (s :
           rests = λ e i b. r.rests (sym l ∙ e) i b ∙
               ap (λ (d : List ℕ). get_or d i 0) (sym c);
           long = ap length c ∙ r.long;
-          obeys = subst P (sym c) r.obeys;
+          rule = subst P (sym c) r.rule;
           passes = one_after P shape s r id v here w refl refl s.words log' grows brings others;
           writer = λ e. absurd (true≢false (sym e ∙ (l ∙ free.0)));
         },
         one_consistent P shape s r id v here w refl refl s.words log' grows brings others legal refl,
         whole,
-        subst P (sym whole) r.obeys,
+        subst P (sym whole) r.rule,
       )
 
   stopping_brings : (word : ℕ) → Brings P shape.width s.words r.log (stopping (finding v word) r.log)
@@ -193,63 +193,63 @@ allows_load_for_get P shape slots id me is idle s r _ at _ =
 
 -- a load of a word of the record
 pub allows_load_word : {enterable : Bool} (P : List ℕ → Type 0) (shape : RecordShape) (slots id : ℕ) (me : Seated)
-    (version k : ℕ)
-    (xs : List ℕ) → me ≡ alone (first_of me.0) → (first_of me.0).phase ≡ Loading version xs →
+    (puts_before k : ℕ)
+    (xs : List ℕ) → me ≡ alone (first_of me.0) → (first_of me.0).phase ≡ Loading puts_before xs →
     length xs ≡ k → k < shape.width →
     Allows (IsKept enterable P shape) slots id me (k + 1) (λ n. n)
     (LoadWordTells (step slots (k + 1) 0 0 none) me)
-allows_load_word P shape slots id me version k xs is loading long inside s r _ there _ =
+allows_load_word P shape slots id me puts_before k xs is loading long inside s r _ there _ =
     let v : RecordPassView = first_of me.0 in
     let here : get_elem? s.views id ≡ some (v ∷ []) =
     there ∙ ap (λ (m : Seated). some m.0) is in
     let w = loaded_one v (get_or s.words (k + 1) 0) in
     load_leaves P shape s id me (k + 1) w (λ m. m ≡ alone w)
-    (loads P shape s r id v here version xs loading k long inside) (λ i. (w ∷ [], (is i).1))
+    (loads P shape s r id v here puts_before xs loading k long inside) (λ i. (w ∷ [], (is i).1))
 
 -- the second load of the lock word, by whether it is the word of the first
 confirm_at : {enterable : Bool} (P : List ℕ → Type 0) (shape : RecordShape)
     (s : State (Unit {0}) (List RecordPassView))
-    (r : IsKept enterable P shape s) (id : ℕ) (me : Seated) (version : ℕ) (xs : List ℕ) →
+    (r : IsKept enterable P shape s) (id : ℕ) (me : Seated) (puts_before : ℕ) (xs : List ℕ) →
     me ≡ alone (first_of me.0) → get_elem? s.views id ≡ some (first_of me.0 ∷ []) →
-    (first_of me.0).phase ≡ Loading version xs → length xs ≡ shape.width → (b : Bool) →
-    eqb (get_or s.words 0 0) (word_with shape.limits.layout version false) ≡ b →
+    (first_of me.0).phase ≡ Loading puts_before xs → length xs ≡ shape.width → (b : Bool) →
+    eqb (get_or s.words 0 0) (word_with shape.limits.layout puts_before false) ≡ b →
     Leaves enterable P shape s id me 0 (get_or s.words 0 0) (λ m. MatchBool b
     (Confirmed shape (first_of me.0) (get_or s.words 0 0) m P xs)
     (Overtaken shape (first_of me.0) (get_or s.words 0 0) m))
-confirm_at P shape s r id me version xs is here loading long true e =
+confirm_at P shape s r id me puts_before xs is here loading long true e =
     let v : RecordPassView = first_of me.0 in
     let w = calling (finding v (get_or s.words 0 0)) r.log (get_of xs) in
-    let t = confirms P shape s r id v here version xs loading long (eqb-true _ _ e) in
+    let t = confirms P shape s r id v here puts_before xs loading long (eqb-true _ _ e) in
     load_leaves P shape s id me 0 w (λ m. Confirmed shape v (get_or s.words 0 0) m P xs) t.0 (record {
       log = r.log;
       content = t.2;
-      obeys = t.3;
+      rule = t.3;
       left = leaves_now P shape s r id v here;
       after = λ i. (w ∷ [], (is i).1);
       consistent = t.1;
     })
-confirm_at P shape s r id me version xs is here loading long false e =
+confirm_at P shape s r id me puts_before xs is here loading long false e =
     let v : RecordPassView = first_of me.0 in
     let word : ℕ = get_or s.words 0 0 in
-    load_knows P shape s r id me is here (loading_quiet P shape s r id v here version xs loading)
+    load_knows P shape s r id me is here (loading_quiet P shape s r id v here puts_before xs loading)
     (stopping (finding v word)) refl refl refl
-    (stopping_brings P shape s r id v here version xs loading word)
+    (stopping_brings P shape s r id v here puts_before xs loading word)
 
 pub allows_confirm : {enterable : Bool} (P : List ℕ → Type 0) (shape : RecordShape) (slots id : ℕ) (me : Seated)
-    (version : ℕ)
-    (xs : List ℕ) → me ≡ alone (first_of me.0) → (first_of me.0).phase ≡ Loading version xs →
+    (puts_before : ℕ)
+    (xs : List ℕ) → me ≡ alone (first_of me.0) → (first_of me.0).phase ≡ Loading puts_before xs →
     length xs ≡ shape.width →
     Allows (IsKept enterable P shape) slots id me 0 (λ n. n)
     (ConfirmTells P shape xs (step slots 0 0 0 none) me)
-allows_confirm P shape slots id me version xs is loading long s r _ there _ =
+allows_confirm P shape slots id me puts_before xs is loading long s r _ there _ =
     let v : RecordPassView = first_of me.0 in
     let here : get_elem? s.views id ≡ some (v ∷ []) =
     there ∙ ap (λ (m : Seated). some m.0) is in
     let n : ℕ = get_or s.words 0 0 in
     let layout = shape.limits.layout in
-    let t = confirm_at P shape s r id me version xs is here loading long
-    (eqb n (word_with layout version false)) refl in
-    let same : eqb n (word_with layout version false) ≡ eqb n (word_to_confirm layout v.phase) =
+    let t = confirm_at P shape s r id me puts_before xs is here loading long
+    (eqb n (word_with layout puts_before false)) refl in
+    let same : eqb n (word_with layout puts_before false) ≡ eqb n (word_to_confirm layout v.phase) =
     ap (λ (z : RecordPhase). eqb n (word_to_confirm layout z)) (sym loading) in (
       t.0,
       t.1,

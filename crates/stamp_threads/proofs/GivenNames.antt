@@ -71,21 +71,21 @@ last_or_before (x ∷ xs) (y ∷ ys) a j rest e =
     (λ (p : (more : List ℕ) × (xs ≡ ys ++ j ∷ more)). inr (p.0, λ i. h i ∷ p.1 i))
     (last_or_before xs ys a j rest t)
 
-pub part-after_split : {E P : Type 0} (is_own : E → Bool) (log : List (LogEntry E))
-    (v : PassView E P) → IsPart is_own log v → IsPart is_own log (after_split v)
-part-after_split is_own log v f = record {
+pub part-after_split : {E P : Type 0} (is_call : E → Bool) (log : List (LogEntry E))
+    (v : PassView E P) → IsPart is_call log v → IsPart is_call log (after_split v)
+part-after_split is_call log v f = record {
   known = f.known;
   own = f.own;
   given =
       given_more_all v.name v.splits (v.splits + 1) log (omega arith) f.given;
 }
 
-pub part-split_off : {E P : Type 0} (is_own : E → Bool) (log : List (LogEntry E)) (v : PassView E P) →
-    IsPart is_own log v → IsPart is_own log (split_off v)
-part-split_off is_own log v f = record {
+pub part-split_off : {E P : Type 0} (is_call : E → Bool) (log : List (LogEntry E)) (v : PassView E P) →
+    IsPart is_call log v → IsPart is_call log (split_off v)
+part-split_off is_call log v f = record {
   known = f.known;
   own =
-      child_none is_own v.name v.splits log f.given;
+      child_none is_call v.name v.splits log f.given;
   given =
       child_unused_all v.name v.splits log f.given;
 }

@@ -13,7 +13,7 @@ pub mod NewLock
 pub mod ClosedLock
 pub mod Found
 pub mod CallSteps
-pub mod Underway
+pub mod GoingAsMachine
 pub mod Replying
 pub mod TwoAccesses
 pub mod RecordWords

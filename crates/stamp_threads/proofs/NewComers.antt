@@ -76,11 +76,11 @@ new_none kind m (e ∷ log) r =
     (new_none kind m log r.1)
 
 -- it knows the whole history
-pub new_part : {E P : Type 0} (is_own : E → Bool) (m : ℕ) (phase : P) (log : List (LogEntry E))
-    (word : ℕ) → AreRooted m log → IsPart is_own log (entering m phase log word)
-new_part is_own m phase log word r = record {
+pub new_part : {E P : Type 0} (is_call : E → Bool) (m : ℕ) (phase : P) (log : List (LogEntry E))
+    (word : ℕ) → AreRooted m log → IsPart is_call log (entering m phase log word)
+new_part is_call m phase log word r = record {
   known = begins_all log;
-  own = new_none is_own m log r;
+  own = new_none is_call m log r;
   given = new_unused m log r;
 }
 

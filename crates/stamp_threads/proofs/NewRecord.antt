@@ -35,8 +35,8 @@ pub record_opens : {enterable : Bool} (shape : RecordShape) (first : ℕ) →
     first ≡ word_with shape.limits.layout 0 false → shape.width ≤ 16 → IsKept enterable (λ _. Unit {0}) shape
     (opening (take (shape.width + 1) (first ∷ replicate 16 0)) [] (first_pass ∷ []))
 record_opens shape first is narrow =
-    let cells : List ℕ = take (shape.width + 1) (first ∷ replicate 16 0) in
-    let fits : KnowsPart (λ _. Unit {0}) shape.width cells [] first_pass = record {
+    let table_words : List ℕ = take (shape.width + 1) (first ∷ replicate 16 0) in
+    let fits : KnowsPart (λ _. Unit {0}) shape.width table_words [] first_pass = record {
       part = record { known = begins_all []; own = refl; given = tt };
       marks = refl;
       knows = tt;
@@ -55,8 +55,8 @@ record_opens shape first is narrow =
           (later first (replicate 16 0) i ∙ (get_or-replicate 16 i 0 0 (omega arith) ∙
           sym (get_or-replicate shape.width i 0 0 l)));
       long = length-replicate shape.width 0;
-      obeys = tt;
-      passes = stands_alone (KnowsPart (λ _. Unit {0}) shape.width cells []) [] first_pass refl refl
+      rule = tt;
+      passes = stands_alone (KnowsPart (λ _. Unit {0}) shape.width table_words []) [] first_pass refl refl
           fits tt;
       writer = λ e. absurd (true≢false (sym e));
     }
@@ -89,7 +89,7 @@ module _ (words : List ℕ) where
       first ≡ word_with limits.layout 1 false → 1 ≤ limits.versions → P words →
       IsKept enterable P (record { limits = limits; width = length words })
       (opening (first ∷ words) [] (holder ∷ []))
-  opens_holding P limits first is version good =
+  opens_holding P limits first is version rule =
       let width : ℕ = length words in
       let fits : KnowsPart P width (first ∷ words) log holder = record {
         part = record { known = begins_all log; own = refl; given = none_given };
@@ -107,7 +107,7 @@ module _ (words : List ℕ) where
         fewer = λ e. absurd (true≢false (sym e));
         rests = λ _ i l. later first words i;
         long = refl;
-        obeys = good;
+        rule = rule;
         passes = stands_alone (KnowsPart P width (first ∷ words) log) log holder refl refl fits
             (omega arith, (omega arith, tt));
         writer = λ e. absurd (true≢false (sym e));

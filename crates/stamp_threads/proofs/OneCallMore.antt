@@ -10,8 +10,8 @@ use Rattle.stamp_core.specs.Word.{LockWord, Represents, IsAdmitted}
 use Rattle.stamp_core.specs.Call.{is_lock_call, call_suits}
 use Rattle.stamp_core.specs.Decision.{IsTransition}
 use Rattle.stamp_core.specs.History.{Replies}
-use Rattle.stamp_core.specs.Record.{SuitsRecord}
-use Rattle.stamp_core.specs.Linearized.{IsAnswered, Fits}
+use Rattle.stamp_core.specs.Record.{EntrySuits}
+use Rattle.stamp_core.specs.Linearized.{IsAnswered, MayFollow}
 use Rattle.stamp_core.specs.declared.call.Call.{Call}
 use Rattle.stamp_core.specs.declared.call.Call.TheVariants.{TryWrite, TryRead, WriteLock, ReadLock}
 use Rattle.stamp_core.specs.declared.call.Call.TheVariants.{Optimistic, Validate, UnlockWrite}
@@ -73,7 +73,7 @@ module _ (b : Booked) (thread : ℕ) (call : Call) (is_book : IsBook b) (lock : 
   answered reply replies = rw lock replies
 
   fits : (reply : Reply) → Replies (transition_in b call) reply →
-      Fits b.limits 0 b.entries (entry_made_at (length b.entries) thread call reply)
+      MayFollow b.limits 0 b.entries (entry_made_at (length b.entries) thread call reply)
   fits reply replies = record {
     within = record { begun = omega arith; ended = omega arith };
     rises = λ d some.
@@ -96,7 +96,7 @@ module _ (b : Booked) (thread : ℕ) (call : Call) (is_book : IsBook b) (lock : 
           most = is_book.most;
           room = omega (arith, length-append b.entries (e ∷ []));
           entries = record {
-            suit = All-push (SuitsRecord 0) b.entries e is_book.entries.suit
+            suit = All-push (EntrySuits 0) b.entries e is_book.entries.suit
                 (record { thread = small; call = lock_suits call lock });
             placed = placed_more b.entries e is_book.entries.placed
                 (record { first = refl; point = refl; last = refl });

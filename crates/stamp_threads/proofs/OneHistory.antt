@@ -32,28 +32,28 @@ made_first kind name xs all own a is = (
   sym (made_by-append kind name xs a.0) ∙ (ap (made_by kind name) a.1 ∙ is),
 )
 
-pub agree : {E P : Type 0} (is_own : E → Bool) (IsLegal : List (LogEntry E) → Type 0)
-    (v w : PassView E P) (log : List (LogEntry E)) → IsLegal log → IsPart is_own log v →
-    IsPart is_own log w → v.name ≢ w.name → Agree is_own IsLegal v w
-agree is_own IsLegal v w log legal first second apart = record {
+pub agree : {E P : Type 0} (is_call : E → Bool) (IsLegal : List (LogEntry E) → Type 0)
+    (v w : PassView E P) (log : List (LogEntry E)) → IsLegal log → IsPart is_call log v →
+    IsPart is_call log w → v.name ≢ w.name → Agree is_call IsLegal v w
+agree is_call IsLegal v w log legal first second apart = record {
   log = log;
   legal = legal;
   first = first;
   second = second;
   apart = apart;
   ordered = beginnings_ordered v.known w.known log first.known second.known;
-  first_calls = made_first is_own v.name w.known log v.own second.known first.own;
-  second_calls = made_first is_own w.name v.known log w.own first.known second.own;
+  first_calls = made_first is_call v.name w.known log v.own second.known first.own;
+  second_calls = made_first is_call w.name v.known log w.own first.known second.own;
 }
 
 -- two passes that met knew parts of the history that both know now
-pub met_agree : {E P : Type 0} (is_own : E → Bool) (IsLegal : List (LogEntry E) → Type 0)
+pub met_agree : {E P : Type 0} (is_call : E → Bool) (IsLegal : List (LogEntry E) → Type 0)
     (v w v' w' : PassView E P) → PassesMet v w v' w' → IsLegal v'.known →
-    made_by is_own v'.name v'.known ≡ v'.own → HasGivenAll v'.name v'.splits v'.known →
-    made_by is_own w'.name w'.known ≡ w'.own → HasGivenAll w'.name w'.splits w'.known →
-    Agree is_own IsLegal v w
-met_agree is_own IsLegal v w v' w' m legal first_own first_given second_own second_given =
-    agree is_own IsLegal v w v'.known legal (record {
+    made_by is_call v'.name v'.known ≡ v'.own → HasGivenAll v'.name v'.splits v'.known →
+    made_by is_call w'.name w'.known ≡ w'.own → HasGivenAll w'.name w'.splits w'.known →
+    Agree is_call IsLegal v w
+met_agree is_call IsLegal v w v' w' m legal first_own first_given second_own second_given =
+    agree is_call IsLegal v w v'.known legal (record {
       known = m.first_begins;
       own = rw m.no_calls.0.same.name at first_own ∙ m.no_calls.0.own;
       given = rw (m.no_calls.0.same.name, m.no_calls.0.same.splits) at first_given;

@@ -104,11 +104,8 @@ allows_enter limits slots may s r _ _ =
         record {
           root = r.roots;
           word = get_or s.words 0 0;
+          view = refl;
           represents = r.represents;
-          name = refl;
-          splits = refl;
-          own = refl;
-          found = refl;
           consistent = record { legal = r.legal; own = part.own; given = part.given };
         },
       ),

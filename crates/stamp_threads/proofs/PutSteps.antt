@@ -20,7 +20,7 @@ use Rattle.stamp_threads.specs.declared.record_view.RecordPhase.TheVariants.{Idl
 use Rattle.stamp_threads.specs.PassView.{entry, knowing, finding}
 use Rattle.stamp_threads.specs.Seats.{StandsAt, alone}
 use Rattle.stamp_threads.specs.RecordWord.{word_with, writer_unit}
-use Rattle.stamp_threads.specs.RecordLog.{puts, puts_in, is_locked, is_own}
+use Rattle.stamp_threads.specs.RecordLog.{puts, puts_in, is_locked, is_call}
 use Rattle.stamp_threads.specs.RecordPass.{RecordPassView, Seated, IsConsistentWith, marks_ahead, first_of}
 use Rattle.stamp_threads.specs.RecordRule.{KnowsWriting, Knows, IsWriting, IsKept}
 use Rattle.stamp_threads.specs.RecordRule.{acquiring, calling, put_of, LoadedForPut, Acquired}
@@ -49,10 +49,10 @@ module _ {enterable : Bool} (P : List ℕ → Type 0) (shape : RecordShape) (s :
       length xs ≡ shape.width → P xs →
       KeptBy enterable P shape s id (acquiring (finding v (get_or s.words 0 0)) r.log xs)
       (set s.words 0 held)
-  acquires n held xs idle at is room long good =
+  acquires n held xs idle at is room long rule =
       let w = acquiring (finding v (get_or s.words 0 0)) r.log xs in
       let log' = r.log ++ entry v.name Mark ∷ [] in
-      let cells' : List ℕ = set s.words 0 held in
+      let table_words' : List ℕ = set s.words 0 held in
       let free = free_of shape.limits.layout (is_locked r.log) (puts r.log) n
       (sym at ∙ r.word_is) in
       let f = fits_here P shape s r id v here in
@@ -60,25 +60,25 @@ module _ {enterable : Bool} (P : List ℕ → Type 0) (shape : RecordShape) (s :
       let now = locked_longer r.log v.name Mark in
       let whose = marker_longer r.log v.name Mark in
       let grows = grows_one v r.log Mark in
-      let knows : Knows P shape.width cells' log' v.name w.phase = record {
+      let knows : Knows P shape.width table_words' log' v.name w.phase = record {
         locked = now;
-        version_is = same;
+        puts_are = same;
         marker = whose;
         long = long;
-        obeys = good;
+        rule = rule;
         few = omega arith;
         stand = λ j l. absurd (omega arith);
       } in
       let quiet : marks_ahead v.phase ≡ 0 = ap marks_ahead idle in
       let had = f.marks in
-      let brings : Brings P shape.width cells' log' w = record {
+      let brings : Brings P shape.width table_words' log' w = record {
         known = begins_all log';
-        own = made_by-same is_own v.name r.log Mark ∙ (append-nil _ ∙ f.part.own);
+        own = made_by-same is_call v.name r.log Mark ∙ (append-nil _ ∙ f.part.own);
         marks = (let m = marks_marked v.name r.log in omega arith);
         knows = knows;
       } in
-      let others : OthersKnow P shape s r.log id cells' log' =
-      λ i k u away st h. quiet_knows P shape.width s.words cells' r.log log' u.name u.phase
+      let others : OthersKnow P shape s r.log id table_words' log' =
+      λ i k u away st h. quiet_knows P shape.width s.words table_words' r.log log' u.name u.phase
       (omega (arith, same)) (inl now)
       (λ t. true≢false (sym (locked_by P shape.width s.words r.log u.name u.phase t h).0 ∙ free.0))
       h in
@@ -95,21 +95,21 @@ module _ {enterable : Bool} (P : List ℕ → Type 0) (shape : RecordShape) (s :
         fewer = λ _. (let z = free.1 in omega (arith, same));
         rests = λ e. absurd (true≢false (sym now ∙ e));
         long = ap length (content_marked shape.width r.log v.name) ∙ r.long;
-        obeys = subst P (sym (content_marked shape.width r.log v.name)) r.obeys;
-        passes = one_after P shape s r id v here w refl refl cells' log' grows brings others;
+        rule = subst P (sym (content_marked shape.width r.log v.name)) r.rule;
+        passes = one_after P shape s r id v here w refl refl table_words' log' grows brings others;
         writer = λ _. record {
           seat = id;
           index = 0;
           writer = w;
-          stands = one_stands P shape s r id v here w refl refl cells' log' grows brings others;
+          stands = one_stands P shape s r id v here w refl refl table_words' log' grows brings others;
           writes = tt;
           marker = whose;
         };
       }
 
-  module _ (version stored : ℕ) (xs : List ℕ) (writing : v.phase ≡ Writing version xs stored)
+  module _ (puts_before stored : ℕ) (xs : List ℕ) (writing : v.phase ≡ Writing puts_before xs stored)
     where
-      what : KnowsWriting P shape.width s.words r.log v.name version xs stored
+      what : KnowsWriting P shape.width s.words r.log v.name puts_before xs stored
       what = subst (Knows P shape.width s.words r.log v.name) writing
           (fits_here P shape s r id v here).knows
 
@@ -123,39 +123,39 @@ module _ {enterable : Bool} (P : List ℕ → Type 0) (shape : RecordShape) (s :
           KeptBy enterable P shape s id (stored_one v) (set s.words (stored + 1) x)
       stores x inside right =
           let w = stored_one v in
-          let cells' : List ℕ = set s.words (stored + 1) x in
+          let table_words' : List ℕ = set s.words (stored + 1) x in
           let f = fits_here P shape s r id v here in
           let z = r.wide in
           let grows = grows_none (v ∷ []) r.log in
           let k = what in
-          let more : KnowsWriting P shape.width cells' r.log v.name version xs (stored + 1) = record {
+          let more : KnowsWriting P shape.width table_words' r.log v.name puts_before xs (stored + 1) = record {
             locked = k.locked;
-            version_is = k.version_is;
+            puts_are = k.puts_are;
             marker = k.marker;
             long = k.long;
-            obeys = k.obeys;
+            rule = k.rule;
             few = omega arith;
             stand = λ j l. dite (ℕ_discrete j stored)
-                (λ e. ap (λ (y : ℕ). get_or cells' (y + 1) 0) e ∙
+                (λ e. ap (λ (y : ℕ). get_or table_words' (y + 1) 0) e ∙
                 (get_or-set_same s.words (stored + 1) x 0 (omega arith) ∙
                 (right ∙ ap (λ (y : ℕ). get_or xs y 0) (sym e))))
                 (λ ne. get_or-set_other s.words (stored + 1) (j + 1) x 0 (λ e. ne (omega arith)) ∙
                 k.stand j (omega arith));
           } in
-          let knows : Knows P shape.width cells' r.log v.name w.phase =
-          subst (Knows P shape.width cells' r.log v.name) (sym (ap storing_one writing)) more in
+          let knows : Knows P shape.width table_words' r.log v.name w.phase =
+          subst (Knows P shape.width table_words' r.log v.name) (sym (ap storing_one writing)) more in
           let ahead : marks_ahead v.phase ≡ marks_ahead w.phase =
           ap marks_ahead writing ∙
           sym (ap (λ (p : RecordPhase). marks_ahead (storing_one p)) writing) in
-          let brings : Brings P shape.width cells' r.log w = record {
+          let brings : Brings P shape.width table_words' r.log w = record {
             known = f.part.known;
             own = f.part.own;
             marks = f.marks ∙ ap (λ (n : ℕ). puts_in v.own + n)
                 ahead;
             knows = knows;
           } in
-          let others : OthersKnow P shape s r.log id cells' r.log =
-          λ i j u away st h. quiet_knows P shape.width s.words cells' r.log r.log u.name u.phase
+          let others : OthersKnow P shape s r.log id table_words' r.log =
+          λ i j u away st h. quiet_knows P shape.width s.words table_words' r.log r.log u.name u.phase
           (le_refl (puts r.log)) (inl k.locked) (alone_writes i j u away st h) h in
           record {
             log = r.log;
@@ -168,30 +168,30 @@ module _ {enterable : Bool} (P : List ℕ → Type 0) (shape : RecordShape) (s :
             fewer = r.fewer;
             rests = λ e. absurd (true≢false (sym k.locked ∙ e));
             long = r.long;
-            obeys = r.obeys;
-            passes = one_after P shape s r id v here w refl refl cells' r.log grows brings others;
+            rule = r.rule;
+            passes = one_after P shape s r id v here w refl refl table_words' r.log grows brings others;
             writer = λ _. record {
               seat = id;
               index = 0;
               writer = w;
-              stands = one_stands P shape s r id v here w refl refl cells' r.log grows brings others;
+              stands = one_stands P shape s r id v here w refl refl table_words' r.log grows brings others;
               writes = subst IsWriting (sym (ap storing_one writing)) tt;
               marker = k.marker;
             };
           }
 
   -- the words are the record's
-  releases : (version free : ℕ) (xs : List ℕ) → v.phase ≡ Writing version xs shape.width →
-      free ≡ word_with shape.limits.layout (version + 1) false →
+  releases : (puts_before free : ℕ) (xs : List ℕ) → v.phase ≡ Writing puts_before xs shape.width →
+      free ≡ word_with shape.limits.layout (puts_before + 1) false →
       (held : ℕ) →
       KeptBy enterable P shape s id (calling (finding v held) r.log (put_of xs)) (set s.words 0 free) ×
       IsConsistentWith shape.width (calling (finding v held) r.log (put_of xs))
-  releases version free xs writing is held =
+  releases puts_before free xs writing is held =
       let w = calling (finding v held) r.log (put_of xs) in
       let log' = r.log ++ entry v.name (put_of xs) ∷ [] in
-      let cells' : List ℕ = set s.words 0 free in
+      let table_words' : List ℕ = set s.words 0 free in
       let f = fits_here P shape s r id v here in
-      let k = what version shape.width xs writing in
+      let k = what puts_before shape.width xs writing in
       let z = r.wide in
       let more = puts_put r.log v.name xs in
       let now = locked_longer r.log v.name (put_of xs) in
@@ -199,18 +199,18 @@ module _ {enterable : Bool} (P : List ℕ → Type 0) (shape : RecordShape) (s :
       let grows = grows_one v r.log (put_of xs) in
       let ahead : marks_ahead v.phase ≡ 1 = ap marks_ahead writing in
       let had = f.marks in
-      let brings : Brings P shape.width cells' log' w = record {
+      let brings : Brings P shape.width table_words' log' w = record {
         known = begins_all log';
-        own = made_by-same is_own v.name r.log (put_of xs) ∙
+        own = made_by-same is_call v.name r.log (put_of xs) ∙
             ap (λ (l : List RecordEvent). l ++ put_of xs ∷ []) f.part.own;
         marks = (let m = marks_called v.name r.log (Put xs) Done in
             let p = puts_in_put v.own xs in omega arith);
         knows = tt;
       } in
-      let others : OthersKnow P shape s r.log id cells' log' =
-      λ i j u away st h. quiet_knows P shape.width s.words cells' r.log log' u.name u.phase
+      let others : OthersKnow P shape s r.log id table_words' log' =
+      λ i j u away st h. quiet_knows P shape.width s.words table_words' r.log log' u.name u.phase
       (omega (arith, more)) (inr (omega (arith, more)))
-      (alone_writes version shape.width xs writing i j u away st h) h in
+      (alone_writes puts_before shape.width xs writing i j u away st h) h in
       let legal = legal_longer shape.width r.log v.name (Put xs) Done refl refl r.legal in (
         record {
           log = log';
@@ -219,18 +219,18 @@ module _ {enterable : Bool} (P : List ℕ → Type 0) (shape : RecordShape) (s :
           legal = legal;
           wide = length-set s.words 0 free ∙ r.wide;
           word_is = get_or-set_same s.words 0 free 0 (omega arith) ∙
-              (is ∙ sym (same_word shape.limits.layout (puts log') (version + 1) (is_locked log')
-              false (more ∙ ap (λ (y : ℕ). y + 1) k.version_is) now));
+              (is ∙ sym (same_word shape.limits.layout (puts log') (puts_before + 1) (is_locked log')
+              false (more ∙ ap (λ (y : ℕ). y + 1) k.puts_are) now));
           few = (let l = r.fewer k.locked in omega (arith, more));
           fewer = λ e. absurd (true≢false (sym e ∙ now));
           rests = λ _ i l. get_or-set_other s.words 0 (i + 1) free 0 (λ e. omega arith) ∙
               (k.stand i l ∙ ap (λ (c : List ℕ). get_or c i 0) (sym holds));
           long = ap length holds ∙ k.long;
-          obeys = subst P (sym holds) k.obeys;
-          passes = one_after P shape s r id v here w refl refl cells' log' grows brings others;
+          rule = subst P (sym holds) k.rule;
+          passes = one_after P shape s r id v here w refl refl table_words' log' grows brings others;
           writer = λ e. absurd (true≢false (sym e ∙ now));
         },
-        one_consistent P shape s r id v here w refl refl cells' log' grows brings others legal refl,
+        one_consistent P shape s r id v here w refl refl table_words' log' grows brings others legal refl,
       )
 
 -- a load that a put begins with
@@ -264,7 +264,7 @@ acquire_at : {enterable : Bool} (P : List ℕ → Type 0) (shape : RecordShape)
     Leaves enterable P shape s id me 0 (either b held (get_or s.words 0 0)) (λ m. MatchBool b
     (Acquired shape (first_of me.0) (get_or s.words 0 0) m xs)
     (LoadedForPut shape (first_of me.0) (get_or s.words 0 0) m))
-acquire_at P shape s r id me n old held xs is idle here free up room long good true e =
+acquire_at P shape s r id me n old held xs is idle here free up room long rule true e =
     let v : RecordPassView = first_of me.0 in
     let w = acquiring (finding v (get_or s.words 0 0)) r.log xs in
     let hit : get_or s.words 0 0 ≡ old = eqb-true _ _ e in
@@ -274,14 +274,14 @@ acquire_at P shape s r id me n old held xs is idle here free up room long good t
       w ∷ [],
       keeps,
       tt,
-      acquires P shape s r id v here n held xs idle (hit ∙ free) up' room long good,
+      acquires P shape s r id v here n held xs idle (hit ∙ free) up' room long rule,
       record {
         log = r.log;
         left = leaves_now P shape s r id v here;
         after = λ i. (w ∷ [], (is i).1);
       },
     )
-acquire_at P shape s r id me n old held xs is idle here free up room long good false e =
+acquire_at P shape s r id me n old held xs is idle here free up room long rule false e =
     load_for_put_at P shape s r id me is idle here
 
 pub allows_acquire : {enterable : Bool} (P : List ℕ → Type 0) (shape : RecordShape) (slots id : ℕ) (me : Seated)
@@ -292,51 +292,51 @@ pub allows_acquire : {enterable : Bool} (P : List ℕ → Type 0) (shape : Recor
     length xs ≡ shape.width → P xs →
     Allows (IsKept enterable P shape) slots id me 0 (λ m. either (m == old) held m)
     (AcquireTells shape xs (step slots 0 old held none) me)
-allows_acquire P shape slots id me n old held xs is idle free up room long good s r _ at _ =
+allows_acquire P shape slots id me n old held xs is idle free up room long rule s r _ at _ =
     acquire_at P shape s r id me n old held xs is idle (at ∙ ap (λ (m : Seated). some m.0) is) free
-    up room long good (eqb (get_or s.words 0 0) old) refl
+    up room long rule (eqb (get_or s.words 0 0) old) refl
 
 -- a store of a word of the record
 pub allows_store_word : {enterable : Bool} (P : List ℕ → Type 0) (shape : RecordShape) (slots id : ℕ) (me : Seated)
-    (version stored x : ℕ)
+    (puts_before stored x : ℕ)
     (xs : List ℕ) → me ≡ alone (first_of me.0) →
-    (first_of me.0).phase ≡ Writing version xs stored → stored < shape.width →
+    (first_of me.0).phase ≡ Writing puts_before xs stored → stored < shape.width →
     x ≡ get_or xs stored 0 →
     Allows (IsKept enterable P shape) slots id me (stored + 1) (λ _. x)
     (λ _. StoreWordTells (step slots (stored + 1) x 0 none) me x)
-allows_store_word P shape slots id me version stored x xs is writing inside right s r _ there _ =
+allows_store_word P shape slots id me puts_before stored x xs is writing inside right s r _ there _ =
     let v : RecordPassView = first_of me.0 in
     let here : get_elem? s.views id ≡ some (v ∷ []) =
     there ∙ ap (λ (m : Seated). some m.0) is in (
       stored_one v ∷ [],
       keeps,
       tt,
-      stores P shape s r id v here version stored xs writing x inside right,
+      stores P shape s r id v here puts_before stored xs writing x inside right,
       λ i. (stored_one v ∷ [], (is i).1),
     )
 
 -- the exchange that releases
 pub allows_release : (enterable : Bool) (P : List ℕ → Type 0) (shape : RecordShape) (slots id : ℕ) (me : Seated)
-    (version held free : ℕ)
+    (puts_before held free : ℕ)
     (xs : List ℕ) → me ≡ alone (first_of me.0) →
-    (first_of me.0).phase ≡ Writing version xs shape.width →
-    held ≡ word_with shape.limits.layout version true →
+    (first_of me.0).phase ≡ Writing puts_before xs shape.width →
+    held ≡ word_with shape.limits.layout puts_before true →
     free ≡ held + writer_unit shape.limits.layout →
     Allows (IsKept enterable P shape) slots id me 0 (λ m. either (m == held) free m)
     (ReleaseTells shape xs (step slots 0 held free none) me)
-allows_release enterable P shape slots id me version held free xs is writing down up s r _ there _ =
+allows_release enterable P shape slots id me puts_before held free xs is writing down up s r _ there _ =
     let v : RecordPassView = first_of me.0 in
     let here : get_elem? s.views id ≡ some (v ∷ []) =
     there ∙ ap (λ (m : Seated). some m.0) is in
     let w = calling (finding v held) r.log (put_of xs) in
-    let k = what P shape s r id v here version shape.width xs writing in
+    let k = what P shape s r id v here puts_before shape.width xs writing in
     let same : get_or s.words 0 0 ≡ held =
-    r.word_is ∙ (same_word shape.limits.layout (puts r.log) version (is_locked r.log) true
-    k.version_is k.locked ∙ sym down) in
-    let up' : free ≡ word_with shape.limits.layout (version + 1) false =
+    r.word_is ∙ (same_word shape.limits.layout (puts r.log) puts_before (is_locked r.log) true
+    k.puts_are k.locked ∙ sym down) in
+    let up' : free ≡ word_with shape.limits.layout (puts_before + 1) false =
     up ∙ (ap (λ (y : ℕ). y + writer_unit shape.limits.layout) down ∙
-    sym (released_is shape.limits.layout version)) in
-    let t = releases P shape s r id v here version free xs writing up' held in (
+    sym (released_is shape.limits.layout puts_before)) in
+    let t = releases P shape s r id v here puts_before free xs writing up' held in (
       w ∷ [],
       keeps,
       tt,

@@ -13,7 +13,7 @@ use Rattle.stamp_threads.specs.declared.record_view.RecordPhase.TheVariants.{Idl
 use Rattle.stamp_threads.specs.PassName.{HasGivenAll}
 use Rattle.stamp_threads.specs.PassView.{knowing, after_split, split_off, entering}
 use Rattle.stamp_threads.specs.Seats.{StandsAt, alone, both}
-use Rattle.stamp_threads.specs.RecordLog.{RecordLog, is_own, is_mark, marks_of}
+use Rattle.stamp_threads.specs.RecordLog.{RecordLog, is_call, is_mark, marks_of}
 use Rattle.stamp_threads.specs.RecordPass.{RecordPassView, Seated, IsConsistentWith, IsConsistentIn}
 use Rattle.stamp_threads.specs.RecordPass.{marks_ahead, HasEntered, first_of, second_of}
 use Rattle.stamp_threads.specs.RecordRule.{Knows, KnowsPart, IsWriting, HasWriter, IsKept}
@@ -29,14 +29,14 @@ use Rattle.stamp_threads.proofs.SeatMoves.{gives, together, parted, stands_else,
 use Rattle.stamp_threads.proofs.RecordSteps.{Brings, with_views, passes_after, consistent_after}
 use Rattle.stamp_threads.proofs.RecordSteps.{writer_in, idle_quiet}
 
-idle_knows : (P : List ℕ → Type 0) (width : ℕ) (cells : List ℕ) (log : RecordLog) (name : List ℕ)
-    (phase : RecordPhase) → phase ≡ Idle → Knows P width cells log name phase
-idle_knows P width cells log name phase e = subst (Knows P width cells log name) (sym e) tt
+idle_knows : (P : List ℕ → Type 0) (width : ℕ) (table_words : List ℕ) (log : RecordLog) (name : List ℕ)
+    (phase : RecordPhase) → phase ≡ Idle → Knows P width table_words log name phase
+idle_knows P width table_words log name phase e = subst (Knows P width table_words log name) (sym e) tt
 
-fits-after_split : (P : List ℕ → Type 0) (width : ℕ) (cells : List ℕ) (log : RecordLog) (v : RecordPassView) →
-    KnowsPart P width cells log v → KnowsPart P width cells log (after_split v)
-fits-after_split P width cells log v f = record {
-  part = part-after_split is_own log v f.part;
+fits-after_split : (P : List ℕ → Type 0) (width : ℕ) (table_words : List ℕ) (log : RecordLog) (v : RecordPassView) →
+    KnowsPart P width table_words log v → KnowsPart P width table_words log (after_split v)
+fits-after_split P width table_words log v f = record {
+  part = part-after_split is_call log v f.part;
   marks = f.marks;
   knows = f.knows;
 }
@@ -50,12 +50,12 @@ no_marks log v h idle =
     let f : marks_ahead v.phase ≡ 0 = ap marks_ahead idle in
     omega arith
 
-fits-split_off : (P : List ℕ → Type 0) (width : ℕ) (cells : List ℕ) (log : RecordLog) (v : RecordPassView) →
-    v.phase ≡ Idle → KnowsPart P width cells log v → KnowsPart P width cells log (split_off v)
-fits-split_off P width cells log v idle f = record {
-  part = part-split_off is_own log v f.part;
+fits-split_off : (P : List ℕ → Type 0) (width : ℕ) (table_words : List ℕ) (log : RecordLog) (v : RecordPassView) →
+    v.phase ≡ Idle → KnowsPart P width table_words log v → KnowsPart P width table_words log (split_off v)
+fits-split_off P width table_words log v idle f = record {
+  part = part-split_off is_call log v f.part;
   marks = no_marks log v f.part.given idle;
-  knows = idle_knows P width cells log (split_off v).name v.phase idle;
+  knows = idle_knows P width table_words log (split_off v).name v.phase idle;
 }
 
 -- the writer stands on no seat whose passes are idle
@@ -135,7 +135,7 @@ splits_consistent width v idle c = (
   },
   record {
     legal = c.legal;
-    own = child_none is_own v.name v.splits v.known c.given;
+    own = child_none is_call v.name v.splits v.known c.given;
     marks = no_marks v.known v c.given idle;
     given = child_unused_all v.name v.splits v.known c.given;
   },
@@ -252,7 +252,7 @@ pub allows_enter : {enterable : Bool} (P : List ℕ → Type 0) (shape : RecordS
     (λ n w. ((w, []) ≡ alone (first_of w)) × HasEntered shape (first_of w))
 allows_enter P shape slots may s r _ _ =
     let v : RecordPassView = entering r.roots Idle r.log (get_or s.words 0 0) in
-    let part = new_part is_own r.roots Idle r.log (get_or s.words 0 0) r.passes.entries in
+    let part = new_part is_call r.roots Idle r.log (get_or s.words 0 0) r.passes.entries in
     let marks = ap length (new_none is_mark r.roots r.log r.passes.entries) in
     let fits : KnowsPart P shape.width s.words r.log v =
     record { part = part; marks = marks; knows = tt } in (
@@ -267,12 +267,8 @@ allows_enter P shape slots may s r _ _ =
         record {
           root = r.roots;
           word = get_or s.words 0 0;
+          view = refl;
           word_is = r.word_is;
-          name = refl;
-          splits = refl;
-          own = refl;
-          found = refl;
-          idle = refl;
           consistent = record {
             legal = r.legal;
             own = part.own;

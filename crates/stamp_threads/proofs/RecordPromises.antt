@@ -212,8 +212,8 @@ module _ (shape : RecordShape) (v : RecordPassView) (loaded : ℕ) where
   -- what the pass knows when it has loaded the words
   module _ (P : List ℕ → Type 0) (me me2 : Seated) (words : List ℕ) (t : LoadedForGet shape v loaded me)
       (test : HeldTest shape loaded false)
-      (loads : (version : ℕ) → (first_of me.0).phase ≡ Loading version [] →
-      me2 ≡ alone (with_phase (first_of me.0) (Loading version words))) where
+      (loads : (puts_before : ℕ) → (first_of me.0).phase ≡ Loading puts_before [] →
+      me2 ≡ alone (with_phase (first_of me.0) (Loading puts_before words))) where
     free_now : is_locked t.log ≡ false
     free_now = is_free shape v loaded t.log t.left test
 
@@ -282,12 +282,12 @@ module _ (shape : RecordShape) (v : RecordPassView) (loaded : ℕ) where
               ap (λ (n : ℕ). v.found ++ loaded ∷ n ∷ []) same;
         })
 
-    get_obeys : (found : ℕ) (me3 : Seated) → Learned found me3 (first_of me2.0) → found ≡ loaded →
+    get_rule : (found : ℕ) (me3 : Seated) → Learned found me3 (first_of me2.0) → found ≡ loaded →
         P words
-    get_obeys found me3 learned same =
+    get_rule found me3 learned same =
         let o : Confirmed shape reads found me3 P words =
         learned_by found me3 true (eq-eqb found loaded same) learned in
-        o.obeys
+        o.rule
 
   put_made : (me me2 me3 me4 : Seated) (words : List ℕ) (found held : ℕ)
       (t : LoadedForPut shape v loaded me) (got : Acquired shape (first_of me.0) found me2 words) →
@@ -400,8 +400,8 @@ module _ (key shape : RecordShape) (same : key ≡ shape) (v : RecordPassView) (
 
   module _ (P : List ℕ → Type 0) (me me2 : Seated) (words : List ℕ) (t : LoadedForGet key v loaded me)
       (test : HeldTest shape loaded false)
-      (loads : (version : ℕ) → (first_of me.0).phase ≡ Loading version [] →
-      me2 ≡ alone (with_phase (first_of me.0) (Loading version words))) (found : ℕ)
+      (loads : (puts_before : ℕ) → (first_of me.0).phase ≡ Loading puts_before [] →
+      me2 ≡ alone (with_phase (first_of me.0) (Loading puts_before words))) (found : ℕ)
       (me3 : Seated)
       (learned : MatchBool
       (eqb found (word_to_confirm key.limits.layout (first_of me2.0).phase))
@@ -419,10 +419,10 @@ module _ (key shape : RecordShape) (same : key ≡ shape) (v : RecordPassView) (
         MadeOnRecord z Get (Content words) v (first_of me3.0)) same
         (λ f. get_made key v loaded P me me2 words t f loads found me3 learned hit) test
 
-    pub get_obeys_of : found ≡ loaded → P words
-    get_obeys_of hit =
+    pub get_rule_of : found ≡ loaded → P words
+    get_rule_of hit =
         subst (λ (z : RecordShape). HeldTest z loaded false → P words) same
-        (λ f. get_obeys key v loaded P me me2 words t f loads found me3 learned hit) test
+        (λ f. get_rule key v loaded P me me2 words t f loads found me3 learned hit) test
 
 -- the same where the code has a copy of the table's key
 pub acquired_word_of : (key shape : RecordShape) → key ≡ shape → (v : RecordPassView)

@@ -15,7 +15,7 @@ use Rattle.stamp_threads.specs.PassName.{HasGivenAll}
 use Rattle.stamp_threads.specs.PassView.{made_by, knowing, finding}
 use Rattle.stamp_threads.specs.Seats.{StandsAt, AreSeated, alone}
 use Rattle.stamp_threads.specs.RecordLog.{RecordLog, IsLegalLog, puts, puts_in, is_locked}
-use Rattle.stamp_threads.specs.RecordLog.{marker_in, content_in, is_own, is_mark, marks_of}
+use Rattle.stamp_threads.specs.RecordLog.{marker_in, content_in, is_call, is_mark, marks_of}
 use Rattle.stamp_threads.specs.RecordPass.{RecordPassView, Seated, IsConsistentWith}
 use Rattle.stamp_threads.specs.RecordPass.{LeavesWord, marks_ahead, first_of}
 use Rattle.stamp_threads.specs.RecordRule.{Knows, KnowsPart, IsWriting}
@@ -28,19 +28,19 @@ use Rattle.stamp_threads.proofs.SeatSteps.{other_part}
 use Rattle.stamp_threads.proofs.SeatMoves.{stands_else}
 
 -- what a pass of the seat that makes the step knows afterwards
-pub record Brings (P : List ℕ → Type 0) (width : ℕ) (cells : List ℕ) (log : RecordLog)
+pub record Brings (P : List ℕ → Type 0) (width : ℕ) (table_words : List ℕ) (log : RecordLog)
     (w : RecordPassView) : Type 0 where
   pub known : IsPrefix w.known log
-  pub own : made_by is_own w.name log ≡ w.own
+  pub own : made_by is_call w.name log ≡ w.own
   pub marks : marks_of w.name log ≡ puts_in w.own + marks_ahead w.phase
-  pub knows : Knows P width cells log w.name w.phase
+  pub knows : Knows P width table_words log w.name w.phase
 
 -- every other pass knows what it knows still
 abbrev pub OthersKnow : (List ℕ → Type 0) → RecordShape → State (Unit {0}) (List RecordPassView) → RecordLog → ℕ →
     List ℕ → RecordLog → Type 0
-OthersKnow P shape s log id cells' log' = (i k : ℕ) (u : RecordPassView) → i ≢ id →
+OthersKnow P shape s log id table_words' log' = (i k : ℕ) (u : RecordPassView) → i ≢ id →
     StandsAt s.views i k u → Knows P shape.width s.words log u.name u.phase →
-    Knows P shape.width cells' log' u.name u.phase
+    Knows P shape.width table_words' log' u.name u.phase
 
 -- the writer stands at its index in other views, too
 pub writer_in : (log : RecordLog) (views views' : List (List RecordPassView)) (t : HasWriter log views) →
@@ -72,7 +72,7 @@ with_views P shape s r roots one_root views passes writer = record {
   fewer = r.fewer;
   rests = r.rests;
   long = r.long;
-  obeys = r.obeys;
+  rule = r.rule;
   passes = passes;
   writer = writer;
 }
@@ -80,20 +80,20 @@ with_views P shape s r roots one_root views passes writer = record {
 module _ {enterable : Bool} (P : List ℕ → Type 0) (shape : RecordShape) (s : State (Unit {0}) (List RecordPassView))
     (r : IsKept enterable P shape s)
     (id : ℕ) (vs ws : List RecordPassView) (at : get_elem? s.views id ≡ some vs)
-    (same : Same vs ws) (cells' : List ℕ) (log' : RecordLog) (grows : Grows vs r.log log')
+    (same : Same vs ws) (table_words' : List ℕ) (log' : RecordLog) (grows : Grows vs r.log log')
     (brings : (k : ℕ) (w : RecordPassView) → get_elem? ws k ≡ some w →
-    Brings P shape.width cells' log' w) (others : OthersKnow P shape s r.log id cells' log') where
+    Brings P shape.width table_words' log' w) (others : OthersKnow P shape s r.log id table_words' log') where
   abbrev Now : RecordPassView → Type 0
   Now = KnowsPart P shape.width s.words r.log
 
   own_fits : (k : ℕ) (w : RecordPassView) → get_elem? ws k ≡ some w →
-      KnowsPart P shape.width cells' log' w
+      KnowsPart P shape.width table_words' log' w
   own_fits k w h = let b = brings k w h in
       record {
         part = record {
           known = b.known;
           own = b.own;
-          given = own_given Now r.roots r.log s.views r.passes id vs ws at same is_own log' grows
+          given = own_given Now r.roots r.log s.views r.passes id vs ws at same is_call log' grows
               (λ v f. f.part) k w h;
         };
         marks = b.marks;
@@ -101,20 +101,20 @@ module _ {enterable : Bool} (P : List ℕ → Type 0) (shape : RecordShape) (s :
       }
 
   other_fits : (i k : ℕ) (u : RecordPassView) → i ≢ id → StandsAt s.views i k u →
-      KnowsPart P shape.width cells' log' u
+      KnowsPart P shape.width table_words' log' u
   other_fits i k u away st =
       let f = r.passes.fits i k u st in
       let apart = apart_from Now r.roots r.log s.views r.passes id vs ws at same i k u away st in
       record {
-        part = other_part Now r.roots r.log s.views r.passes id vs ws at same is_own log' grows
+        part = other_part Now r.roots r.log s.views r.passes id vs ws at same is_call log' grows
             (λ v g. g.part) i k u away st;
         marks = ap length (grows.others is_mark u.name apart) ∙ f.marks;
         knows = others i k u away st f.knows;
       }
 
-  pub passes_after : AreSeated (KnowsPart P shape.width cells' log') r.roots log' (set s.views id ws)
+  pub passes_after : AreSeated (KnowsPart P shape.width table_words' log') r.roots log' (set s.views id ws)
   passes_after = stands_on Now r.roots r.log s.views r.passes id vs ws at same
-      (KnowsPart P shape.width cells' log') log' grows own_fits other_fits
+      (KnowsPart P shape.width table_words' log') log' grows own_fits other_fits
 
   pub consistent_after : IsLegalLog shape.width log' → (k : ℕ) (w : RecordPassView) →
       get_elem? ws k ≡ some w → w.known ≡ log' → IsConsistentWith shape.width w
@@ -122,7 +122,7 @@ module _ {enterable : Bool} (P : List ℕ → Type 0) (shape : RecordShape) (s :
       let f = own_fits k w h in
       record {
         legal = subst (IsLegalLog shape.width) (sym e) legal;
-        own = ap (made_by is_own w.name) e ∙ f.part.own;
+        own = ap (made_by is_call w.name) e ∙ f.part.own;
         marks = ap (marks_of w.name) e ∙ f.marks;
         given = subst (HasGivenAll w.name w.splits) (sym e) f.part.given;
       }
@@ -182,19 +182,19 @@ module _ {enterable : Bool} (P : List ℕ → Type 0) (shape : RecordShape) (s :
         (away_from t.seat t.index t.writer t.stands t.writes) t.stands)
 
   module _ (w : RecordPassView) (name : w.name ≡ v.name) (splits : w.splits ≡ v.splits)
-      (cells' : List ℕ) (log' : RecordLog) (grows : Grows (v ∷ []) r.log log')
-      (brings : Brings P shape.width cells' log' w)
-      (others : OthersKnow P shape s r.log id cells' log') where
-    pub one_after : AreSeated (KnowsPart P shape.width cells' log') r.roots log'
+      (table_words' : List ℕ) (log' : RecordLog) (grows : Grows (v ∷ []) r.log log')
+      (brings : Brings P shape.width table_words' log' w)
+      (others : OthersKnow P shape s r.log id table_words' log') where
+    pub one_after : AreSeated (KnowsPart P shape.width table_words' log') r.roots log'
         (set s.views id (w ∷ []))
-    one_after = passes_after P shape s r id (v ∷ []) (w ∷ []) here (same_one v w name splits) cells'
-        log' grows (only_one (λ _ u. Brings P shape.width cells' log' u) w brings) others
+    one_after = passes_after P shape s r id (v ∷ []) (w ∷ []) here (same_one v w name splits) table_words'
+        log' grows (only_one (λ _ u. Brings P shape.width table_words' log' u) w brings) others
 
     pub one_consistent : IsLegalLog shape.width log' → w.known ≡ log' →
         IsConsistentWith shape.width w
     one_consistent legal = consistent_after P shape s r id (v ∷ []) (w ∷ []) here
-        (same_one v w name splits) cells' log' grows
-        (only_one (λ _ u. Brings P shape.width cells' log' u) w brings) others legal 0 w refl
+        (same_one v w name splits) table_words' log' grows
+        (only_one (λ _ u. Brings P shape.width table_words' log' u) w brings) others legal 0 w refl
 
     pub one_stands : StandsAt (set s.views id (w ∷ [])) id 0 w
     one_stands =
@@ -227,22 +227,22 @@ module _ {enterable : Bool} (P : List ℕ → Type 0) (shape : RecordShape) (s :
         knows = f.knows;
       }
 
-pub locked_by : (P : List ℕ → Type 0) (width : ℕ) (cells : List ℕ) (log : RecordLog) (name : List ℕ)
-    (phase : RecordPhase) → IsWriting phase → Knows P width cells log name phase →
+pub locked_by : (P : List ℕ → Type 0) (width : ℕ) (table_words : List ℕ) (log : RecordLog) (name : List ℕ)
+    (phase : RecordPhase) → IsWriting phase → Knows P width table_words log name phase →
     (is_locked log ≡ true) × (marker_in log ≡ name)
-locked_by P width cells log name Idle w h = absurd w
-locked_by P width cells log name (Writing version words stored) w h = (h.locked, h.marker)
-locked_by P width cells log name (Loading version words) w h = absurd w
+locked_by P width table_words log name Idle w h = absurd w
+locked_by P width table_words log name (Writing puts_before words stored) w h = (h.locked, h.marker)
+locked_by P width table_words log name (Loading puts_before words) w h = absurd w
 
 -- a pass that doesn't write knows nothing of a locked record, nor of later versions
-pub quiet_knows : (P : List ℕ → Type 0) (width : ℕ) (cells cells' : List ℕ) (log log' : RecordLog) (name : List ℕ)
-    (phase : RecordPhase) → puts log ≤ puts log' →
+pub quiet_knows : (P : List ℕ → Type 0) (width : ℕ) (table_words table_words' : List ℕ) (log log' : RecordLog)
+    (name : List ℕ) (phase : RecordPhase) → puts log ≤ puts log' →
     (is_locked log' ≡ true) ⊎ (puts log < puts log') → (IsWriting phase → ⊥) →
-    Knows P width cells log name phase → Knows P width cells' log' name phase
-quiet_knows P width cells cells' log log' name Idle le why quiet h = tt
-quiet_knows P width cells cells' log log' name (Writing version words stored) le why quiet h =
+    Knows P width table_words log name phase → Knows P width table_words' log' name phase
+quiet_knows P width table_words table_words' log log' name Idle le why quiet h = tt
+quiet_knows P width table_words table_words' log log' name (Writing puts_before words stored) le why quiet h =
     absurd (quiet tt)
-quiet_knows P width cells cells' log log' name (Loading version words) le why quiet h =
+quiet_knows P width table_words table_words' log log' name (Loading puts_before words) le why quiet h =
     let a = h.before in
     record {
       before = omega arith;
@@ -252,21 +252,21 @@ quiet_knows P width cells cells' log log' name (Loading version words) le why qu
     }
 
 -- an event that changes neither lock nor content
-pub same_knows : (P : List ℕ → Type 0) (width : ℕ) (cells : List ℕ) (log log' : RecordLog) (name : List ℕ)
+pub same_knows : (P : List ℕ → Type 0) (width : ℕ) (table_words : List ℕ) (log log' : RecordLog) (name : List ℕ)
     (phase : RecordPhase) → puts log' ≡ puts log → is_locked log' ≡ is_locked log →
     marker_in log' ≡ marker_in log → content_in width log' ≡ content_in width log →
-    Knows P width cells log name phase → Knows P width cells log' name phase
-same_knows P width cells log log' name Idle p l m c h = tt
-same_knows P width cells log log' name (Writing version words stored) p l m c h = record {
+    Knows P width table_words log name phase → Knows P width table_words log' name phase
+same_knows P width table_words log log' name Idle p l m c h = tt
+same_knows P width table_words log log' name (Writing puts_before words stored) p l m c h = record {
   locked = l ∙ h.locked;
-  version_is = p ∙ h.version_is;
+  puts_are = p ∙ h.puts_are;
   marker = m ∙ h.marker;
   long = h.long;
-  obeys = h.obeys;
+  rule = h.rule;
   few = h.few;
   stand = h.stand;
 }
-same_knows P width cells log log' name (Loading version words) p l m c h =
+same_knows P width table_words log log' name (Loading puts_before words) p l m c h =
     let a = h.before in
     record {
       before = omega arith;

@@ -77,8 +77,8 @@ module _ {E P : Type 0} (Fits : PassView E P → Type 0) (roots : ℕ) (log : Li
       (j : ℕ) (v : PassView E P) → get_elem? vs j ≡ some v → v.name ≢ w.name
   apart_from i k w away st j v h e = away (sym (r.apart id j i k v w (vs, at, h) st e).0)
 
-  module _ (is_own : E → Bool) (log' : List (LogEntry E)) (grows : Grows vs log log')
-      (part : (v : PassView E P) → Fits v → IsPart is_own log v) where
+  module _ (is_call : E → Bool) (log' : List (LogEntry E)) (grows : Grows vs log log')
+      (part : (v : PassView E P) → Fits v → IsPart is_call log v) where
     pub own_given : (k : ℕ) (w : PassView E P) → get_elem? ws k ≡ some w →
         HasGivenAll w.name w.splits log'
     own_given k w h =
@@ -90,12 +90,12 @@ module _ {E P : Type 0} (Fits : PassView E P → Type 0) (roots : ℕ) (log : Li
         (λ i. (sym m.2.name i, sym m.2.splits i)) all
 
     pub other_part : (i k : ℕ) (w : PassView E P) → i ≢ id → StandsAt seats i k w →
-        IsPart is_own log' w
+        IsPart is_call log' w
     other_part i k w away st =
         let f = part w (r.fits i k w st) in
         record {
           known = begins_further w.known log log' f.known grows.longer;
-          own = grows.others is_own w.name (apart_from i k w away st) ∙ f.own;
+          own = grows.others is_call w.name (apart_from i k w away st) ∙ f.own;
           given = grows.given w.name w.splits (λ j v h. r.given i k id j w v st (vs, at, h))
               f.given;
         }

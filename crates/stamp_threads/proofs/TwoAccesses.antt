@@ -12,7 +12,7 @@ use Rattle.stamp_threads.specs.LockRule.{Loaded, Won}
 use Rattle.stamp_threads.specs.PassView.{entry, HasFound}
 use Rattle.stamp_threads.specs.Made.{Made, AccessesTwice}
 use Rattle.stamp_threads.specs.LostExchange.{LostExchange}
-use Rattle.stamp_threads.specs.Underway.{WentOn}
+use Rattle.stamp_threads.specs.GoesAsMachine.{WentOn}
 use Rattle.stamp_threads.proofs.Beginnings.{begins_further}
 use Rattle.stamp_threads.proofs.CallSteps.{by_answer, by_change, by_change_made}
 use Rattle.stamp_threads.proofs.Found.{found_by_load, found_by_win, found_twice}

@@ -7,7 +7,7 @@ use Rattle.stamp_core.specs.Limits.{Bounds, AreInRange}
 use Rattle.stamp_core.specs.Word.{LockWord, Represents}
 use Rattle.stamp_core.specs.Transition.{Transition, transition}
 use Rattle.stamp_core.specs.History.{Replies, events_of}
-use Rattle.stamp_core.specs.Record.{Recorded, SuitsRecord}
+use Rattle.stamp_core.specs.Record.{Recorded, EntrySuits}
 use Rattle.stamp_core.specs.Linearized.{history_of, AreLinearized}
 use Rattle.stamp_core.specs.declared.call.Call.{Call}
 use Rattle.stamp_core.specs.declared.reply.Reply.{Reply}
@@ -75,7 +75,7 @@ AreInPlace entries = (k : ℕ) (d : Entry) → k < length entries → IsEntryAt 
 
 -- calls of a lock by 64 threads, each in its place, and linearized
 pub record AreBooked (limits : Bounds) (entries : List Entry) : Type 0 where
-  pub suit : All (SuitsRecord 0) entries
+  pub suit : All (EntrySuits 0) entries
   pub placed : AreInPlace entries
   pub linearized : AreLinearized limits 0 entries
 

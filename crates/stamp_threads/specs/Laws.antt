@@ -5,7 +5,7 @@ use Rattle.stamp_threads.specs.PassView.{every}
 use Rattle.stamp_threads.specs.LockLog as lock_log
 use Rattle.stamp_threads.specs.LockPass.{LockPassView}
 use Rattle.stamp_threads.specs.LockPassesMet.{LockPassesMet}
-use Rattle.stamp_threads.specs.RecordLog.{is_own}
+use Rattle.stamp_threads.specs.RecordLog.{is_call}
 use Rattle.stamp_threads.specs.RecordLog as record_log
 use Rattle.stamp_threads.specs.RecordPass.{RecordPassView}
 use Rattle.stamp_threads.specs.RecordCall.{RecordPassesMet}
@@ -19,4 +19,4 @@ LockPassesAgree = (limits : Bounds) (v w v' w' : LockPassView) →
 -- Passes of a record that meet agreed before they met.
 abbrev pub RecordPassesAgree : Type 0
 RecordPassesAgree = (width : ℕ) (v w v' w' : RecordPassView) →
-    RecordPassesMet width v w v' w' → Agree is_own (record_log.IsLegalLog width) v w
+    RecordPassesMet width v w v' w' → Agree is_call (record_log.IsLegalLog width) v w

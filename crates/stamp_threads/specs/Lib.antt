@@ -9,7 +9,7 @@ pub mod LostExchange
 pub mod LockPassesMet
 pub mod Closes
 pub mod LockRule
-pub mod Underway
+pub mod GoesAsMachine
 pub mod RecordWord
 pub mod RecordLog
 pub mod RecordPass

@@ -1,5 +1,5 @@
 -- What a pass of a running lock knows.
-use Rattle.std.specs.Prelude.{◌≡◌, ℕ, Bool, List, [], ◌∷◌}
+use Rattle.std.specs.Prelude.{◌≡◌, ℕ, Bool, List}
 use mathlib.Core.List.{IsPrefix}
 use Rattle.atomic_table.specs.Seated.{TableId}
 use Rattle.atomic_table.specs.Table.{Me}
@@ -10,7 +10,7 @@ use Rattle.stamp_machines.specs.LockNumber.{RepresentsAt}
 use Rattle.stamp_threads.specs.declared.pass_view.PassView.{PassView}
 use Rattle.stamp_threads.specs.PassName.{HasGivenAll}
 use Rattle.stamp_threads.specs.PassView as passes
-use Rattle.stamp_threads.specs.PassView.{made_by, every}
+use Rattle.stamp_threads.specs.PassView.{made_by, every, entering}
 use Rattle.stamp_threads.specs.Seats as seats
 use Rattle.stamp_threads.specs.LockLog.{LockLog, events_after, IsLegalLog}
 
@@ -74,9 +74,6 @@ pub record LeavesWord (limits : Bounds) (v : LockPassView) (word : ℕ) (log : L
 pub record HasEntered (limits : Bounds) (v : LockPassView) : Type 0 where
   pub root : ℕ
   pub word : ℕ
-  pub name : v.name ≡ root ∷ []
-  pub splits : v.splits ≡ 0
-  pub own : v.own ≡ []
-  pub found : v.found ≡ word ∷ []
+  pub view : v ≡ entering root tt v.known word
   pub represents : RepresentsAt limits word (events_after limits v.known)
   pub consistent : IsConsistentWith limits v

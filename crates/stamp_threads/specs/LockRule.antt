@@ -48,19 +48,21 @@ reading (Some t) call v log = answering t.appended t.reply call v log
 abbrev pub after_load : Bounds → Call → LockPassView → LockLog → LockPassView
 after_load limits call v log = reading (transition_after limits log call) call v log
 
--- v is the pass before a step that has found this word, and w the pass after it
-module _ (limits : Bounds) (call : Call) (v : LockPassView) (found : ℕ) (w : LockPassView) where
-  pub record Loaded : Type 0 where
-    pub log : LockLog
-    pub left : LeavesWord limits v found log
-    pub after : w ≡ after_load limits call (finding v found) log
-    pub consistent : IsConsistentWith limits w
+-- v is the pass before a step that has found this word. It has come to know the whole history by the
+-- step, and w is the pass that comes of it
+pub record CameToKnow (limits : Bounds) (v : LockPassView) (found : ℕ) (after_it : LockLog → LockPassView)
+    (w : LockPassView) : Type 0 where
+  pub log : LockLog
+  pub left : LeavesWord limits v found log
+  pub after : w ≡ after_it log
+  pub consistent : IsConsistentWith limits w
 
-  pub record Won : Type 0 where
-    pub log : LockLog
-    pub left : LeavesWord limits v found log
-    pub after : w ≡ after_win limits call (finding v found) log
-    pub consistent : IsConsistentWith limits w
+module _ (limits : Bounds) (call : Call) (v : LockPassView) (found : ℕ) (w : LockPassView) where
+  abbrev pub Loaded : Type 0
+  Loaded = CameToKnow limits v found (after_load limits call (finding v found)) w
+
+  abbrev pub Won : Type 0
+  Won = CameToKnow limits v found (after_win limits call (finding v found)) w
 
 -- by an exchange that finds another word than the old one, a pass learns what it would by a load
 abbrev pub Exchanged : Bounds → Call → ℕ → LockPassView → ℕ → LockPassView → Type 0

@@ -11,13 +11,13 @@ AreOrdered xs ys = IsPrefix xs ys ⊎ IsPrefix ys xs
 
 -- Both know a part of one legal history, under names of their own. So what they know is ordered,
 -- and what either knows of the other's calls are the first of these.
-pub record Agree {E P : Type 0} (is_own : E → Bool) (IsLegal : List (LogEntry E) → Type 0)
+pub record Agree {E P : Type 0} (is_call : E → Bool) (IsLegal : List (LogEntry E) → Type 0)
     (v w : PassView E P) : Type 0 where
   pub log : List (LogEntry E)
   pub legal : IsLegal log
-  pub first : IsPart is_own log v
-  pub second : IsPart is_own log w
+  pub first : IsPart is_call log v
+  pub second : IsPart is_call log w
   pub apart : v.name ≢ w.name
   pub ordered : AreOrdered v.known w.known
-  pub first_calls : IsPrefix (made_by is_own v.name w.known) v.own
-  pub second_calls : IsPrefix (made_by is_own w.name v.known) w.own
+  pub first_calls : IsPrefix (made_by is_call v.name w.known) v.own
+  pub second_calls : IsPrefix (made_by is_call w.name v.known) w.own

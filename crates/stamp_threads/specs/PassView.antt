@@ -1,5 +1,5 @@
--- What a pass is seen as: its name, how often it was split, what it knows of the one history, what it
--- made itself, and what its accesses found.
+-- What a pass is seen as: its name, how often it was split, what it knows of the one history, the calls
+-- that it made itself, and what its accesses found.
 use Rattle.std.specs.Prelude.{◌≡◌, ◌≢◌, ℕ, ◌+◌, Bool, true, if◌then◌else◌, nat_eq, List, [], ◌∷◌}
 use Rattle.std.specs.Prelude.{◌++◌}
 use lib.Pointwise.{pointwise}
@@ -22,11 +22,11 @@ made_by kind name (e ∷ log) = if pointwise nat_eq e.name name then
     kind name log
 
 module _ {E P : Type 0} where
-  -- the pass knows a part of the history: a beginning, and all that it made itself. No entry has a
-  -- name that it may still give
-  pub record IsPart (is_own : E → Bool) (log : List (LogEntry E)) (v : PassView E P) : Type 0 where
+  -- the pass knows a part of the history: a beginning, and all calls that it made itself. No entry has
+  -- a name that it may still give
+  pub record IsPart (is_call : E → Bool) (log : List (LogEntry E)) (v : PassView E P) : Type 0 where
     pub known : IsPrefix v.known log
-    pub own : made_by is_own v.name log ≡ v.own
+    pub own : made_by is_call v.name log ≡ v.own
     pub given : HasGivenAll v.name v.splits log
 
   -- the pass that knows the whole history

@@ -104,7 +104,7 @@ pub record WasGot (P : List ℕ → Type 0) (shape : RecordShape) (words : List 
     Type 0 where
   pub made : MadeOnRecord shape Get (Content words) v w
   pub long : length words ≡ shape.width
-  pub obeys : P words
+  pub rule : P words
 
 -- a get gave these words, or was refused
 abbrev pub GotOrRefused : (List ℕ → Type 0) → RecordShape → Result (List ℕ) GetFault →

@@ -75,10 +75,10 @@ marker_in log = leaving (λ marker e. marker_then marker e.name e.made) [] log
 abbrev pub word_after : Layout → RecordLog → ℕ
 word_after layout log = word_with layout (puts log) (is_locked log)
 
--- a call is a pass's own, and a mark is not
-abbrev pub is_own : RecordEvent → Bool
-is_own Mark = false
-is_own (Called call reply) = true
+-- the event is a call, and no mark
+abbrev pub is_call : RecordEvent → Bool
+is_call Mark = false
+is_call (Called call reply) = true
 
 abbrev pub is_mark : RecordEvent → Bool
 is_mark Mark = true

@@ -1,5 +1,5 @@
 -- What a pass of a running record knows.
-use Rattle.std.specs.Prelude.{◌≡◌, ℕ, Bool, ◌+◌, ◌≤◌, List, [], ◌∷◌}
+use Rattle.std.specs.Prelude.{◌≡◌, ℕ, Bool, ◌+◌, ◌≤◌, List}
 use mathlib.Core.List.{IsPrefix}
 use Rattle.atomic_table.specs.Seated.{TableId}
 use Rattle.atomic_table.specs.Table.{Me}
@@ -10,9 +10,9 @@ use Rattle.stamp_threads.specs.declared.record_view.RecordPhase.{RecordPhase}
 use Rattle.stamp_threads.specs.declared.record_view.RecordPhase.TheVariants.{Idle, Writing}
 use Rattle.stamp_threads.specs.PassName.{HasGivenAll}
 use Rattle.stamp_threads.specs.PassView as passes
-use Rattle.stamp_threads.specs.PassView.{made_by}
+use Rattle.stamp_threads.specs.PassView.{made_by, entering}
 use Rattle.stamp_threads.specs.Seats as seats
-use Rattle.stamp_threads.specs.RecordLog.{RecordLog, IsLegalLog, is_own, marks_of, puts_in, puts}
+use Rattle.stamp_threads.specs.RecordLog.{RecordLog, IsLegalLog, is_call, marks_of, puts_in, puts}
 use Rattle.stamp_threads.specs.RecordLog.{word_after}
 
 abbrev pub RecordPassView : Type 0
@@ -56,14 +56,14 @@ AreIdle vs = ((first_of vs).phase ≡ Idle) × ((second_of vs).phase ≡ Idle)
 
 -- a pass that is writing has a mark whose put has yet to come
 abbrev pub marks_ahead : RecordPhase → ℕ
-marks_ahead (Writing version words stored) = 1
+marks_ahead (Writing puts_before words stored) = 1
 marks_ahead _ = 0
 
 -- what the pass knows is legal, its calls there are its own, it has as many marks there as puts, and
 -- no entry has a name that it may still give
 pub record IsConsistentWith (width : ℕ) (v : RecordPassView) : Type 0 where
   pub legal : IsLegalLog width v.known
-  pub own : made_by is_own v.name v.known ≡ v.own
+  pub own : made_by is_call v.name v.known ≡ v.own
   pub marks : marks_of v.name v.known ≡ puts_in v.own + marks_ahead v.phase
   pub given : HasGivenAll v.name v.splits v.known
 
@@ -84,10 +84,6 @@ pub record LeavesWord (shape : RecordShape) (v : RecordPassView) (word : ℕ) (l
 pub record HasEntered (shape : RecordShape) (v : RecordPassView) : Type 0 where
   pub root : ℕ
   pub word : ℕ
-  pub name : v.name ≡ root ∷ []
-  pub splits : v.splits ≡ 0
-  pub own : v.own ≡ []
-  pub found : v.found ≡ word ∷ []
+  pub view : v ≡ entering root Idle v.known word
   pub word_is : word ≡ word_after shape.limits.layout v.known
-  pub idle : v.phase ≡ Idle
   pub consistent : IsConsistentWith shape.width v

@@ -16,47 +16,47 @@ use Rattle.stamp_threads.specs.PassView.{IsPart, entry, knowing, adding, finding
 use Rattle.stamp_threads.specs.Seats.{StandsAt, AreSeated, alone, both}
 use Rattle.stamp_threads.specs.RecordWord.{word_with}
 use Rattle.stamp_threads.specs.RecordLog.{RecordLog, IsLegalLog, content_in, puts, puts_in}
-use Rattle.stamp_threads.specs.RecordLog.{is_locked, marker_in, word_after, is_own, marks_of}
+use Rattle.stamp_threads.specs.RecordLog.{is_locked, marker_in, word_after, is_call, marks_of}
 use Rattle.stamp_threads.specs.RecordPass.{RecordPassView, RecordView, RecordToken, Seated}
 use Rattle.stamp_threads.specs.RecordPass.{IsConsistentWith, LeavesWord}
 use Rattle.stamp_threads.specs.RecordPass.{marks_ahead, first_of, second_of, first_pass}
 use Rattle.stamp_threads.specs.RecordPass.{HasEntered}
 
 -- what a writer knows: the history is locked by its mark, and what it has stored stands
-pub record KnowsWriting (P : List ℕ → Type 0) (width : ℕ) (cells : List ℕ) (log : RecordLog) (name : List ℕ)
-    (version : ℕ) (words : List ℕ) (stored : ℕ) : Type 0 where
+pub record KnowsWriting (P : List ℕ → Type 0) (width : ℕ) (table_words : List ℕ) (log : RecordLog) (name : List ℕ)
+    (puts_before : ℕ) (words : List ℕ) (stored : ℕ) : Type 0 where
   pub locked : is_locked log ≡ true
-  pub version_is : puts log ≡ version
+  pub puts_are : puts log ≡ puts_before
   pub marker : marker_in log ≡ name
   pub long : length words ≡ width
-  pub obeys : P words
+  pub rule : P words
   pub few : stored ≤ width
-  pub stand : (j : ℕ) → j < stored → slice_index cells (j + 1) ≡ slice_index words j
+  pub stand : (j : ℕ) → j < stored → slice_index table_words (j + 1) ≡ slice_index words j
 
 -- what a pass that loads knows: while nothing was put since, and nobody has write mode, the words
 -- that it has loaded are the first of the content
-pub record KnowsLoading (width : ℕ) (log : RecordLog) (version : ℕ) (words : List ℕ) : Type 0 where
-  pub before : version ≤ puts log
+pub record KnowsLoading (width : ℕ) (log : RecordLog) (puts_before : ℕ) (words : List ℕ) : Type 0 where
+  pub before : puts_before ≤ puts log
   pub few : length words ≤ width
-  pub stand : is_locked log ≡ false → puts log ≡ version → (j : ℕ) → j < length words →
+  pub stand : is_locked log ≡ false → puts log ≡ puts_before → (j : ℕ) → j < length words →
       slice_index words j ≡ slice_index (content_in width log) j
 
 -- what a pass knows beside its part of the history, by its phase: between two calls nothing
 abbrev pub Knows : (List ℕ → Type 0) → ℕ → List ℕ → RecordLog → List ℕ → RecordPhase → Type 0
-Knows P width cells log name Idle = Unit {0}
-Knows P width cells log name (Writing version words stored) =
-    KnowsWriting P width cells log name version words stored
-Knows P width cells log name (Loading version words) = KnowsLoading width log version words
+Knows P width table_words log name Idle = Unit {0}
+Knows P width table_words log name (Writing puts_before words stored) =
+    KnowsWriting P width table_words log name puts_before words stored
+Knows P width table_words log name (Loading puts_before words) = KnowsLoading width log puts_before words
 
 -- a pass knows a part of the history, and has a mark there for each of its puts
-pub record KnowsPart (P : List ℕ → Type 0) (width : ℕ) (cells : List ℕ) (log : RecordLog) (v : RecordPassView) :
+pub record KnowsPart (P : List ℕ → Type 0) (width : ℕ) (table_words : List ℕ) (log : RecordLog) (v : RecordPassView) :
     Type 0 where
-  pub part : IsPart is_own log v
+  pub part : IsPart is_call log v
   pub marks : marks_of v.name log ≡ puts_in v.own + marks_ahead v.phase
-  pub knows : Knows P width cells log v.name v.phase
+  pub knows : Knows P width table_words log v.name v.phase
 
 abbrev pub IsWriting : RecordPhase → Type 0
-IsWriting (Writing version words stored) = Unit {0}
+IsWriting (Writing puts_before words stored) = Unit {0}
 IsWriting _ = ⊥
 
 -- some pass that stands is writing, and made the last mark
@@ -83,7 +83,7 @@ pub record IsKept (enterable : Bool) (P : List ℕ → Type 0) (shape : RecordSh
   pub rests : is_locked log ≡ false → (i : ℕ) → i < shape.width →
       slice_index s.words (i + 1) ≡ slice_index (content_in shape.width log) i
   pub long : length (content_in shape.width log) ≡ shape.width
-  pub obeys : P (content_in shape.width log)
+  pub rule : P (content_in shape.width log)
   pub passes : AreSeated (KnowsPart P shape.width s.words log) roots log s.views
   pub writer : is_locked log ≡ true → HasWriter log s.views
 
@@ -154,7 +154,7 @@ module _ (shape : RecordShape) (v : RecordPassView) (found : ℕ) (me : Seated) 
   pub record Confirmed (P : List ℕ → Type 0) (words : List ℕ) : Type 0 where
     pub log : RecordLog
     pub content : words ≡ content_in shape.width log
-    pub obeys : P words
+    pub rule : P words
     pub left : LeavesWord shape v found log
     pub after : me ≡ alone (calling (finding v found) log (get_of words))
     pub consistent : IsConsistentWith shape.width (calling (finding v found) log (get_of words))
@@ -176,14 +176,14 @@ pub record Met (shape : RecordShape) (v w : RecordPassView) (me : Seated) : Type
 -- one more word is stored
 abbrev pub storing_one : RecordPhase → RecordPhase
 storing_one Idle = Idle
-storing_one (Writing version words stored) = Writing version words (stored + 1)
-storing_one (Loading version words) = Loading version words
+storing_one (Writing puts_before words stored) = Writing puts_before words (stored + 1)
+storing_one (Loading puts_before words) = Loading puts_before words
 
 -- one more word is loaded
 abbrev pub loading_one : RecordPhase → ℕ → RecordPhase
 loading_one Idle word = Idle
-loading_one (Writing version words stored) word = Writing version words stored
-loading_one (Loading version words) word = Loading version (words ++ word ∷ [])
+loading_one (Writing puts_before words stored) word = Writing puts_before words stored
+loading_one (Loading puts_before words) word = Loading puts_before (words ++ word ∷ [])
 
 abbrev pub stored_one : RecordPassView → RecordPassView
 stored_one v = with_phase v (storing_one v.phase)
@@ -194,8 +194,8 @@ loaded_one v word = with_phase v (loading_one v.phase word)
 -- the lock word that a get has to find again
 abbrev pub word_to_confirm : Layout → RecordPhase → ℕ
 word_to_confirm layout Idle = 0
-word_to_confirm layout (Writing version words stored) = 0
-word_to_confirm layout (Loading version words) = word_with layout version false
+word_to_confirm layout (Writing puts_before words stored) = 0
+word_to_confirm layout (Loading puts_before words) = word_with layout puts_before false
 
 -- what each step tells the seat that makes it
 abbrev pub Tells : Type 1
@@ -248,7 +248,7 @@ opening_pass (Some words) =
 -- a record may begin with these words: they keep to its rule, and there is a version for their put
 pub record MayBegin (P : List ℕ → Type 0) (limits : Bounds) (first : List ℕ) : Type 0 where
   pub version : 1 ≤ limits.versions
-  pub obeys : P first
+  pub rule : P first
 
 -- a new record of this shape, and its first pass, which has put these words, if there are any
 pub record IsNew (limits : Bounds) (width : ℕ) (enterable : Bool) (first : Option (List ℕ))

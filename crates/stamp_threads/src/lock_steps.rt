@@ -13,11 +13,11 @@ use crate::lock_rule::{
     CallStep, EnterLockStep, ExchangeStep, LoadStep, LockKey, LockPasses, LockRule, MeetLockStep,
     PartSeatsStep, ShareSeatStep, SplitStep,
 };
-use atomic_table::{Seat, Shared};
+use atomic_table::{Seat, Shared as SharedTable};
 use stamp_core::{Call, Reply};
 
 /// The table of a running lock: one word.
-pub type LockTable = Shared<(), LockPasses, LockKey, LockRule>;
+pub type LockTable = SharedTable<(), LockPasses, LockKey, LockRule>;
 
 /// A seat of it, which a pass has.
 pub type LockSeat = Seat<(), LockPasses>;

@@ -19,7 +19,7 @@ pub struct PassView<E, P> {
     pub splits: u64,
     /// What it knows: a beginning of the one history.
     pub known: LinkedList<LogEntry<E>>,
-    /// What it made itself.
+    /// The calls that it made itself.
     pub own: LinkedList<E>,
     /// Where it stands in what it is making; nothing for a lock, whose calls take effect by one step.
     pub phase: P,

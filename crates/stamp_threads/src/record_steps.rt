@@ -19,10 +19,10 @@ use crate::record_rule::{
     LoadWordStep, MeetRecordStep, RecordRule, ReleaseStep, StoreWordStep, WordsStep,
 };
 use crate::record_view::{RecordKey, RecordPasses};
-use atomic_table::{Seat, Shared};
+use atomic_table::{Seat, Shared as SharedTable};
 
 /// The table of a running record: its lock word, and its words.
-pub type RecordTable<P> = Shared<(), RecordPasses, RecordKey, RecordRule<P>>;
+pub type RecordTable<P> = SharedTable<(), RecordPasses, RecordKey, RecordRule<P>>;
 
 /// A seat of it, which a pass has.
 pub type RecordSeat = Seat<(), RecordPasses>;
@@ -54,7 +54,7 @@ pub fn acquire<C: WordsStep, P: ContentRule>(
 ) -> u64
     requires step { (C.shape ≡ table.now.key.shape) × (C.words ≡ words.now) }
     requires long { length words.now ≡ table.now.key.shape.width }
-    requires good { P.holds words.now }
+    requires rule { P.holds words.now }
     requires seat { IsAtSeat table.now.table_id table.now.key.shape seat.old.table_id seat.old.me }
     requires idle { (first_of seat.old.me.0).phase ≡ Idle }
     requires free { let limits = table.now.key.shape.limits in
@@ -80,8 +80,8 @@ pub fn store_word<P: ContentRule>(
 )
     requires seat { IsAtSeat table.now.table_id table.now.key.shape seat.old.table_id seat.old.me }
     requires inside { (index < table.now.key.shape.width) × (table.now.key.shape.width ≤ 16) }
-    requires writing { (version : ℕ) × (words : List ℕ)
-        × ((first_of seat.old.me.0).phase ≡ Writing version words index)
+    requires writing { (puts_before : ℕ) × (words : List ℕ)
+        × ((first_of seat.old.me.0).phase ≡ Writing puts_before words index)
         × (word ≡ slice_index words index) }
     ensures table { seat.new.table_id ≡ seat.old.table_id }
     ensures learned { seat.new.me ≡ alone (stored_one (first_of seat.old.me.0)) }
@@ -94,12 +94,12 @@ pub fn store_word<P: ContentRule>(
 pub fn store_all<P: ContentRule>(table: &RecordTable<P>, seat: &mut RecordSeat, words: &[u64])
     requires seat { IsAtSeat table.now.table_id table.now.key.shape seat.old.table_id seat.old.me }
     requires long { (length words.now ≡ table.now.key.shape.width) × (table.now.key.shape.width ≤ 16) }
-    requires writing { (version : ℕ)
-        × ((first_of seat.old.me.0).phase ≡ Writing version words.now 0) }
+    requires writing { (puts_before : ℕ)
+        × ((first_of seat.old.me.0).phase ≡ Writing puts_before words.now 0) }
     ensures table { seat.new.table_id ≡ seat.old.table_id }
     ensures learned { let v = first_of seat.old.me.0 in
-        (version : ℕ) → v.phase ≡ Writing version words.now 0
-        → seat.new.me ≡ alone (with_phase v (Writing version words.now table.now.key.shape.width)) }
+        (puts_before : ℕ) → v.phase ≡ Writing puts_before words.now 0
+        → seat.new.me ≡ alone (with_phase v (Writing puts_before words.now table.now.key.shape.width)) }
 {
     for i in 0..words.len() {
         store_word(table, seat, i, words[i]);
@@ -118,8 +118,8 @@ pub fn release<C: WordsStep, P: ContentRule>(
     requires step { (C.shape ≡ table.now.key.shape) × (C.words ≡ words.now) }
     requires seat { IsAtSeat table.now.table_id table.now.key.shape seat.old.table_id seat.old.me }
     requires writing { let key = table.now.key.shape in
-        (version : ℕ) × ((first_of seat.old.me.0).phase ≡ Writing version words.now key.width)
-        × (held ≡ word_with key.limits.layout version true)
+        (puts_before : ℕ) × ((first_of seat.old.me.0).phase ≡ Writing puts_before words.now key.width)
+        × (held ≡ word_with key.limits.layout puts_before true)
         × (free ≡ held + writer_unit key.limits.layout) }
     ensures table { seat.new.table_id ≡ seat.old.table_id }
     ensures learned { let v = first_of seat.old.me.0 in
@@ -151,8 +151,8 @@ pub fn load_for_get<C: WordsStep, P: ContentRule>(
 pub fn load_word<P: ContentRule>(table: &RecordTable<P>, seat: &mut RecordSeat, index: usize) -> u64
     requires seat { IsAtSeat table.now.table_id table.now.key.shape seat.old.table_id seat.old.me }
     requires inside { (index < table.now.key.shape.width) × (table.now.key.shape.width ≤ 16) }
-    requires loading { (version : ℕ) × (words : List ℕ)
-        × ((first_of seat.old.me.0).phase ≡ Loading version words) × (length words ≡ index) }
+    requires loading { (puts_before : ℕ) × (words : List ℕ)
+        × ((first_of seat.old.me.0).phase ≡ Loading puts_before words) × (length words ≡ index) }
     ensures table { seat.new.table_id ≡ seat.old.table_id }
     ensures learned { seat.new.me ≡ alone (loaded_one (first_of seat.old.me.0) result) }
 {
@@ -164,12 +164,12 @@ pub fn load_word<P: ContentRule>(table: &RecordTable<P>, seat: &mut RecordSeat, 
 pub fn load_all<P: ContentRule>(table: &RecordTable<P>, seat: &mut RecordSeat, into: &mut [u64])
     requires seat { IsAtSeat table.now.table_id table.now.key.shape seat.old.table_id seat.old.me }
     requires long { (length into.old ≡ table.now.key.shape.width) × (table.now.key.shape.width ≤ 16) }
-    requires loading { (version : ℕ) × ((first_of seat.old.me.0).phase ≡ Loading version []) }
+    requires loading { (puts_before : ℕ) × ((first_of seat.old.me.0).phase ≡ Loading puts_before []) }
     ensures table { seat.new.table_id ≡ seat.old.table_id }
     ensures long { length into.new ≡ length into.old }
     ensures learned { let v = first_of seat.old.me.0 in
-        (version : ℕ) → v.phase ≡ Loading version []
-        → seat.new.me ≡ alone (with_phase v (Loading version into.new)) }
+        (puts_before : ℕ) → v.phase ≡ Loading puts_before []
+        → seat.new.me ≡ alone (with_phase v (Loading puts_before into.new)) }
 {
     for i in 0..into.len() {
         into[i] = load_word(table, seat, i);
@@ -185,8 +185,8 @@ pub fn confirm<C: WordsStep, P: ContentRule>(
 ) -> u64
     requires step { (C.shape ≡ table.now.key.shape) × (C.words ≡ words.now) }
     requires seat { IsAtSeat table.now.table_id table.now.key.shape seat.old.table_id seat.old.me }
-    requires loading { (version : ℕ)
-        × ((first_of seat.old.me.0).phase ≡ Loading version words.now)
+    requires loading { (puts_before : ℕ)
+        × ((first_of seat.old.me.0).phase ≡ Loading puts_before words.now)
         × (length words.now ≡ table.now.key.shape.width) }
     ensures table { seat.new.table_id ≡ seat.old.table_id }
     ensures learned { let key = table.now.key.shape in let v = first_of seat.old.me.0 in

@@ -42,7 +42,7 @@ pub enum RecordPhase {
     /// It has write mode, and stores its words.
     Writing {
         /// How many puts were made before it got write mode.
-        version: u64,
+        puts: u64,
         /// The words that it puts.
         words: LinkedList<u64>,
         /// How many of them it has stored, from the first on.
@@ -51,7 +51,7 @@ pub enum RecordPhase {
     /// It found nobody in write mode, and loads the words.
     Loading {
         /// How many puts were made when its first load found the lock word.
-        version: u64,
+        puts: u64,
         /// The words that it has loaded so far, in their order.
         words: LinkedList<u64>,
     },

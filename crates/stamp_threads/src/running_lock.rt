@@ -8,10 +8,10 @@ ghost use Rattle.stamp_core.specs.LockDecision.{decision_as};
 ghost use Rattle.stamp_machines.specs.declared.machine.Turn.TheVariants as Turn;
 ghost use Rattle.stamp_threads.specs.PassView.{after_split, split_off};
 ghost use Rattle.stamp_threads.specs.LockPass.{HasEntered, IsConsistentWith, IsNew};
-ghost use Rattle.stamp_threads.specs.Made.{Made, IsWaiting, AccessesOnceOrTwice, try_form};
+ghost use Rattle.stamp_threads.specs.Made.{Made, MayWait, AccessesOnceOrTwice, try_form};
 ghost use Rattle.stamp_threads.specs.MayReply.{MayReply};
 ghost use Rattle.stamp_threads.specs.LostExchange.{LostExchange};
-ghost use Rattle.stamp_threads.specs.Underway.{GoesAsMachine, turn_once};
+ghost use Rattle.stamp_threads.specs.GoesAsMachine.{GoesAsMachine, turn_once};
 ghost use Rattle.stamp_threads.specs.LockPassesMet.{LockPassesMet};
 ghost use Rattle.stamp_threads.specs.Closes.{Closes};
 
@@ -50,7 +50,7 @@ impl Error for LockError {}
 fn try_form(call: &Call) -> Call
     ensures form { result ≡ try_form call.now }
     ensures lock_call { IsTrue (is_lock_call call.now) → IsTrue (is_lock_call result) }
-    ensures never { IsWaiting result → ⊥ }
+    ensures never { MayWait result → ⊥ }
 {
     match call {
         Call::WriteLock => Call::TryWrite,

@@ -172,7 +172,7 @@ impl<P: ContentRule> RuledRecord<P> {
     pub fn put_once(&self, pass: &mut RecordPass, words: Words) -> Result<(), PutFault>
         requires table { pass.old.table ≡ self.now.table }
         requires width { length words ≡ self.now.shape.width }
-        requires good { P.holds words }
+        requires rule { P.holds words }
         ensures table { pass.new.table ≡ self.now.table }
         ensures ok { let v = pass.old.view in let w = pass.new.view in
             IfOk result (λ _. MadeOnRecord self.now.shape (Put words) Done v w) }

@@ -55,7 +55,7 @@ pub fn puts<P: ContentRule>(
 ) -> bool
     requires table { pass.old.table ≡ shared.now.table }
     requires width { length words ≡ shared.now.shape.width }
-    requires good { P.holds words }
+    requires rule { P.holds words }
     ensures { pass.new.table ≡ shared.now.table }
 {
     shared.put_once(pass, words) == answer

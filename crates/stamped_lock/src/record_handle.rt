@@ -46,33 +46,33 @@ impl<'a, const N: usize, P: ContentRule> RecordHandle<'a, N, P> {
     /// Puts the words if nobody else is putting. It waits for nobody, and where it fails nothing was
     /// put: `Busy` where the first load of the lock word found somebody putting, `Lost` where the word
     /// changed after it, `Spent` where no version is left.
-    pub fn put_once(&mut self, row: [u64; N]) -> Result<(), PutFault>
-        requires { P.holds row }
+    pub fn put_once(&mut self, words: [u64; N]) -> Result<(), PutFault>
+        requires { P.holds words }
         ensures ok { let h = self.old in let w = self.new in
-            OnOk result (MadeOnRecord (Put row.entry) Done h w) }
+            OnOk result (MadeOnRecord (Put words.entry) Done h w) }
         ensures err { let h = self.old in let w = self.new in
             IfErr result (λ fault. RefusesPut fault h w) }
     {
         let running = self.running;
-        let Some(words) = Words::new(&row) else {
+        let Some(new_words) = Words::new(&words) else {
             unreachable!()
         };
-        running.put_once(&mut self.pass, words)
+        running.put_once(&mut self.pass, new_words)
     }
 
     /// Gets the words if nobody is putting. It waits for nobody: it fails as `Busy` where the first load
     /// of the lock word found somebody putting, and as `Lost` where the word changed after it.
     #[inline(always)]
     pub fn get_once(&mut self) -> Result<[u64; N], GetFault>
-        ensures rule { IfOk result (λ row. P.holds row) }
+        ensures rule { IfOk result (λ words. P.holds words) }
         ensures ok { let h = self.old in let w = self.new in
-            IfOk result (λ row. MadeOnRecord Get (Content row) h w) }
+            IfOk result (λ words. MadeOnRecord Get (Content words) h w) }
         ensures err { let h = self.old in let w = self.new in
             IfErr result (λ fault. RefusesGet fault h w) }
     {
-        let mut row = [0; N];
-        self.running.get_into(&mut self.pass, &mut row)?;
-        Ok(row)
+        let mut words = [0; N];
+        self.running.get_into(&mut self.pass, &mut words)?;
+        Ok(words)
     }
 
     /// Gets the words. Where `get_once` fails, as `Busy` or as `Lost`, it lets other threads run and
@@ -82,8 +82,8 @@ impl<'a, const N: usize, P: ContentRule> RecordHandle<'a, N, P> {
         ensures made { MadeAtLast Get (Content result) self.old self.new }
     {
         for _ in rt.forever() {
-            if let Ok(row) = self.get_once() {
-                return row;
+            if let Ok(words) = self.get_once() {
+                return words;
             }
             thread::yield_now();
         }
@@ -92,15 +92,15 @@ impl<'a, const N: usize, P: ContentRule> RecordHandle<'a, N, P> {
 
     /// Puts the words. Where `put_once` fails as `Busy` or as `Lost`, it lets other threads run and
     /// tries again. It fails only where no version is left; nothing was put then.
-    pub fn put<R: Wait>(&mut self, rt: &R, row: [u64; N]) -> Result<(), Spent>
-        requires { P.holds row }
+    pub fn put<R: Wait>(&mut self, rt: &R, words: [u64; N]) -> Result<(), Spent>
+        requires { P.holds words }
         ensures made { let h = self.old in let w = self.new in
-            OnOk result (MadeAtLast (Put row.entry) Done h w) }
+            OnOk result (MadeAtLast (Put words.entry) Done h w) }
         ensures spent { let h = self.old in let w = self.new in
             OnErr result (SpentAtLast h w) }
     {
         for _ in rt.forever() {
-            match self.put_once(row) {
+            match self.put_once(words) {
                 Ok(()) => return Ok(()),
                 Err(PutFault::Spent(_)) => return Err(Spent),
                 Err(PutFault::Busy(_) | PutFault::Lost { .. }) => thread::yield_now(),

@@ -30,6 +30,12 @@ pub record DrawingView : Type 0 where
 abbrev pub drawing_in : made.Drawing → DrawingView
 drawing_in drawing = record { text = drawing.text.items; verdict = drawing.verdict }
 
+abbrev pub text_in : DrawingView → List ℕ
+text_in drawing = drawing.text
+
+abbrev pub IsVerdictOf : DrawingView → Verdict → Type 0
+IsVerdictOf drawing verdict = verdict ≡ drawing.verdict
+
 abbrev pub verdict_in : Result ℕ Fault → Verdict
 verdict_in (Ok n) = Accepted
 verdict_in (Err fault) = Bad

@@ -1,14 +1,11 @@
 //! An order from the bytes that come in to the picture that goes out.
 
-ghost use Rattle.std.specs.Prelude.{◌≡◌, ◌≢◌, length, IfOk, IfErr, Ok, Err};
-ghost use Rattle.std.specs.Io.KnownBytes.{Appends};
-ghost use Rattle.stamp_cli.specs.Results.{Makes, MakesAtMost, taken_since};
-ghost use Rattle.stamp_cli.specs.Sink.{AppendsFront};
+ghost use Rattle.stamp_cli.specs.Results.{taken_since};
 ghost use Rattle.stamp_cli.specs.Source.{most_reads, most_taken};
-ghost use Rattle.stamp_cli.specs.Serving.{HasRead, HasWritten};
+ghost use Rattle.stamp_cli.specs.Serving.{HasRead, HasWritten, WritesAnswer, RefusesAsDue, WritesFront};
 ghost use Rattle.stamp_cli.specs.declared.faults.ServeFault.TheVariants.{Memory, ReadFault, WriteFault};
 ghost use Rattle.stamped_picture.specs.declared.faults.PictureFault.TheVariants.{Serve};
-ghost use Rattle.stamped_picture.specs.Answer.{DrawingView, AnswersSource};
+ghost use Rattle.stamped_picture.specs.Answer.{AnswersSource, IsVerdictOf, text_in};
 
 use crate::answer::drawing_from;
 use crate::faults::PictureFault;
@@ -29,25 +26,22 @@ pub(crate) fn serve<S: Source, K: Sink>(
         (S.reads source.old) (S.reads source.new) most_reads most_taken result }
 
     // The picture of all that was read is written, and nothing else; the verdict is its.
-    ensures ok { IfOk result (λ verdict. (drawing : DrawingView)
-        × AnswersSource style.now order (S.left source.old) (S.left source.new)
-        (taken_since (S.reads source.old) (S.reads source.new)) (Ok drawing) × (verdict ≡ drawing.verdict)
-        × Appends (K.sent sink.old) (K.sent sink.new) drawing.text
-        × Makes (K.writes sink.old) (K.writes sink.new) (length drawing.text)) }
+    ensures ok { WritesAnswer (AnswersSource style.now order (S.left source.old) (S.left source.new)
+        (taken_since (S.reads source.old) (S.reads source.new))) IsVerdictOf text_in
+        (K.sent sink.old) (K.sent sink.new) (K.writes sink.old) (K.writes sink.new) result }
 
     // All that was read is refused so.
-    ensures refused { IfErr result (λ e. e ≢ Serve ReadFault → e ≢ Serve WriteFault → e ≢ Serve Memory
-        → AnswersSource style.now order (S.left source.old) (S.left source.new)
-        (taken_since (S.reads source.old) (S.reads source.new)) (Err e)) }
+    ensures refused { RefusesAsDue (Serve ReadFault) (Serve WriteFault) (Serve Memory)
+        (AnswersSource style.now order (S.left source.old) (S.left source.new)
+        (taken_since (S.reads source.old) (S.reads source.new))) result }
 
     // A write that failed leaves a front of the picture and is the last, and no other refusal writes.
     ensures writes { HasWritten (Serve WriteFault) (K.sent sink.old) (K.sent sink.new)
         (K.writes sink.old) (K.writes sink.new) result }
-    ensures front { result ≡ Err (Serve WriteFault) → ((drawing : DrawingView)
-        × AnswersSource style.now order (S.left source.old) (S.left source.new)
-        (taken_since (S.reads source.old) (S.reads source.new)) (Ok drawing)
-        × AppendsFront (K.sent sink.old) (K.sent sink.new) drawing.text
-        × MakesAtMost (K.writes sink.old) (K.writes sink.new) (length drawing.text) (length drawing.text)) }
+    ensures front { WritesFront (Serve WriteFault)
+        (AnswersSource style.now order (S.left source.old) (S.left source.new)
+        (taken_since (S.reads source.old) (S.reads source.new))) text_in
+        (K.sent sink.old) (K.sent sink.new) (K.writes sink.old) (K.writes sink.new) result }
 {
     let drawing = drawing_from(alloc, order, style, source)?;
     write_text(sink, &drawing.text)?;

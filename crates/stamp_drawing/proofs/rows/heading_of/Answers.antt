@@ -1,6 +1,6 @@
 use Rattle.std.proofs.Common.{◌≡◌, ◌∙◌, ◌++◌, [], List, ℕ, ap, map, arith}
 use Rattle.std.specs.List.{concat, range_with_len}
-use Rattle.stamp_drawing.specs.Rows.{number_text, tail_text}
+use Rattle.stamp_drawing.specs.Rows.{number_text, heading_tail_text}
 use Rattle.stamp_drawing.proofs.Appending.{turn_written}
 use Rattle.stamp_drawing.proofs.rows.heading_of.Goals as goal
 
@@ -13,4 +13,4 @@ pub returns : goal.returns
 returns c =
     let all : c.loop-lane.lane ≡ c.args.lanes = omega arith in
     let numbers = c.loop-lane.invariant ∙ ap (λ (n : ℕ). concat (map number_text (range_with_len 0 n))) all in
-    c.in_ok-push_text-2.ensures ∙ ap (λ (text : List ℕ). text ++ tail_text) numbers
+    c.in_ok-push_text-2.ensures ∙ ap (λ (text : List ℕ). text ++ heading_tail_text) numbers

@@ -7,9 +7,11 @@ use Rattle.stamp_drawing.proofs.rows.lane_sign.Goals as goal
 
 pub returns-in-Some : goal.returns-in-Some
 returns-in-Some c =
-    c.sign.ensures ∙ ap (λ (o : Option Bar). option_map_or (sign_text c.args.verdict.now c.args.time) o (codes "   "))
+    c.sign.ensures
+    ∙ ap (λ (o : Option Bar). option_map_or (sign_text c.args.verdict.now c.args.position) o (codes "   "))
     c.in-Some.ensures
 
 pub returns-in-None : goal.returns-in-None
 returns-in-None c =
-    ap (λ (o : Option Bar). option_map_or (sign_text c.args.verdict.now c.args.time) o (codes "   ")) c.in-None.ensures
+    ap (λ (o : Option Bar). option_map_or (sign_text c.args.verdict.now c.args.position) o (codes "   "))
+    c.in-None.ensures

@@ -8,7 +8,7 @@ use Rattle.stamp_drawing.proofs.rows.push_lanes.Goals as goal
 pub loop-lane-preserved : goal.loop-lane-preserved
 loop-lane-preserved c =
     let drawn = c.lane_sign.ensures ∙ ap
-    (λ (verdict : Result ℕ Fault). lane_text verdict c.args.time c.args.there.now c.loop-lane.lane)
+    (λ (verdict : Result ℕ Fault). lane_text verdict c.args.position c.args.there.now c.loop-lane.lane)
     c.verdict.ensures in
-    turn_written (lane_text c.args.picture.now.verdict c.args.time c.args.there.now) c.loop-lane.lane _ _ _
+    turn_written (lane_text c.args.picture.now.verdict c.args.position c.args.there.now) c.loop-lane.lane _ _ _
     c.loop-lane.invariant (rw drawn at c.in_ok-push_text.ensures)

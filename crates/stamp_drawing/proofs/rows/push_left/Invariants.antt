@@ -5,4 +5,4 @@ use Rattle.stamp_drawing.proofs.rows.push_left.Given as goal
 
 abbrev pub invariant-loop-moment : goal.invariant-loop-moment
 invariant-loop-moment l = l.row.items ≡
-    l.fn.row.items ++ concat (map (left_text l.time) (take l.moment-index l.ribbon))
+    l.fn.row.items ++ concat (map (left_text l.position) (take l.moment-index l.ribbon))

@@ -4,5 +4,5 @@ use Rattle.stamp_drawing.proofs.sheet.content_boxes.Given as goal
 
 abbrev pub invariant-loop-moment : goal.invariant-loop-moment
 invariant-loop-moment l =
-    boxes_of l.boxes.items ++ change_boxes l.ends l.held (drop l.moment-index l.ribbon) ≡
-    content_boxes l.ends l.opening.content l.ribbon
+    boxes_of l.boxes.items ++ change_boxes l.positions l.held (drop l.moment-index l.ribbon) ≡
+    content_boxes l.positions l.opening.content l.ribbon

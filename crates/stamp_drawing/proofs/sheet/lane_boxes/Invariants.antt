@@ -4,4 +4,4 @@ use Rattle.stamp_drawing.specs.Sheet.{boxes_of, lane_box}
 use Rattle.stamp_drawing.proofs.sheet.lane_boxes.Given as goal
 
 abbrev pub invariant-loop-lane : goal.invariant-loop-lane
-invariant-loop-lane l = boxes_of l.boxes.items ≡ map (lane_box l.ends) (range_with_len 0 l.lane)
+invariant-loop-lane l = boxes_of l.boxes.items ≡ map (lane_box l.positions) (range_with_len 0 l.lane)

@@ -5,14 +5,15 @@ use Rattle.stamp_drawing.proofs.sheet.point_boxes.Goals.{then-bar+in_ok-point_bo
 
 pub loop-bar-preserved : goal.loop-bar-preserved
 loop-bar-preserved c =
-    let ends = c.args.ends.now in
+    let positions = c.args.positions.now in
     let bars = c.args.bars.now in
     let i = c.loop-bar.bar-index in
     let b = c.bar-item.result in
     let old = c.loop-bar.boxes.items in
     elim c.if-bar.branch [
-      | then-bar+in_ok-point_box+in_ok-push w ↦ rw w.boxes-is (shown_more ends bars i b old _ _ c.loop-bar-test.true
-          c.bar-item.is w.if-bar.true c.loop-bar.invariant w.in_ok-push.ensures.items w.in_ok-point_box.ensures)
-      | else-bar w ↦ rw w.boxes-is (unshown_more ends bars i b old _ c.loop-bar-test.true c.bar-item.is w.if-bar.false
-          c.loop-bar.invariant refl)
+      | then-bar+in_ok-point_box+in_ok-push w ↦ rw w.boxes-is (shown_more positions bars i b old _ _
+          c.loop-bar-test.true c.bar-item.is w.if-bar.true c.loop-bar.invariant w.in_ok-push.ensures.items
+          w.in_ok-point_box.ensures)
+      | else-bar w ↦ rw w.boxes-is (unshown_more positions bars i b old _ c.loop-bar-test.true c.bar-item.is
+          w.if-bar.false c.loop-bar.invariant refl)
     ]

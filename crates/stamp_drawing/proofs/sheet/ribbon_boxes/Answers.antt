@@ -8,7 +8,7 @@ use Rattle.stamp_drawing.proofs.sheet.ribbon_boxes.Goals as goal
 pub loop-moment-preserved : goal.loop-moment-preserved
 loop-moment-preserved c =
     let moment = c.moment-item.result in
-    boxed_more (moment_box c.args.ends.now) c.args.ribbon.now c.loop-moment.moment-index moment _ _ _
-    (state_box (opening_frame c.args.ends.now c.args.opening.now) c.args.opening.now ∷ [])
+    boxed_more (moment_box c.args.positions.now) c.args.ribbon.now c.loop-moment.moment-index moment _ _ _
+    (state_box (opening_frame c.args.positions.now c.args.opening.now) c.args.opening.now ∷ [])
     c.loop-moment-test.true c.moment-item.is c.loop-moment.invariant c.in_ok-push-2.ensures.items
     (c.in_ok-state_box-2.ensures ∙ ap (λ (frame : Frame). state_box frame moment.state) c.moment_frame.ensures)

@@ -5,4 +5,5 @@ use Rattle.stamp_drawing.proofs.sheet.ribbon_boxes.Given as goal
 
 abbrev pub invariant-loop-moment : goal.invariant-loop-moment
 invariant-loop-moment l = boxes_of l.boxes.items ≡
-    state_box (opening_frame l.ends l.opening) l.opening ∷ map (moment_box l.ends) (take l.moment-index l.ribbon)
+    state_box (opening_frame l.positions l.opening) l.opening ∷
+    map (moment_box l.positions) (take l.moment-index l.ribbon)

@@ -3,7 +3,7 @@ use Rattle.std.proofs.Common.{◌∙◌, ◌+◌, ◌++◌, ◌∷◌, []}
 use Rattle.std.specs.Prelude.{slice_get, nat_lt, nat_le, ◌==◌, ◌≢◌, ◌≤◌}
 use Rattle.std.proofs.lemmas.Option.{slice_get_read}
 use Rattle.std.proofs.lemmas.Bool.Decides.{nat_tests}
-use Rattle.stamp_explain.specs.declared.linearization.Taken.{Taken}
+use Rattle.stamp_explain.specs.declared.linearization.OrderedCall.{OrderedCall}
 use Rattle.stamp_explain.proofs.Uniting.{UnitesSoFar, BeganFirst, unites_none, unites_lock, unites_record, united}
 use Rattle.stamp_explain.proofs.Uniting.{IsFirstOf, call_inside, index_inside, none_is_next, began_first, read_again}
 use Rattle.stamp_explain.proofs.apart.merged.Goals as goal
@@ -92,7 +92,7 @@ loop-i-preserved-then-lock_is_next c =
           began_first c.args.locks.now.history.entries c.args.records.now.history.entries t
           w.index-record_order-j.result c.args.record_order.now c.loop-i.j w.first_of.result
           w.first_of-then-i-lock_order-2.result
-          (subst (λ (s : Taken). IsFirstOf c.args.locks.now.history.entries s w.first_of.result) again
+          (subst (λ (s : OrderedCall). IsFirstOf c.args.locks.now.history.entries s w.first_of.result) again
           w.first_of.ensures) w.first_of-then-i-lock_order-2.ensures
           (slice_get_read c.args.record_order.now (length c.args.record_order.now) c.loop-i.j
           w.index-record_order-j.result refl
@@ -114,7 +114,7 @@ loop-i-preserved-then-lock_is_next c =
     (sym pushed)
     (unites_lock c.args.observed.now c.args.locks.now c.args.records.now c.args.lock_order.now
     c.args.record_order.now c.loop-i.order.items c.loop-i.i c.loop-i.j t c.in_whole.result c.requires.observed
-    c.requires.locks c.requires.records at c.in_whole.ensures.entry c.in_whole.ensures.reply first
+    c.requires.locks c.requires.records at c.in_whole.ensures.index c.in_whole.ensures.reply first
     c.loop-i.invariant)
 
 -- and where it is not, there is one of the record's
@@ -154,7 +154,7 @@ loop-i-preserved c =
           began_first c.args.records.now.history.entries c.args.locks.now.history.entries t
           w.index-lock_order-i.result c.args.lock_order.now c.loop-i.i w.first_of-then-i-lock_order-2.result
           w.first_of.result
-          (subst (λ (s : Taken). IsFirstOf c.args.records.now.history.entries s
+          (subst (λ (s : OrderedCall). IsFirstOf c.args.records.now.history.entries s
           w.first_of-then-i-lock_order-2.result) again w.first_of-then-i-lock_order-2.ensures)
           w.first_of.ensures
           (slice_get_read c.args.lock_order.now (length c.args.lock_order.now) c.loop-i.i
@@ -171,7 +171,7 @@ loop-i-preserved c =
     (sym pushed)
     (unites_record c.args.observed.now c.args.locks.now c.args.records.now c.args.lock_order.now
     c.args.record_order.now c.loop-i.order.items c.loop-i.i c.loop-i.j t c.in_whole-else-lock_is_next.result
-    c.requires.observed c.requires.locks c.requires.records at c.in_whole-else-lock_is_next.ensures.entry
+    c.requires.observed c.requires.locks c.requires.records at c.in_whole-else-lock_is_next.ensures.index
     c.in_whole-else-lock_is_next.ensures.reply first c.loop-i.invariant)
 
 pub returns : goal.returns

@@ -5,7 +5,7 @@ use Rattle.stamp_explain.specs.declared.node.Node.{Node}
 use Rattle.stamp_explain.specs.declared.node.Origin.{Origin}
 use Rattle.stamp_explain.specs.declared.store.Store.{Store}
 use Rattle.stamp_explain.specs.Store.{IsStored}
-use Rattle.stamp_explain.proofs.AddingUnseen.{new_is_added, seen_is_left_out}
+use Rattle.stamp_explain.proofs.AddingNew.{new_is_added, visited_is_left_out}
 use Rattle.stamp_explain.proofs.asking.add_new.Goals as goal
 use Rattle.stamp_explain.proofs.asking.add_new.Goals.{then-branch+in_ok-push, else-branch}
 
@@ -30,7 +30,7 @@ loop-next-preserved c =
           c.loop-next.invariant (stored_so w.if-branch.true c.in_ok-add.ensures)
           (ap (λ (v : Vec ℕ Global). v.items) w.waiting-is ∙ w.in_ok-push.ensures.items ∙
           ap (λ (n : ℕ). waiting ++ n ∷ []) (c.len-index.ensures ∙ c.loop-next.store.nodes.ok.0))
-      | else-branch w ↦ seen_is_left_out old kept c.add.new.self c.args.from before waiting
+      | else-branch w ↦ visited_is_left_out old kept c.add.new.self c.args.from before waiting
           c.if-branch.waiting.items c.args.nexts.now c.loop-next.next-index blank c.loop-next-test.true
           c.loop-next.invariant (stored_so w.if-branch.false c.in_ok-add.ensures)
           (ap (λ (v : Vec ℕ Global). v.items) w.waiting-is)

@@ -1,12 +1,12 @@
 use Rattle.std.proofs.Common.{List, ◌∙◌, sym, subst}
 use Rattle.stamp_explain.specs.declared.observed.Observation.{Observation}
-use Rattle.stamp_explain.specs.TimelineKeys.{AreEnds}
+use Rattle.stamp_explain.specs.TimelineKeys.{AreReturnKeys}
 use Rattle.stamp_explain.proofs.Exploring.{is_zero}
 use Rattle.stamp_explain.proofs.Faulting.{order_of_none}
 use Rattle.stamp_explain.proofs.explaining.without_order.Goals as goal
 
 pub record_of-requires-clause-order : goal.record_of-requires-clause-order
-record_of-requires-clause-order c = order_of_none c.args.observed.now c.in_ok-ends.ends.items
-    (subst (λ (es : List Observation). AreEnds es c.in_ok-ends.ends.items) c.entries.ensures.entries
-    c.in_ok-ends.ensures)
-    (sym c.in_ok-ends.ends.ok.0 ∙ is_zero c.in_ok-ends.ends.len c.if-is_empty.ensures)
+record_of-requires-clause-order c = order_of_none c.args.observed.now c.in_ok-return_keys.return_keys.items
+    (subst (λ (es : List Observation). AreReturnKeys es c.in_ok-return_keys.return_keys.items) c.entries.ensures.entries
+    c.in_ok-return_keys.ensures)
+    (sym c.in_ok-return_keys.return_keys.ok.0 ∙ is_zero c.in_ok-return_keys.return_keys.len c.if-is_empty.ensures)

@@ -1,5 +1,5 @@
 use Rattle.std.proofs.Common.{◌≡◌, ◌<◌, ℕ, List, sym, subst, arith}
-use Rattle.stamp_explain.specs.declared.linearization.Taken.{Taken}
+use Rattle.stamp_explain.specs.declared.linearization.OrderedCall.{OrderedCall}
 use Rattle.stamp_explain.specs.Linearization.{IsLinearizationOf}
 use Rattle.stamp_explain.proofs.Ordering.{GoesBack, Reads, back_last, back_past, back_call, back_first}
 use Rattle.stamp_explain.proofs.Ordering.{origin_inside, node_inside, reads_there}
@@ -20,8 +20,8 @@ index-node-requires c = subst (λ (n : ℕ). c.index-origin.result.now.from < n)
     c.loop-at.order.items c.index-origin.result.now c.requires.linked c.loop-at-test.true c.loop-at.invariant
     c.index-origin.ensures)
 
-pub taken_at-requires-clause-led : goal.taken_at-requires-clause-led
-taken_at-requires-clause-led c =
+pub ordered_call_at-requires-clause-led : goal.ordered_call_at-requires-clause-led
+ordered_call_at-requires-clause-led c =
     let read : Reads c.args.observed.now c.args.timeline.now.returns.items c.args.store.now c.loop-at.at
     c.index-origin.result.now c.index-node.result.now c.loop-at.invariant.node =
     reads_there c.args.observed.now c.args.timeline.now.returns.items c.args.store.now c.loop-at.at
@@ -41,7 +41,7 @@ loop-at-preserved-in_ok-push c =
     subst (GoesBack c.args.observed.now c.args.timeline.now.returns.items c.args.store.now
     c.index-origin.result.now.from) (sym c.in_ok-push.ensures.items)
     (back_call c.args.observed.now c.args.timeline.now.returns.items c.args.store.now c.loop-at.at
-    c.index-origin.result.now c.index-node.result.now c.loop-at.order.items c.in-Some.field-0 c.loop-at.invariant
+    c.index-origin.result.now c.index-node.result.now c.loop-at.order.items c.in-Some.call c.loop-at.invariant
     (reads_there c.args.observed.now c.args.timeline.now.returns.items c.args.store.now c.loop-at.at
     c.loop-at.order.items c.index-origin.result.now c.index-node.result.now c.requires.linked c.loop-at-test.true
     c.loop-at.invariant c.index-origin.ensures c.index-node.ensures) c.in-Some.ensures)
@@ -65,7 +65,7 @@ loop-at-preserved c =
 pub returns : goal.returns
 returns c =
     let none : c.loop-at.at ≡ 0 = omega (arith, c.loop-at-test.false) in
-    subst (λ (xs : List Taken). IsLinearizationOf c.args.observed.now xs) (sym c.reverse.ensures.items)
+    subst (λ (xs : List OrderedCall). IsLinearizationOf c.args.observed.now xs) (sym c.reverse.ensures.items)
     (back_first c.args.observed.now c.args.timeline.now.returns.items c.args.store.now c.loop-at.order.items
     c.requires.timeline.are c.requires.linked
     (subst (λ (n : ℕ). GoesBack c.args.observed.now c.args.timeline.now.returns.items c.args.store.now n

@@ -49,7 +49,7 @@ returns-in-Nothing-clause-ok c = (
 
 pub returns-clause-undecided : goal.returns-clause-undecided
 returns-clause-undecided c = λ _. subst (λ (f : SearchEnd). Tells c.args.observed.now c.args.entry c.args.most
-    c.args.reply f) c.in-Undecided.is
+    c.args.reply f) c.in-GaveUp.is
     (found_tells c.args.observed.now c.in_ok-seen.seen c.args.entry c.args.most c.index-entries-entry.result
     c.in-Some.returned c.args.reply (read_at c.args.observed.now c.args.entry c.index-entries-entry.result
     c.entries.result.now c.requires.returned c.index-entries-entry.is c.entries.ensures.entries) c.in-Some.is

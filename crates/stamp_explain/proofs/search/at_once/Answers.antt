@@ -11,7 +11,7 @@ returns-in-Some-clause-one c =
     let node = c.args.node.now in
     let there : AwaitsOne h c.args.timeline.now node =
     awaits_one h c.args.timeline.now node c.requires.at.observed c.requires.at.is_timeline c.requires.at.past
-    c.requires.awaited in
+    c.requires.settled in
     expands_at_once h c.args.timeline.now node there.entry c.as_slice-i-items.result.now c.loop-i.i-index
     c.in-Some.next c.settled.result there.awaits there.bit
     (opens_read h c.args.timeline.now node.past c.index.result.now c.as_slice-i-items.result.now

@@ -34,7 +34,7 @@ loop-k-preserved c =
     c.index.ensures c.as_slice-calls.ensures.value in
     let one : AwaitsOne h c.args.timeline.now node =
     awaits_one h c.args.timeline.now node c.requires.at.observed c.requires.at.is_timeline c.requires.at.past
-    c.requires.awaited in
+    c.requires.settled in
     elim c.match-choice_of.branch [
       | in-Some+in_ok-push w ↦
           let same : c.match-choice_of.nexts.items ≡ nexts ++ w.settled.result ∷ [] =
@@ -57,7 +57,7 @@ loop-k-preserved c =
 
 pub returns : goal.returns
 returns c = expands_open c.args.observed.now c.args.timeline.now c.args.node.now c.as_slice-calls.result.now c.loop-k.k
-    c.loop-k.nexts.items c.requires.at.observed c.requires.at.is_timeline c.requires.at.past c.requires.awaited
+    c.loop-k.nexts.items c.requires.at.observed c.requires.at.is_timeline c.requires.at.past c.requires.settled
     (opens_read c.args.observed.now c.args.timeline.now c.args.node.now.past c.index.result.now
     c.as_slice-calls.result.now c.requires.at.is_timeline c.requires.at.past c.index.ensures
     c.as_slice-calls.ensures.value)

@@ -22,7 +22,7 @@ successors-requires c = record {
   at = last_goes_on c.requires.observed c.requires.timeline c.loop.invariant
       (last_read c.loop.invariant c.len-index.ensures c.index.ensures) c.as_slice-returns.ensures.value
       c.if-node-returns.false;
-  awaited = last_settled c.loop.invariant (last_read c.loop.invariant c.len-index.ensures c.index.ensures);
+  settled = last_settled c.loop.invariant (last_read c.loop.invariant c.len-index.ensures c.index.ensures);
 }
 
 pub returns-then-not-branch : goal.returns-then-not-branch

@@ -4,7 +4,7 @@ use Rattle.std.proofs.lemmas.Option.{same_Some}
 use Rattle.std.proofs.lemmas.Bool.{false≢true}
 use Rattle.stamp_explain.specs.declared.observed.Observation.{Observation}
 use Rattle.stamp_explain.specs.Expand.PassesTo.{passes_none, passes_more}
-use Rattle.stamp_explain.specs.Expand.{ComesNext}
+use Rattle.stamp_explain.specs.Expand.{ComesByOneMove}
 use Rattle.stamp_explain.proofs.Awaiting.{Awaits, awaits_of, leads_past, past_of}
 use Rattle.stamp_explain.proofs.search.settled.Goals as goal
 use Rattle.stamp_explain.proofs.search.settled.Goals.{else-loop-node-test, then-loop-node-test+then-not-has_bit}
@@ -14,7 +14,7 @@ loop-node-init c = passes_none
 
 pub loop-node-preserved : goal.loop-node-preserved
 loop-node-preserved c =
-    let on : ComesNext c.args.observed.now None c.args.timeline.now.returns.items c.loop-node.node
+    let on : ComesByOneMove c.args.observed.now None c.args.timeline.now.returns.items c.loop-node.node
     (past_of c.loop-node.node c.without_bit.result) = leads_past c.args.observed.now None c.args.timeline.now
     c.loop-node.node
     (get_or c.entries.result.now c.index.result.now c.index-entries-index.result) c.without_bit.result

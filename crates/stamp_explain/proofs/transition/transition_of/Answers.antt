@@ -3,7 +3,7 @@ use Rattle.std.proofs.Common.{Some, None, refl}
 use Rattle.std.specs.Prelude.{slice_get}
 use Rattle.std.proofs.lemmas.Option.{same_Some, slice_get_read}
 use Rattle.stamp_explain.specs.declared.observed.Observation.{Observation}
-use Rattle.stamp_explain.specs.Node.{HasGone, Does}
+use Rattle.stamp_explain.specs.Node.{IsTransitionOf, Does}
 use Rattle.stamp_explain.proofs.Transitions.{record_went, record_did_not, suits_some}
 use Rattle.stamp_explain.proofs.transition.transition_of.Goals as goal
 
@@ -40,6 +40,6 @@ returns-in-None-record_transition c e s is at =
     let f = c.index-entries-i.result in
     let same : f ≡ e = same_Some f e (sym (entry_at c.args.observed.now.entries _ c.args.i f c.requires.inside
     c.index-entries-i.is c.entries.ensures.entries) ∙ is) in
-    subst (λ (o : Observation). HasGone c.args.observed.now c.args.i o c.args.put s None) same
+    subst (λ (o : Observation). IsTransitionOf c.args.observed.now c.args.i o c.args.put s None) same
     (record_did_not c.args.observed.now c.args.i f s c.args.bits c.args.put (sym c.is_lock_call.ensures ∙
     c.if-is_lock_call.false) at c.in-None-record_transition.ensures)

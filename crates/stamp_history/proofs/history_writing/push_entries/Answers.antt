@@ -17,12 +17,12 @@ loop-index-preserved c =
     record {
       text = item_written entry_data xs i x _ _ _ _ (next_left xs i x x c.loop-index-test.true is)
           c.in_ok-push_comma.ensures c.in_ok-push_entry.ensures.text c.loop-index.invariant.text;
-      fits = all_and_next EntryIsU64 xs i x x c.loop-index-test.true is c.loop-index.invariant.fits
-          c.in_ok-push_entry.ensures.fits;
+      numbers = all_and_next EntryIsU64 xs i x x c.loop-index-test.true is c.loop-index.invariant.numbers
+          c.in_ok-push_entry.ensures.numbers;
     }
 
-pub returns-clause-fits : goal.returns-clause-fits
-returns-clause-fits c =
+pub returns-clause-numbers : goal.returns-clause-numbers
+returns-clause-numbers c =
     let xs = c.args.entries.now in
     let end : length xs ≤ c.loop-index.index = grind (arith, common_steps) in
-    subst (All EntryIsU64) (take_all c.loop-index.index xs end) c.loop-index.invariant.fits
+    subst (All EntryIsU64) (take_all c.loop-index.index xs end) c.loop-index.invariant.numbers

@@ -10,5 +10,5 @@ abbrev pub invariant-loop-index : goal.invariant-loop-index
 invariant-loop-index l = record {
   text : l.text.items ++ items_left entry_data l.index l.entries ≡ l.fn.text.items ++
       compact_text (entries_data l.entries);
-  fits : All EntryIsU64 (take l.index l.entries);
+  numbers : All EntryIsU64 (take l.index l.entries);
 }

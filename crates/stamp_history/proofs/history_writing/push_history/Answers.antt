@@ -28,11 +28,12 @@ returns-clause-text c =
     (onto _ entries rest c.in_ok-push_entries.ensures.text c.in_ok-push_after_entries.ensures.text)
     ∙ ap (λ (h : Recorded). c.args.text.now.items ++ compact_text (history_data h)) same
 
-pub returns-clause-fits : goal.returns-clause-fits
-returns-clause-fits c = record {
-  entries = subst (λ (es : List Entry). All EntryIsU64 es) c.entries.ensures.entries c.in_ok-push_entries.ensures.fits;
+pub returns-clause-numbers : goal.returns-clause-numbers
+returns-clause-numbers c = record {
+  entries = subst (λ (es : List Entry). All EntryIsU64 es) c.entries.ensures.entries
+      c.in_ok-push_entries.ensures.numbers;
   report = subst (λ (pairs : List (ℕ × ℕ)). All PairIsU64 pairs) c.report.ensures
-      c.in_ok-push_after_entries.ensures.fits;
+      c.in_ok-push_after_entries.ensures.numbers;
 }
 
 pub returns-clause-range : goal.returns-clause-range

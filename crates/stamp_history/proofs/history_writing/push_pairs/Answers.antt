@@ -16,12 +16,12 @@ loop-index-preserved c =
     record {
       text = item_written pair_data xs i x _ _ _ _ (next_left xs i (0, 0) x c.loop-index-test.true refl)
           c.in_ok-push_comma.ensures c.in_ok-push_pair.ensures.text c.loop-index.invariant.text;
-      fits = all_and_next PairIsU64 xs i (0, 0) x c.loop-index-test.true refl c.loop-index.invariant.fits
-          c.in_ok-push_pair.ensures.fits;
+      numbers = all_and_next PairIsU64 xs i (0, 0) x c.loop-index-test.true refl c.loop-index.invariant.numbers
+          c.in_ok-push_pair.ensures.numbers;
     }
 
-pub returns-clause-fits : goal.returns-clause-fits
-returns-clause-fits c =
+pub returns-clause-numbers : goal.returns-clause-numbers
+returns-clause-numbers c =
     let xs = c.args.pairs.now in
     let end : length xs ≤ c.loop-index.index = grind (arith, common_steps) in
-    subst (All PairIsU64) (take_all c.loop-index.index xs end) c.loop-index.invariant.fits
+    subst (All PairIsU64) (take_all c.loop-index.index xs end) c.loop-index.invariant.numbers

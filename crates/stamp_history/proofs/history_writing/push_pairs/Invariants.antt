@@ -9,5 +9,5 @@ use Rattle.stamp_history.proofs.history_writing.push_pairs.Given as goal
 abbrev pub invariant-loop-index : goal.invariant-loop-index
 invariant-loop-index l = record {
   text : l.text.items ++ items_left pair_data l.index l.pairs ≡ l.fn.text.items ++ compact_text (report_data l.pairs);
-  fits : All PairIsU64 (take l.index l.pairs);
+  numbers : All PairIsU64 (take l.index l.pairs);
 }

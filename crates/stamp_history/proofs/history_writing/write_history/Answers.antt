@@ -14,4 +14,4 @@ pub returns-clause-again : goal.returns-clause-again
 returns-clause-again c =
     let written : c.push_history.new.text.items ≡ history_text c.args.history.now = returns-clause-text c in
     ap recorded_of written ∙ reads_again c.args.history.now c.in_ok-push_history.ensures.range
-    c.entries.ensures.known c.entries.ensures.replies c.in_ok-push_history.ensures.fits
+    c.entries.ensures.known c.entries.ensures.replies c.in_ok-push_history.ensures.numbers

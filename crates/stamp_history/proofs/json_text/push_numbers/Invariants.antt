@@ -10,5 +10,5 @@ abbrev pub invariant-loop-index : goal.invariant-loop-index
 invariant-loop-index l = record {
   text : l.text.items ++ items_left number_data l.index l.numbers ≡ l.fn.text.items ++
       compact_text (words_data l.numbers);
-  fits : All IsU64 (take l.index l.numbers);
+  numbers : All IsU64 (take l.index l.numbers);
 }

@@ -7,7 +7,7 @@ use Rattle.stamp_core.specs.declared.entry.Entry.{Entry}
 use Rattle.stamp_machines.specs.Script.{Scripted}
 use Rattle.stamp_machines.specs.Completing.{Completing, before_all}
 use Rattle.stamp_machines.specs.World.{finished_calls}
-use Rattle.stamp_machines.specs.RunRecord.{run_record}
+use Rattle.stamp_machines.specs.RecordedRun.{recorded_run}
 use Rattle.stamp_history.specs.HistoryText.{entries_data, after_entries, history_data}
 use Rattle.stamp_history.proofs.Appending.{onto}
 use Rattle.stamp_history.proofs.HistoryParts.{same_record}
@@ -23,8 +23,8 @@ returns c =
     let written : List Entry = started.rest in
     let all : written ≡ finished_calls script script.steps = ap (λ (d : Completing). d.rest) before in
     let r : Recorded = record { limits = c.limits.result; width = c.width.result; entries = written; report = [] } in
-    let same : r ≡ run_record script =
-    same_record (run_record script) _ _ _ _ c.limits.ensures.limits c.width.ensures.width all refl in
+    let same : r ≡ recorded_run script =
+    same_record (recorded_run script) _ _ _ _ c.limits.ensures.limits c.width.ensures.width all refl in
     let entries = compact_text (entries_data written) in
     let rest = members_text true (after_entries r.limits r.width []) in
     onto _ (codes "{\"entries\":") (entries ++ rest) c.in_ok-push_text.ensures

@@ -16,10 +16,10 @@ returns-then-not-is_writing c =
     rw c.word-now.ensures at
     (writes_at limits c.word-now.result c.writes.result range
     (rw c.word-now.ensures c.requires.word) c.writes.ensures) in
-    let before : c.writes-then-not-is_writing.result ≡ (counts_at limits c.args.lock_word).write_count =
+    let before : c.writes-then-not-is_writing.result ≡ (counts_at limits c.args.at_first).write_count =
     rw c.word.ensures at
     (writes_at limits c.word.result c.writes-then-not-is_writing.result range
-    (rw c.word.ensures c.requires.lock_word) c.writes-then-not-is_writing.ensures) in
+    (rw c.word.ensures c.requires.at_first) c.writes-then-not-is_writing.ensures) in
     let yes : ((counts_at limits c.args.found).writers == 0) ≡ true =
     sym free ∙ ap not c.if-not-is_writing.true in
     rw (yes, now, before) refl

@@ -2,7 +2,7 @@ use Rattle.std.proofs.Common.{◌≤◌, length, arith, subst}
 use Rattle.std.specs.List.{All}
 use Rattle.std.proofs.lemmas.List.{take_all}
 use Rattle.std.proofs.lemmas.Grind.{common_steps}
-use Rattle.stamp_observed.specs.ObservationFits.{ObservationFits}
+use Rattle.stamp_observed.specs.ProgramValue.{ObservationIsProgramValue}
 use Rattle.stamp_observed.specs.ObservedText.{observation_data}
 use Rattle.stamp_history.proofs.ItemByItem.{next_left, all_and_next}
 use Rattle.stamp_history.proofs.ItemsText.{item_written}
@@ -17,12 +17,12 @@ loop-index-preserved c =
     record {
       text = item_written observation_data xs i x _ _ _ _ (next_left xs i x x c.loop-index-test.true is)
           c.in_ok-push_comma.ensures c.in_ok-push_observation.ensures.text c.loop-index.invariant.text;
-      fits = all_and_next ObservationFits xs i x x c.loop-index-test.true is c.loop-index.invariant.fits
-          c.in_ok-push_observation.ensures.fits;
+      program_value = all_and_next ObservationIsProgramValue xs i x x c.loop-index-test.true is
+          c.loop-index.invariant.program_value c.in_ok-push_observation.ensures.program_value;
     }
 
-pub returns-clause-fits : goal.returns-clause-fits
-returns-clause-fits c =
+pub returns-clause-program_value : goal.returns-clause-program_value
+returns-clause-program_value c =
     let xs = c.args.entries.now in
     let end : length xs ≤ c.loop-index.index = grind (arith, common_steps) in
-    subst (All ObservationFits) (take_all c.loop-index.index xs end) c.loop-index.invariant.fits
+    subst (All ObservationIsProgramValue) (take_all c.loop-index.index xs end) c.loop-index.invariant.program_value

@@ -7,7 +7,7 @@ use Rattle.stamp_explain.specs.declared.observed.Observation.{Observation}
 use Rattle.stamp_explain.specs.Observed.{ObservedHistory, observed_as}
 use Rattle.stamp_history.specs.HistoryText.{after_entries}
 use Rattle.stamp_history.proofs.Appending.{onto}
-use Rattle.stamp_observed.specs.ObservationFits.{ObservationFits}
+use Rattle.stamp_observed.specs.ProgramValue.{ObservationIsProgramValue}
 use Rattle.stamp_observed.specs.ObservedText.{observations_data, observed_data}
 use Rattle.stamp_observed.proofs.ObservedParts.{same_observed}
 use Rattle.stamp_observed.proofs.observed_writing.push_observed.Goals as goal
@@ -24,9 +24,10 @@ returns-clause-text c =
     (onto _ entries rest c.in_ok-push_observations.ensures.text c.in_ok-push_after_entries.ensures.text)
     ∙ ap (λ (o : ObservedHistory). c.args.text.now.items ++ compact_text (observed_data o)) same
 
-pub returns-clause-fits : goal.returns-clause-fits
-returns-clause-fits c = subst (λ (es : List Observation). All ObservationFits es) c.entries.ensures.entries
-    c.in_ok-push_observations.ensures.fits
+pub returns-clause-program_value : goal.returns-clause-program_value
+returns-clause-program_value c =
+    subst (λ (es : List Observation). All ObservationIsProgramValue es) c.entries.ensures.entries
+    c.in_ok-push_observations.ensures.program_value
 
 pub returns-clause-range : goal.returns-clause-range
 returns-clause-range c = subst AreInRange c.limits.ensures c.in_ok-push_after_entries.ensures.range

@@ -14,4 +14,4 @@ pub returns-clause-again : goal.returns-clause-again
 returns-clause-again c = λ suited.
     let written : c.push_observed.new.text.items ≡ observed_text c.args.observed.now = returns-clause-text c in
     ap observed_of written ∙ reads_again c.args.observed.now c.in_ok-push_observed.ensures.range
-    c.entries.ensures.small suited c.in_ok-push_observed.ensures.fits
+    c.entries.ensures.small suited c.in_ok-push_observed.ensures.program_value

@@ -1,7 +1,7 @@
 use Rattle.std.proofs.Common.{◌≡◌, ◌∙◌, List, length, ap, take, arith, sym, subst, ◌<◌}
 use Rattle.std.specs.List.{All}
 use Rattle.std.proofs.lemmas.List.Elements.{All-take}
-use Rattle.stamp_core.specs.Record.{SuitsRecord}
+use Rattle.stamp_core.specs.Record.{EntrySuits}
 use Rattle.stamp_core.specs.declared.entry.Entry.{Entry}
 use Rattle.stamp_picture.proofs.EachInTurn.{few_lanes}
 use Rattle.std.specs.Prelude.{count_by}
@@ -21,9 +21,9 @@ pub returns-clause-lanes : goal.returns-clause-lanes
 returns-clause-lanes c =
     let r = c.args.history.now in
     let n = c.counts_of-right.result.1 in
-    let suit : All (SuitsRecord r.width) c.entries-entries.result.now = subst
-    (λ (xs : List Entry). All (SuitsRecord r.width) xs) (sym c.entries-entries.ensures.entries)
+    let suit : All (EntrySuits r.width) c.entries-entries.result.now = subst
+    (λ (xs : List Entry). All (EntrySuits r.width) xs) (sym c.entries-entries.ensures.entries)
     c.entries-entries.ensures.known.suit in
     let few = few_lanes r.width c.args.window 0 (take n c.entries-entries.result.now)
-    (All-take (SuitsRecord r.width) n c.entries-entries.result.now suit) in
+    (All-take (EntrySuits r.width) n c.entries-entries.result.now suit) in
     subst (λ (bars : List Bar). All (λ (b : Bar). b.lane < 64) bars) (sym c.in_ok-bars.ensures) few

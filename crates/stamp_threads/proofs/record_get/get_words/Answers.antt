@@ -4,7 +4,7 @@ use Rattle.stamp_threads.specs.Seats.{alone}
 use Rattle.stamp_threads.specs.RecordLog.{puts}
 use Rattle.stamp_threads.specs.RecordPass.{first_of, Seated}
 use Rattle.stamp_threads.proofs.RecordPromises.{get_goes_on, get_busy_of, get_lost_of}
-use Rattle.stamp_threads.proofs.RecordPromises.{get_made_of, get_obeys_of}
+use Rattle.stamp_threads.proofs.RecordPromises.{get_made_of, get_rule_of}
 use Rattle.stamp_threads.proofs.record_get.get_words.Goals as goal
 
 pub load_all-requires-clause-loading : goal.load_all-requires-clause-loading
@@ -50,6 +50,6 @@ returns-clause-ok g c =
       made = get_made_of _ _ c.requires.shape.0 _ _ _ _ _ _ c.load_for_get-loaded.ensures.learned test
           c.load_all.ensures.learned _ _ c.confirm-found.ensures.learned c.if-found-loaded.false;
       long = c.load_all.ensures.long ∙ c.requires.long;
-      obeys = get_obeys_of _ _ c.requires.shape.0 _ _ _ _ _ _ c.load_for_get-loaded.ensures.learned test
+      rule = get_rule_of _ _ c.requires.shape.0 _ _ _ _ _ _ c.load_for_get-loaded.ensures.learned test
           c.load_all.ensures.learned _ _ c.confirm-found.ensures.learned c.if-found-loaded.false;
     }

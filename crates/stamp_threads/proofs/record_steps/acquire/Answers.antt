@@ -9,5 +9,5 @@ compare_exchange-requires g c = (
   rw (c.requires.step.0, c.requires.step.1)
       (allows_acquire _ _ _ _ _ c.requires.free.0 _ _ _ c.requires.seat.2 c.requires.idle
       c.requires.free.1 c.requires.free.2 c.requires.free.3 c.requires.long
-      c.requires.good),
+      c.requires.rule),
 )

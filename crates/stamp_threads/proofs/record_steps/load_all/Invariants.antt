@@ -8,7 +8,7 @@ use Rattle.stamp_threads.proofs.record_steps.load_all.Given as goal
 abbrev pub invariant-loop-i : goal.invariant-loop-i
 invariant-loop-i g l = record {
   table : l.seat.table_id ≡ l.initial.seat.table_id;
-  learned : (version : ℕ) → (first_of l.initial.seat.me.0).phase ≡ Loading version [] →
+  learned : (puts_before : ℕ) → (first_of l.initial.seat.me.0).phase ≡ Loading puts_before [] →
       l.seat.me ≡ alone (with_phase (first_of l.initial.seat.me.0)
-      (Loading version (take l.i l.into)));
+      (Loading puts_before (take l.i l.into)));
 }

@@ -8,7 +8,7 @@ use Rattle.stamp_threads.proofs.record_steps.store_all.Given as goal
 abbrev pub invariant-loop-i : goal.invariant-loop-i
 invariant-loop-i g l = record {
   table : l.seat.table_id ≡ l.initial.seat.table_id;
-  learned : (version : ℕ) → (first_of l.initial.seat.me.0).phase ≡ Writing version l.words 0 →
+  learned : (puts_before : ℕ) → (first_of l.initial.seat.me.0).phase ≡ Writing puts_before l.words 0 →
       l.seat.me ≡ alone (with_phase (first_of l.initial.seat.me.0)
-      (Writing version l.words l.i));
+      (Writing puts_before l.words l.i));
 }

@@ -15,14 +15,14 @@ refuted b f not p = let is : b ≡ true = f p in cc
 pub returns-then-not-is_above-2 : goal.returns-then-not-is_above-2
 returns-then-not-is_above-2 c =
     breaks_overlap c.args.limits c.args.entry.now c.args.self.now c.args.self.now None c.requires.thread
-    (c.is_within.ensures.0 c.if-not-is_within.false) (c.is_above.ensures.0 c.if-not-is_above.false)
+    (c.has_point_inside.ensures.0 c.if-not-has_point_inside.false) (c.is_above.ensures.0 c.if-not-is_above.false)
     (refuted _ c.is_above-2.ensures.1 c.if-not-is_above-2.true)
 
 -- the tests before the reply have passed
 follows : (c : Else-not-is_above-2) → Follows c.args.entry.now c.args.self.now None
 follows c = record {
   thread = c.requires.thread;
-  within = c.is_within.ensures.0 c.if-not-is_within.false;
+  within = c.has_point_inside.ensures.0 c.if-not-has_point_inside.false;
   above = c.is_above.ensures.0 c.if-not-is_above.false;
   free = c.is_above-2.ensures.0 c.if-not-is_above-2.false;
 }

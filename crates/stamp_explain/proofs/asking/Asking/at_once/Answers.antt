@@ -1,6 +1,6 @@
 use Rattle.std.proofs.Common.{◌≢◌, Some, get_or, sym, ◌∙◌, arith}
 use Rattle.stamp_explain.specs.Timeline.{IsOpenAt}
-use Rattle.stamp_explain.specs.Expand.{Took}
+use Rattle.stamp_explain.specs.Expand.{IsTakeOf}
 use Rattle.stamp_explain.proofs.Awaiting.{AwaitsOne, awaits_one}
 use Rattle.stamp_explain.proofs.Awaiting.{open_read, opens_read}
 use Rattle.stamp_explain.proofs.Succeeding.{none_at_once, none_by_asked, none_by_change}
@@ -29,7 +29,7 @@ awaits c = awaits_one c.args.self.now.seen c.args.self.now.timeline c.args.node.
     c.requires.asks.timeline c.requires.past c.requires.reached.settled
 
 -- it takes effect, and returns that come next are past
-found : (c : After-settled) → Took c.args.self.now.seen c.args.self.now.timeline.returns.items c.args.node.now
+found : (c : After-settled) → IsTakeOf c.args.self.now.seen c.args.self.now.timeline.returns.items c.args.node.now
     (get_or c.as_slice-i-items.result.now c.loop-i.i-index 0) (Some c.in-Some.next)
 found c = c.in-Some.ensures c.args.self.now.timeline.returns.items c.requires.asks.timeline.are (opened c)
 

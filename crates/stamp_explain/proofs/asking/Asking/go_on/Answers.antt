@@ -4,7 +4,7 @@ use Rattle.std.proofs.Common.{None}
 use Rattle.std.proofs.lemmas.Result.{IfOk-weaker}
 use Rattle.stamp_core.specs.declared.reply.Reply.{Reply}
 use Rattle.stamp_explain.specs.Observed.{ObservedHistory}
-use Rattle.stamp_explain.specs.Expand.{Suffice, Took}
+use Rattle.stamp_explain.specs.Expand.{Suffice, IsTakeOf}
 use Rattle.stamp_explain.specs.Asking.{SufficeUnless, IsSeenWith}
 use Rattle.stamp_explain.proofs.asking.Asking.go_on.Goals as goal
 
@@ -18,7 +18,7 @@ returns-in-Some-clause-whole c = record {
 pub returns-clause-whole : goal.returns-clause-whole
 returns-clause-whole c = IfOk-weaker c.choices.result
     (λ _. (reply : Reply) (h : ObservedHistory) → IsSeenWith c.args.self.now reply h →
-    Took h c.args.self.now.timeline.returns.items c.args.node.now c.args.self.now.index None →
+    IsTakeOf h c.args.self.now.timeline.returns.items c.args.node.now c.args.self.now.index None →
     Suffice h c.args.self.now.timeline.returns.items c.args.node.now c.choices.new.nexts.items)
     (λ _. SufficeUnless c.args.self.now c.args.node.now c.choices.new.nexts.items c.ask.new.replies.items)
     (λ _ whole. record {

@@ -48,8 +48,8 @@ access_is_safe : (g : Over) (c : After-deref_mut g) →
 access_is_safe g c begun = rw (words_found g c)
     (worker-safe g.gone _ _ _ _ _ _ _ begun c.requires.1.0 c.requires.0 c.requires.1.1.0 (has_call_under_way g c))
 
-pub access-requires-clause-memory : goal.access-requires-clause-memory
-access-requires-clause-memory g c = let at = goal.at.access-requires-clause-memory g c in
+pub access-requires-clause-inside : goal.access-requires-clause-inside
+access-requires-clause-inside g c = let at = goal.at.access-requires-clause-inside g c in
     (access_is_safe g at.After-deref_mut (next_begun g at.After-index_mut-worker)).0
 
 pub access-requires-clause-word : goal.access-requires-clause-word

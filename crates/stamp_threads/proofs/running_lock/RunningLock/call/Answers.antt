@@ -3,8 +3,8 @@ use Rattle.stamp_core.specs.LockDecision.{reply_as}
 use Rattle.stamp_machines.proofs.LockCallSteps.{by_number}
 use Rattle.stamp_threads.specs.LockPass.{LockView, LockToken}
 use Rattle.stamp_threads.proofs.CallSteps.{exchange_won, exchange_lost}
-use Rattle.stamp_threads.proofs.Underway.{begins, is_made_by_answer, ends_by_answer, is_made_by_change}
-use Rattle.stamp_threads.proofs.Underway.{ends_by_change, loses_exchange, loads_again}
+use Rattle.stamp_threads.proofs.GoingAsMachine.{begins, is_made_by_answer, ends_by_answer, is_made_by_change}
+use Rattle.stamp_threads.proofs.GoingAsMachine.{ends_by_change, loses_exchange, loads_again}
 use Rattle.stamp_threads.proofs.Replying.{may_reply}
 use Rattle.stamp_threads.proofs.running_lock.RunningLock.call.Goals as goal
 
@@ -14,7 +14,7 @@ loop-init g c =
     let view = ap (λ (p : LockToken). p.view) c.pass.view_is in
     record {
       seat = c.load-found.ensures.seat;
-      underway = begins _ _ _ _ _ c.requires.lock_call (rw (limits, view) at c.load-found.ensures.learned);
+      to_decide = begins _ _ _ _ _ c.requires.lock_call (rw (limits, view) at c.load-found.ensures.learned);
     }
 
 pub exchange-found-requires-clause-changes : goal.exchange-found-requires-clause-changes
@@ -26,24 +26,24 @@ exchange-found-requires-clause-changes g c =
 pub returns-in-Answer-clause-made : goal.returns-in-Answer-clause-made
 returns-in-Answer-clause-made g c =
     rw c.as_reply.ensures
-    (is_made_by_answer _ _ _ _ _ c.loop.invariant.underway _ c.in-Answer.ensures.decides)
+    (is_made_by_answer _ _ _ _ _ c.loop.invariant.to_decide _ c.in-Answer.ensures.decides)
 
 pub returns-in-Answer-clause-reply : goal.returns-in-Answer-clause-reply
 returns-in-Answer-clause-reply g c =
     rw c.as_reply.ensures
     (may_reply _ _ _ _ _ c.requires.lock_call
-    (is_made_by_answer _ _ _ _ _ c.loop.invariant.underway _ c.in-Answer.ensures.decides))
+    (is_made_by_answer _ _ _ _ _ c.loop.invariant.to_decide _ c.in-Answer.ensures.decides))
 
 pub returns-in-Answer-clause-machine : goal.returns-in-Answer-clause-machine
 returns-in-Answer-clause-machine g c =
     rw c.as_reply.ensures
-    (ends_by_answer _ _ _ _ _ c.loop.invariant.underway _ c.in-Answer.ensures.number)
+    (ends_by_answer _ _ _ _ _ c.loop.invariant.to_decide _ c.in-Answer.ensures.number)
 
 pub returns-then-found-old-clause-made : goal.returns-then-found-old-clause-made
 returns-then-found-old-clause-made g c =
     let limits = c.self.invariant.0 ∙ ap (λ (l : LockView). l.limits) c.self.view_is in
     rw c.as_reply-then-found-old.ensures
-    (is_made_by_change _ _ _ _ _ c.loop.invariant.underway _ _ c.in-Change.ensures.decides
+    (is_made_by_change _ _ _ _ _ c.loop.invariant.to_decide _ _ c.in-Change.ensures.decides
     c.in-Change.ensures.number _
     (exchange_won _ _ _ _ _ _ c.if-found-old.true (rw limits at c.exchange-found.ensures.learned)))
 
@@ -52,7 +52,7 @@ returns-then-found-old-clause-reply g c =
     let limits = c.self.invariant.0 ∙ ap (λ (l : LockView). l.limits) c.self.view_is in
     rw c.as_reply-then-found-old.ensures
     (may_reply _ _ _ _ _ c.requires.lock_call
-    (is_made_by_change _ _ _ _ _ c.loop.invariant.underway _ _ c.in-Change.ensures.decides
+    (is_made_by_change _ _ _ _ _ c.loop.invariant.to_decide _ _ c.in-Change.ensures.decides
     c.in-Change.ensures.number _
     (exchange_won _ _ _ _ _ _ c.if-found-old.true (rw limits at c.exchange-found.ensures.learned))))
 
@@ -60,7 +60,7 @@ pub returns-then-found-old-clause-machine : goal.returns-then-found-old-clause-m
 returns-then-found-old-clause-machine g c =
     let limits = c.self.invariant.0 ∙ ap (λ (l : LockView). l.limits) c.self.view_is in
     rw c.as_reply-then-found-old.ensures
-    (ends_by_change _ _ _ _ _ c.loop.invariant.underway _ _ c.in-Change.ensures.decides
+    (ends_by_change _ _ _ _ _ c.loop.invariant.to_decide _ _ c.in-Change.ensures.decides
     c.in-Change.ensures.number _
     (exchange_won _ _ _ _ _ _ c.if-found-old.true (rw limits at c.exchange-found.ensures.learned)))
 
@@ -70,7 +70,7 @@ loop-preserved-in-Change g c =
     let lost = exchange_lost _ _ _ _ _ _ c.if-found-old.false (rw limits at c.exchange-found.ensures.learned) in
     record {
       seat = c.exchange-found.ensures.seat;
-      underway = loses_exchange _ _ _ _ _ c.loop.invariant.underway _ _ c.in-Change.ensures.decides
+      to_decide = loses_exchange _ _ _ _ _ c.loop.invariant.to_decide _ _ c.in-Change.ensures.decides
           c.in-Change.ensures.number _ _ lost.0 lost.1;
     }
 
@@ -79,6 +79,6 @@ loop-preserved g c =
     let limits = c.self.invariant.0 ∙ ap (λ (l : LockView). l.limits) c.self.view_is in
     record {
       seat = c.load-found-in-Wait.ensures.seat;
-      underway = loads_again _ _ _ _ _ c.loop.invariant.underway c.in-Wait.ensures.decides
+      to_decide = loads_again _ _ _ _ _ c.loop.invariant.to_decide c.in-Wait.ensures.decides
           c.in-Wait.ensures.number _ _ (rw limits at c.load-found-in-Wait.ensures.learned);
     }

@@ -3,10 +3,10 @@ use Rattle.stamp_core.specs.LockDecision.{reply_as}
 use Rattle.stamp_machines.proofs.LockCallSteps.{by_number}
 use Rattle.stamp_threads.specs.LockPass.{LockView, LockToken, first_of}
 use Rattle.stamp_threads.specs.LockRule.{Loaded, Won}
-use Rattle.stamp_threads.specs.Underway.{Underway}
+use Rattle.stamp_threads.specs.GoesAsMachine.{IsToDecide}
 use Rattle.stamp_threads.proofs.CallSteps.{exchange_won, exchange_lost, never_waits}
-use Rattle.stamp_threads.proofs.Underway.{begins, is_made_by_answer, ends_by_answer, is_made_by_change}
-use Rattle.stamp_threads.proofs.Underway.{ends_by_change, loses_exchange, goes_to_change}
+use Rattle.stamp_threads.proofs.GoingAsMachine.{begins, is_made_by_answer, ends_by_answer, is_made_by_change}
+use Rattle.stamp_threads.proofs.GoingAsMachine.{ends_by_change, loses_exchange, goes_to_change}
 use Rattle.stamp_threads.proofs.Replying.{may_reply}
 use Rattle.stamp_threads.proofs.TwoAccesses.{twice_by_win, twice_by_answer, loses}
 use Rattle.stamp_threads.proofs.running_lock.RunningLock.once.Goals as goal
@@ -46,7 +46,7 @@ module _ (c : goal.After-as_reply-then-found-loaded) where
       let view = ap (λ (p : LockToken). p.view) c.pass.view_is in
       rw (limits, view) at c.load-loaded.ensures.learned
 
-  begun : Underway c.args.self.now.limits c.try_form-call.result c.args.pass.now.view
+  begun : IsToDecide c.args.self.now.limits c.try_form-call.result c.args.pass.now.view
       c.load-loaded.result (first_of c.load-loaded.new.seat.me.0)
   begun = begins _ _ _ _ _ (c.try_form-call.ensures.lock_call c.requires.lock_call) loaded
 
@@ -110,9 +110,9 @@ module _ (c : goal.Joined-decide-2) where
       let limits = c.self.invariant.0 ∙ ap (λ (l : LockView). l.limits) c.self.view_is in
       exchange_lost _ _ _ _ _ _ c.if-found-loaded.false (rw limits at c.exchange-found.ensures.learned)
 
-  underway : Underway c.args.self.now.limits c.try_form-call.result c.args.pass.now.view
+  to_decide : IsToDecide c.args.self.now.limits c.try_form-call.result c.args.pass.now.view
       c.exchange-found.result (first_of c.exchange-found.new.seat.me.0)
-  underway =
+  to_decide =
       let begun = begins _ _ _ _ _ (c.try_form-call.ensures.lock_call c.requires.lock_call) learned in
       loses_exchange _ _ _ _ _ begun _ _ c.in-Change.ensures.decides c.in-Change.ensures.number _ _
       lost.0 lost.1
@@ -120,7 +120,7 @@ module _ (c : goal.Joined-decide-2) where
 pub returns-after-decide-2-clause-ok : goal.returns-after-decide-2-clause-ok
 returns-after-decide-2-clause-ok c = elim c.match-decide-2.branch [
   | in-Answer-decide w ↦ rw (w.result-is, ← c.try_form-call.ensures.form, w.as_reply-in-Answer-decide.ensures)
-      (is_made_by_answer _ _ _ _ _ (underway c) _ w.in-Answer-decide.ensures.decides)
+      (is_made_by_answer _ _ _ _ _ (to_decide c) _ w.in-Answer-decide.ensures.decides)
   | in-Change-decide w ↦ rw w.result-is tt
 ]
 
@@ -128,7 +128,7 @@ pub returns-after-decide-2-clause-reply : goal.returns-after-decide-2-clause-rep
 returns-after-decide-2-clause-reply c = elim c.match-decide-2.branch [
   | in-Answer-decide w ↦ rw (w.result-is, ← c.try_form-call.ensures.form, w.as_reply-in-Answer-decide.ensures)
       (may_reply _ _ _ _ _ (c.try_form-call.ensures.lock_call c.requires.lock_call)
-      (is_made_by_answer _ _ _ _ _ (underway c) _ w.in-Answer-decide.ensures.decides))
+      (is_made_by_answer _ _ _ _ _ (to_decide c) _ w.in-Answer-decide.ensures.decides))
   | in-Change-decide w ↦ rw w.result-is tt
 ]
 
@@ -151,7 +151,7 @@ returns-after-decide-2-clause-lost c = elim c.match-decide-2.branch [
 pub returns-after-decide-2-clause-machine : goal.returns-after-decide-2-clause-machine
 returns-after-decide-2-clause-machine c = elim c.match-decide-2.branch [
   | in-Answer-decide w ↦ rw (w.result-is, ← c.try_form-call.ensures.form, w.as_reply-in-Answer-decide.ensures)
-      (ends_by_answer _ _ _ _ _ (underway c) _ w.in-Answer-decide.ensures.number)
+      (ends_by_answer _ _ _ _ _ (to_decide c) _ w.in-Answer-decide.ensures.number)
   | in-Change-decide w ↦ rw (w.result-is, ← c.try_form-call.ensures.form)
-      (goes_to_change _ _ _ _ _ _ _ (underway c) w.in-Change-decide.ensures.number)
+      (goes_to_change _ _ _ _ _ _ _ (to_decide c) w.in-Change-decide.ensures.number)
 ]

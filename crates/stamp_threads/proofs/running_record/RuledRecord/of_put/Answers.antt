@@ -19,4 +19,4 @@ of_table-requires-clause-kept g c =
     (opening (word ∷ words) [] (opening_pass (Some words) ∷ []))) same
     (opens_holding words _ limits _
     (c.first_word.ensures ∙ ap (λ (l : Layout). word_with l 1 false) c.layout.ensures.layout)
-    c.requires.version c.requires.obeys))
+    c.requires.version c.requires.rule))

@@ -1,0 +1,75 @@
+//! Why a history has no recorded history: the return at which it is stuck, or undecided.
+ghost use Rattle.std.specs.Prelude.{◌≡◌, ◌≤◌, ◌<◌, ◌+◌, IfOk, length};
+ghost use Rattle.stamp_explain.specs.Cut.{seen_at};
+ghost use Rattle.stamp_explain.specs.Observed.{IsObserved};
+ghost use Rattle.stamp_explain.specs.TimelineKeys.{AreReturnKeys};
+ghost use Rattle.stamp_explain.specs.Expand.{IsFoundApart};
+ghost use Rattle.stamp_explain.specs.Answer.{IsNotFound, IsRefusal};
+
+use crate::cut::seen_at;
+use crate::explaining::ExplainError;
+use crate::found::{SearchEnd, find};
+use crate::observed::Observed;
+use std::alloc::{AllocError, Global};
+
+/// What a search finds of the history as it is seen when a call has returned: the position of its
+/// return, and its index.
+fn found_at(
+    alloc: Global,
+    observed: &Observed,
+    end: (u64, usize),
+    most: u64,
+) -> Result<SearchEnd, AllocError>
+    requires observed { IsObserved observed.now }
+    requires end { end.1 < length observed.now.entries }
+    ensures { IfOk result (λ found. IsFoundApart (seen_at end.0 (end.1 + 1) observed.now) most found) }
+{
+    let _ = observed.entries();
+    let seen = seen_at(alloc, observed, end.0, end.1 + 1)?;
+    find(alloc, &seen, most)
+}
+
+/// The first return at which no order was found, where none was found for the whole history: since
+/// there is none, or since the search gave up. It halves the returns again and again. A return at which
+/// the search gives up ends what is looked at.
+pub(crate) fn refusal_of(
+    alloc: Global,
+    observed: &Observed,
+    return_keys: &[(u64, usize)],
+    most: u64,
+    unexplained: bool,
+) -> Result<ExplainError, AllocError>
+    requires observed { IsObserved observed.now }
+    requires keys { AreReturnKeys observed.now.entries return_keys.now }
+    requires some { 0 < length return_keys.now }
+    requires found { IsNotFound observed.now most unexplained }
+    ensures { IfOk result (λ refused. IsRefusal observed.now most refused) }
+{
+    let mut low = 0;
+    let mut high = return_keys.len() - 1;
+    let mut unexplained = unexplained;
+    let mut stuck = unexplained;
+    while low < high {
+        let middle = low + (high - low) / 2;
+        match found_at(alloc, observed, return_keys[middle], most)? {
+            SearchEnd::Linearization(_) => low = middle + 1,
+            SearchEnd::Nothing => {
+                high = middle;
+                unexplained = true;
+                stuck = true;
+            }
+            SearchEnd::GaveUp => {
+                high = middle;
+                stuck = false;
+            }
+        }
+    }
+    let entry = return_keys[low].1;
+    if stuck {
+        Ok(ExplainError::Stuck(entry))
+    } else if unexplained {
+        Ok(ExplainError::Unexplained(entry))
+    } else {
+        Ok(ExplainError::Undecided(entry))
+    }
+}
