@@ -10,7 +10,7 @@ use Rattle.std.proofs.lemmas.Bool.{false≢true, cases_order}
 use Rattle.stamp_explain.specs.declared.observed.Observation.{Observation}
 use Rattle.stamp_explain.specs.declared.observed.Returned.{Returned}
 use Rattle.stamp_explain.specs.declared.found.SearchEnd.{SearchEnd}
-use Rattle.stamp_explain.specs.declared.found.SearchEnd.TheVariants.{Linearization, Nothing, GaveUp}
+use Rattle.stamp_explain.specs.declared.found.SearchEnd.TheVariants.{Linearization, NoOrder, GaveUp}
 use Rattle.stamp_explain.specs.Observed.{ObservedHistory, IsObserved, HasReturned, IsReturnAt}
 use Rattle.stamp_explain.specs.Explained.{IsEffectOf, AreOfTwoEntries, RespectsBefore, IsExplained, IsExplainedBy}
 use Rattle.stamp_explain.specs.Cut.{cut_entry, cut_entries, returned_by, cut, seen_at, IsStuck}
@@ -448,7 +448,7 @@ unexplained_between h most ends low high p are is le at =
 pub data Narrows (low high : ℕ) (unexplained stuck : Bool) (middle l u : ℕ) (x s : Bool) : SearchEnd → Type 0 where
   above : {order : Vec OrderedCall Global} → l ≡ middle + 1 → u ≡ high → x ≡ unexplained → s ≡ stuck →
       Narrows low high unexplained stuck middle l u x s (Linearization order)
-  below : l ≡ low → u ≡ middle → x ≡ true → s ≡ true → Narrows low high unexplained stuck middle l u x s Nothing
+  below : l ≡ low → u ≡ middle → x ≡ true → s ≡ true → Narrows low high unexplained stuck middle l u x s NoOrder
   at_least : l ≡ low → u ≡ middle → x ≡ unexplained → s ≡ false →
       Narrows low high unexplained stuck middle l u x s GaveUp
 
@@ -492,7 +492,7 @@ narrowed h most unexplained ends low high middle stuck (Linearization order) l u
     same h most unexplained ends (middle + 1) high stuck l u x s l_is u_is x_is s_is
     (between_above h most unexplained ends low high middle stuck (get_or ends middle (0, 0)) observed are is less
     (end_at ends middle (omega (arith, less, is.inside))) (record { order = found.order; by = found.explains }))
-narrowed h most unexplained ends low high middle stuck Nothing l u x s observed are is le less found
+narrowed h most unexplained ends low high middle stuck NoOrder l u x s observed are is le less found
     (below l_is u_is x_is s_is) =
     same h most true ends low middle true l u x s l_is u_is x_is s_is
     (between_below h most unexplained ends low high middle stuck (get_or ends middle (0, 0)) observed is le less

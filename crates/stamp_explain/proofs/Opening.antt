@@ -94,7 +94,7 @@ last_is : (h : ObservedHistory) (ends begins : List (ℕ × ℕ)) (ranks : List 
 last_is h ends begins ranks k d a is lt at =
     let found : (e : Observation) × ((slice_get h.entries (get_or ends k d).1 ≡ Some e) ×
     ReturnsAt e (get_or ends k d).0) = is.ends_are.each (get_or ends k d)
-    (rising_from is.end_keys ends (get_or ends k d) is.ends_rise (Contains-get_or ends k d lt)) in
+    (rising_from is.listed_ends ends (get_or ends k d) is.ends_rise (Contains-get_or ends k d lt)) in
     let same : found.0 ≡ a = same_Some found.0 a (sym found.1.0 ∙ at) in
     (found.1.1.0, (ap (λ (o : Observation). o.returned) (sym same) ∙ found.1.1.1.0, found.1.1.1.1))
 
@@ -270,7 +270,7 @@ opens_at h ends begins ranks k from to c old more sorted is lt keys begins_more 
         which (inr begun) =
             let found : (e : Observation) × ((slice_get h.entries p.1 ≡ Some e) × BeginsAt e begun.first) =
             is.begins_are.each (begun.first, p.1)
-            (rising_from is.begin_keys begins (begun.first, p.1) is.begins_rise begun.key) in
+            (rising_from is.listed_begins begins (begun.first, p.1) is.begins_rise begun.key) in
             record {
               entry = found.0;
               is_entry = found.1.0;
@@ -365,7 +365,7 @@ opens_at h ends begins ranks k from to c old more sorted is lt keys begins_more 
             (λ has. later (subst (λ (xs : List ℕ). Contains xs p.1) (sym all) has))
 
     begin_of : (i : ℕ) (it : IsOpenAt h (key_indices ends) k i) → Contains begins (it.entry.first, i)
-    begin_of i it = rising_has is.begin_keys begins (it.entry.first, i) is.begins_rise
+    begin_of i it = rising_has is.listed_begins begins (it.entry.first, i) is.begins_rise
         (is.begins_are.whole i it.entry it.entry.first (slice_get_within h.entries i it.entry it.is_entry)
         it.is_entry refl)
 
@@ -398,7 +398,7 @@ opens_at h ends begins ranks k from to c old more sorted is lt keys begins_more 
         which (inr after) =
             let a : (e : Observation) × ((slice_get h.entries (get_or ends k c).1 ≡ Some e) ×
             ReturnsAt e (get_or ends k c).0) = is.ends_are.each (get_or ends k c)
-            (rising_from is.end_keys ends (get_or ends k c) is.ends_rise (Contains-get_or ends k c lt)) in
+            (rising_from is.listed_ends ends (get_or ends k c) is.ends_rise (Contains-get_or ends k c lt)) in
             let less : end < it.entry.first = omega (
               arith,
               begins_more.ends key (omega (arith, after, within)),
@@ -434,17 +434,17 @@ opens_more h returns opens v k are many calls = record {
         (subst (λ (x : Vec ℕ Global). AreOpen h returns k x.items) it calls)
 
 -- what the lists are made of
-pub all_keys_are : (h : ObservedHistory) (es : List Observation) (end_keys ends begin_keys begins : List (ℕ × ℕ))
-    (ranks : List ℕ) → es ≡ h.entries → AreKeys ReturnsAt es (length es) end_keys → AreRising end_keys ends →
-    AreKeys BeginsAt es (length es) begin_keys → AreRising begin_keys begins →
+pub all_keys_are : (h : ObservedHistory) (es : List Observation) (listed_ends ends listed_begins begins : List (ℕ × ℕ))
+    (ranks : List ℕ) → es ≡ h.entries → AreKeys ReturnsAt es (length es) listed_ends → AreRising listed_ends ends →
+    AreKeys BeginsAt es (length es) listed_begins → AreRising listed_begins begins →
     AreRanked (length es) (key_indices ends) (length (key_indices ends)) ranks → AreTimelineKeys h ends begins ranks
-all_keys_are h es end_keys ends begin_keys begins ranks same ends_are ends_rise begins_are begins_rise ranked =
+all_keys_are h es listed_ends ends listed_begins begins ranks same ends_are ends_rise begins_are begins_rise ranked =
     record {
-      end_keys = end_keys;
-      ends_are = subst (λ (xs : List Observation). AreKeys ReturnsAt xs (length xs) end_keys) same ends_are;
+      listed_ends = listed_ends;
+      ends_are = subst (λ (xs : List Observation). AreKeys ReturnsAt xs (length xs) listed_ends) same ends_are;
       ends_rise = ends_rise;
-      begin_keys = begin_keys;
-      begins_are = subst (λ (xs : List Observation). AreKeys BeginsAt xs (length xs) begin_keys) same begins_are;
+      listed_begins = listed_begins;
+      begins_are = subst (λ (xs : List Observation). AreKeys BeginsAt xs (length xs) listed_begins) same begins_are;
       begins_rise = begins_rise;
       ranked = subst (λ (xs : List Observation). AreRanks xs (key_indices ends) ranks) same (record {
         each = ranked.each;
@@ -472,5 +472,5 @@ begins_inside h ends begins ranks is k d lt = omega (
   arith,
   is.ranked.each,
   is.begins_are.below (get_or begins k d)
-      (rising_from is.begin_keys begins (get_or begins k d) is.begins_rise (Contains-get_or begins k d lt)),
+      (rising_from is.listed_begins begins (get_or begins k d) is.begins_rise (Contains-get_or begins k d lt)),
 )

@@ -15,7 +15,7 @@ use Rattle.stamp_explain.specs.Observed.{ObservedHistory, IsObserved, IsInterval
 use Rattle.stamp_explain.specs.Explained.{IsExplained}
 use Rattle.stamp_explain.specs.Cut.{cut_after, seen_at}
 use Rattle.stamp_explain.specs.declared.found.SearchEnd.{SearchEnd}
-use Rattle.stamp_explain.specs.declared.found.SearchEnd.TheVariants.{Linearization, Nothing, GaveUp}
+use Rattle.stamp_explain.specs.declared.found.SearchEnd.TheVariants.{Linearization, NoOrder, GaveUp}
 use Rattle.stamp_explain.specs.Configuration.{GivesUpApart}
 use Rattle.stamp_explain.specs.Expand.{IsFoundApart}
 use Rattle.stamp_explain.specs.Possible.{IsPossible, IsUndecidedAtReply, returned_with, with_reply}
@@ -24,7 +24,7 @@ use Rattle.stamp_explain.proofs.Seeing.{seen_explains_as_much}
 -- what is told of a reply by what a search found
 abbrev pub Tells : ObservedHistory → ℕ → ℕ → Reply → SearchEnd → Type 0
 Tells h i most reply (Linearization order) = IsPossible h i reply
-Tells h i most reply Nothing = ¬ IsPossible h i reply
+Tells h i most reply NoOrder = ¬ IsPossible h i reply
 Tells h i most reply GaveUp = IsUndecidedAtReply h i most reply
 
 -- they returned at one position, or neither did
@@ -171,7 +171,7 @@ pub found_tells : (h seen : ObservedHistory) (i most : ℕ) (e : Observation) (r
 found_tells h seen i most e r reply at returned is (Linearization order) same found =
     seen_is_possible h i e r reply at returned is
     (subst IsExplained same (record { order = found.order; by = found.explains }))
-found_tells h seen i most e r reply at returned is Nothing same found = λ possible.
+found_tells h seen i most e r reply at returned is NoOrder same found = λ possible.
     found (subst IsExplained (sym same) (possible_is_seen h i e r reply at returned is possible))
 found_tells h seen i most e r reply at returned is GaveUp same found = record {
   at = record { entry = e; return = r; is_entry = at; returned = returned };

@@ -17,7 +17,7 @@ use Rattle.stamp_explain.specs.declared.linearization.OrderedCall.{OrderedCall}
 use Rattle.stamp_explain.specs.Observed.{ObservedHistory, IsObserved, of_lock, of_record, is_of_lock, is_of_record}
 use Rattle.stamp_explain.specs.Explained.{Effect, IsEffectOf, RespectsBefore, IsExplained}
 use Rattle.stamp_explain.specs.declared.found.SearchEnd.{SearchEnd}
-use Rattle.stamp_explain.specs.declared.found.SearchEnd.TheVariants.{Linearization, Nothing, GaveUp}
+use Rattle.stamp_explain.specs.declared.found.SearchEnd.TheVariants.{Linearization, NoOrder, GaveUp}
 use Rattle.stamp_explain.specs.Configuration.{GivesUp, GivesUpApart, IsNotRefused}
 use Rattle.stamp_explain.specs.Expand.{IsFoundApart, IsSearched}
 use Rattle.stamp_explain.specs.Linearization.{IsLinearizationOf, ordered_calls}
@@ -368,7 +368,7 @@ began_first es fs t s others k a b t_is s_is at le u e f at_u at_e at_f =
 pub found_alone : (h : ObservedHistory) (most : ℕ) (found : SearchEnd) → IsObserved h → h.width ≡ 0 →
     IsSearched h most found → IsFoundApart h most found
 found_alone h most (Linearization order) observed without found = found
-found_alone h most Nothing observed without found = found
+found_alone h most NoOrder observed without found = found
 found_alone h most GaveUp observed without found =
     let given_up : GivesUp (of_lock h) most =
     subst (λ (g : ObservedHistory). GivesUp g most) (sym (all_of_lock h observed without)) found in
@@ -380,18 +380,18 @@ found_alone h most GaveUp observed without found =
 
 -- of neither the search found that no order explains it
 not_refused : (h : ObservedHistory) (most : ℕ) (lock : Bool) (sub : Subhistory) (found : SearchEnd) →
-    IsSubhistoryOf h lock sub → IsSearched sub.history most found → found ≢ Nothing →
+    IsSubhistoryOf h lock sub → IsSearched sub.history most found → found ≢ NoOrder →
     IsNotRefused (of_object lock h) most
 not_refused h most lock sub (Linearization order) is found some = inr (subst IsExplained is.history
     (record { order = found.order; by = found.explains }))
-not_refused h most lock sub Nothing is found some = absurd (some refl)
+not_refused h most lock sub NoOrder is found some = absurd (some refl)
 not_refused h most lock sub GaveUp is found some = inl (subst (λ (g : ObservedHistory). GivesUp g most) is.history
     found)
 
 -- one of the searches gave up, and none found that there is no order
 pub given_up_by : (h : ObservedHistory) (most : ℕ) (locks records : Subhistory) (a b : SearchEnd) →
     IsSubhistoryOf h true locks → IsSubhistoryOf h false records → IsSearched locks.history most a →
-    IsSearched records.history most b → a ≢ Nothing → b ≢ Nothing → (a ≡ GaveUp) ⊎ (b ≡ GaveUp) →
+    IsSearched records.history most b → a ≢ NoOrder → b ≢ NoOrder → (a ≡ GaveUp) ⊎ (b ≡ GaveUp) →
     GivesUpApart h most
 given_up_by h most locks records a b is also found too some any one = record {
   lock = not_refused h most true locks a is found some;

@@ -11,7 +11,7 @@ use Rattle.stamp_explain.specs.declared.node.Origin.{Origin}
 use Rattle.stamp_explain.specs.declared.node.Waiting.{Waiting}
 use Rattle.stamp_explain.specs.declared.store.Store.{Store}
 use Rattle.stamp_explain.specs.declared.found.SearchEnd.{SearchEnd}
-use Rattle.stamp_explain.specs.declared.found.SearchEnd.TheVariants.{Linearization, Nothing, GaveUp}
+use Rattle.stamp_explain.specs.declared.found.SearchEnd.TheVariants.{Linearization, NoOrder, GaveUp}
 use Rattle.stamp_explain.specs.declared.timeline.Timeline.{Timeline}
 use Rattle.stamp_explain.specs.Observed.{ObservedHistory, IsObserved, AreOfOneObject}
 use Rattle.stamp_explain.specs.Unchanging.{is_question_under_way_at}
@@ -185,7 +185,7 @@ IsChoice h asked returns node calls awaited i (Some w) = IsChoiceOf h asked retu
 -- what a search finds: an order; or that there is none; or that it gives up, of which this is known
 abbrev pub IsFoundOr : Type 0 → ObservedHistory → SearchEnd → Type 0
 IsFoundOr Gave_up h (Linearization order) = IsLinearizationOf h order.items
-IsFoundOr Gave_up h Nothing = ¬ IsExplained h
+IsFoundOr Gave_up h NoOrder = ¬ IsExplained h
 IsFoundOr Gave_up h GaveUp = Gave_up
 
 -- by one search, which looks at so many configurations before it gives up

@@ -31,28 +31,28 @@ content_by width entries None = zeros width
 content_by width entries (Some i) = words_put_at width (slice_get entries i)
 
 -- the first call of its thread whose return is not past
-pub record IsFirstLeft (entries : List Observation) (past : List ℕ) (i : ℕ) (e : Observation) : Type 0 where
+pub record IsFirstLeft (entries : List Observation) (returned : List ℕ) (i : ℕ) (e : Observation) : Type 0 where
   pub is_entry : slice_get entries i ≡ Some e
-  pub still : ¬ Contains past i
+  pub still : ¬ Contains returned i
   pub first : (j : ℕ) (f : Observation) → slice_get entries j ≡ Some f → f.thread ≡ e.thread →
-      ¬ Contains past j → j ≢ i → IsBefore e f
+      ¬ Contains returned j → j ≢ i → IsBefore e f
 
--- this thread has a next call
-pub record HasFirstLeft (entries : List Observation) (past : List ℕ) (thread : ℕ) : Type 0 where
+-- this thread has such a call
+pub record HasFirstLeft (entries : List Observation) (returned : List ℕ) (thread : ℕ) : Type 0 where
   pub index : ℕ
   pub entry : Observation
-  pub is : IsFirstLeft entries past index entry
+  pub is : IsFirstLeft entries returned index entry
   pub same : entry.thread ≡ thread
 
--- the calls in effect: those whose return is past, and of the threads whose bit is set, each of which has one, the
--- next one
-pub record AreTaken (entries : List Observation) (past : List ℕ) (threads : ℕ) (taken : List ℕ) : Type 0 where
+-- the calls in effect: those whose return is past, and of the threads whose bit is set, each of which has one, that
+-- first call
+pub record AreTaken (entries : List Observation) (returned : List ℕ) (threads : ℕ) (taken : List ℕ) : Type 0 where
   pub only : (i : ℕ) (e : Observation) → slice_get entries i ≡ Some e → Contains taken i →
-      Contains past i ⊎ ((bit_at threads e.thread ≡ 1) × IsFirstLeft entries past i e)
-  pub all_past : (i : ℕ) → Contains past i → Contains taken i
-  pub each_first : (i : ℕ) (e : Observation) → IsFirstLeft entries past i e → bit_at threads e.thread ≡ 1 →
+      Contains returned i ⊎ ((bit_at threads e.thread ≡ 1) × IsFirstLeft entries returned i e)
+  pub all_past : (i : ℕ) → Contains returned i → Contains taken i
+  pub each_first : (i : ℕ) (e : Observation) → IsFirstLeft entries returned i e → bit_at threads e.thread ≡ 1 →
       Contains taken i
-  pub has_first : (thread : ℕ) → bit_at threads thread ≡ 1 → HasFirstLeft entries past thread
+  pub has_first : (thread : ℕ) → bit_at threads thread ≡ 1 → HasFirstLeft entries returned thread
 
 -- the state of lock and record by numbers: of the word, and of the entry that put the content
 pub record IsStateBy (h : ObservedHistory) (bits : ℕ) (put : Option ℕ) (s : LockState) : Type 0 where

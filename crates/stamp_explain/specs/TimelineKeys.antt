@@ -47,12 +47,12 @@ pub record AreRanked (calls : ℕ) (returns : List ℕ) (k : ℕ) (ranks : List 
 
 -- what the calls that are open are found by: the returns and the beginnings in order, and the ranks
 pub record AreTimelineKeys (h : ObservedHistory) (ends begins : List (ℕ × ℕ)) (ranks : List ℕ) : Type 0 where
-  pub end_keys : List (ℕ × ℕ)
-  pub ends_are : AreKeys ReturnsAt h.entries (length h.entries) end_keys
-  pub ends_rise : AreRising end_keys ends
-  pub begin_keys : List (ℕ × ℕ)
-  pub begins_are : AreKeys BeginsAt h.entries (length h.entries) begin_keys
-  pub begins_rise : AreRising begin_keys begins
+  pub listed_ends : List (ℕ × ℕ)
+  pub ends_are : AreKeys ReturnsAt h.entries (length h.entries) listed_ends
+  pub ends_rise : AreRising listed_ends ends
+  pub listed_begins : List (ℕ × ℕ)
+  pub begins_are : AreKeys BeginsAt h.entries (length h.entries) listed_begins
+  pub begins_rise : AreRising listed_begins begins
   pub ranked : AreRanks h.entries (key_indices ends) ranks
 
 -- for each return, the calls that are open before it

@@ -3,7 +3,7 @@ ghost use Rattle.std.specs.Prelude.{◌≡◌, ◌↔◌, IsTrue};
 ghost use Rattle.stamp_explain.specs.Observed.{IsObserved};
 ghost use Rattle.stamp_explain.specs.Ahead.{IsAhead, GoesAhead, GivesWay};
 
-use crate::node::{Node, has_bit};
+use crate::node::{Node, has_thread};
 use crate::observed::{Observation, Observed};
 use stamp_core::Call;
 
@@ -61,7 +61,7 @@ fn goes_ahead(observed: &Observed, node: &Node, first: usize, later: usize) -> b
     let Some(other) = observed.entries().get(later) else {
         return false;
     };
-    is_ahead(entry, other) && !has_bit(node.threads, entry.thread)
+    is_ahead(entry, other) && !has_thread(node.threads, entry.thread)
 }
 
 /// Whether one of these calls, but for the one that is asked, goes ahead of this one.

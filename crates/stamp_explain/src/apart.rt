@@ -64,16 +64,16 @@ impl Subhistory {
 pub(crate) fn merged(
     alloc: Global,
     observed: &Observed,
-    locks: &Subhistory,
+    lock_calls: &Subhistory,
     lock_order: &[OrderedCall],
-    records: &Subhistory,
+    record_calls: &Subhistory,
     record_order: &[OrderedCall],
 ) -> Result<Vec<OrderedCall>, AllocError>
     requires observed { IsObserved observed.now }
-    requires locks { IsSubhistoryOf observed.now true locks.now }
-    requires records { IsSubhistoryOf observed.now false records.now }
-    requires lock_order { IsLinearizationOf locks.now.history lock_order.now }
-    requires record_order { IsLinearizationOf records.now.history record_order.now }
+    requires lock_calls { IsSubhistoryOf observed.now true lock_calls.now }
+    requires record_calls { IsSubhistoryOf observed.now false record_calls.now }
+    requires lock_order { IsLinearizationOf lock_calls.now.history lock_order.now }
+    requires record_order { IsLinearizationOf record_calls.now.history record_order.now }
     ensures { IfOk result (λ order. IsLinearizationOf observed.now order.items) }
 {
     let mut order = Vec::with_capacity(alloc, observed.entries().len())?;
@@ -82,12 +82,12 @@ pub(crate) fn merged(
     while i < lock_order.len() || j < record_order.len() {
         let lock_is_next = j == record_order.len()
             || i < lock_order.len()
-                && locks.first_of(lock_order[i]) <= records.first_of(record_order[j]);
+                && lock_calls.first_of(lock_order[i]) <= record_calls.first_of(record_order[j]);
         if lock_is_next {
-            order.push(locks.in_whole(lock_order[i]))?;
+            order.push(lock_calls.in_whole(lock_order[i]))?;
             i += 1;
         } else {
-            order.push(records.in_whole(record_order[j]))?;
+            order.push(record_calls.in_whole(record_order[j]))?;
             j += 1;
         }
     }

@@ -5,7 +5,7 @@ ghost use Rattle.stamp_explain.specs.Answer.{IsAnswer, IsNotFound};
 
 use crate::found::{SearchEnd, find};
 use crate::observed::Observed;
-use crate::points::record_of;
+use crate::points::recorded_with_points;
 use crate::refusal::refusal_of;
 use crate::timeline::return_keys_in_order;
 use stamp_core::Record;
@@ -80,7 +80,7 @@ fn without_order(
 {
     let return_keys = return_keys_in_order(alloc, observed.entries())?;
     if return_keys.is_empty() {
-        return Ok(record_of(alloc, observed, &[])?);
+        return Ok(recorded_with_points(alloc, observed, &[])?);
     }
     Err(refusal_of(alloc, observed, return_keys.as_slice(), most, unexplained)?)
 }
@@ -96,8 +96,12 @@ pub fn explain(alloc: Global, observed: &Observed, most: u64) -> Result<Record, 
     ensures { IsAnswer observed.now most result }
 {
     match find(alloc, observed, most)? {
-        SearchEnd::Linearization(order) => Ok(record_of(alloc, observed, order.as_slice())?),
-        SearchEnd::Nothing => without_order(alloc, observed, most, true),
+        SearchEnd::Linearization(order) => Ok(recorded_with_points(
+            alloc,
+            observed,
+            order.as_slice(),
+        )?),
+        SearchEnd::NoOrder => without_order(alloc, observed, most, true),
         SearchEnd::GaveUp => without_order(alloc, observed, most, false),
     }
 }

@@ -15,8 +15,8 @@ use std::alloc::{AllocError, Global};
 pub(crate) enum SearchEnd {
     /// A linearization: an order of calls that explains the history.
     Linearization(Vec<OrderedCall>),
-    /// None does.
-    Nothing,
+    /// There is none.
+    NoOrder,
     /// A search gave up: it had looked at more than `most` configurations.
     GaveUp,
 }
@@ -39,25 +39,25 @@ pub(crate) fn find(alloc: Global, observed: &Observed, most: u64) -> Result<Sear
     if observed.width() == 0 {
         return find_alone(alloc, observed, most);
     }
-    let locks = subhistory_of(alloc, observed, true)?;
-    let records = subhistory_of(alloc, observed, false)?;
-    let of_locks = find_alone(alloc, &locks.history, most)?;
-    let of_records = find_alone(alloc, &records.history, most)?;
-    match of_locks {
-        SearchEnd::Nothing => Ok(SearchEnd::Nothing),
-        SearchEnd::GaveUp => match of_records {
-            SearchEnd::Nothing => Ok(SearchEnd::Nothing),
+    let lock_calls = subhistory_of(alloc, observed, true)?;
+    let record_calls = subhistory_of(alloc, observed, false)?;
+    let lock_end = find_alone(alloc, &lock_calls.history, most)?;
+    let record_end = find_alone(alloc, &record_calls.history, most)?;
+    match lock_end {
+        SearchEnd::NoOrder => Ok(SearchEnd::NoOrder),
+        SearchEnd::GaveUp => match record_end {
+            SearchEnd::NoOrder => Ok(SearchEnd::NoOrder),
             SearchEnd::Linearization(_) | SearchEnd::GaveUp => Ok(SearchEnd::GaveUp),
         },
-        SearchEnd::Linearization(lock_order) => match of_records {
-            SearchEnd::Nothing => Ok(SearchEnd::Nothing),
+        SearchEnd::Linearization(lock_order) => match record_end {
+            SearchEnd::NoOrder => Ok(SearchEnd::NoOrder),
             SearchEnd::GaveUp => Ok(SearchEnd::GaveUp),
             SearchEnd::Linearization(record_order) => Ok(SearchEnd::Linearization(merged(
                 alloc,
                 observed,
-                &locks,
+                &lock_calls,
                 lock_order.as_slice(),
-                &records,
+                &record_calls,
                 record_order.as_slice(),
             )?)),
         },

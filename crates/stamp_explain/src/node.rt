@@ -47,21 +47,21 @@ pub(crate) struct CallTransition {
 }
 
 /// Whether the thread's bit is set.
-pub(crate) fn has_bit(threads: u64, thread: u64) -> bool
+pub(crate) fn has_thread(threads: u64, thread: u64) -> bool
     requires { thread < 64 }
     ensures { IsTrue result ↔ (bit_at threads thread ≡ 1) }
 {
     (threads >> thread) & 1 == 1
 }
 
-pub(crate) fn with_bit(threads: u64, thread: u64) -> u64
+pub(crate) fn with_thread(threads: u64, thread: u64) -> u64
     requires { thread < 64 }
     ensures { SetsBit threads result thread }
 {
     threads | (1 << thread)
 }
 
-pub(crate) fn without_bit(threads: u64, thread: u64) -> u64
+pub(crate) fn without_thread(threads: u64, thread: u64) -> u64
     requires { thread < 64 }
     ensures { ClearsBit threads result thread }
 {

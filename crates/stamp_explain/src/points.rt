@@ -112,7 +112,7 @@ fn entries_of(
 
 /// The recorded history of an order: each call takes effect at the position where it began, or at that of the
 /// call before it, if that is later.
-pub(crate) fn record_of(
+pub(crate) fn recorded_with_points(
     alloc: Global,
     observed: &Observed,
     order: &[OrderedCall],

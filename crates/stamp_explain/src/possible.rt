@@ -94,11 +94,11 @@ fn is_possible(
     let Some(returned) = &observation.returned else {
         unreachable!();
     };
-    let asked = with_reply(alloc, observed, entry, *observation, *returned, reply)?;
-    let seen = seen_at(alloc, &asked, returned.last, entry + 1)?;
+    let tried = with_reply(alloc, observed, entry, *observation, *returned, reply)?;
+    let seen = seen_at(alloc, &tried, returned.last, entry + 1)?;
     match find(alloc, &seen, most)? {
         SearchEnd::Linearization(_) => Ok(true),
-        SearchEnd::Nothing => Ok(false),
+        SearchEnd::NoOrder => Ok(false),
         SearchEnd::GaveUp => Err(PossibleError::Undecided),
     }
 }

@@ -53,7 +53,7 @@ pub(crate) fn refusal_of(
         let middle = low + (high - low) / 2;
         match found_at(alloc, observed, return_keys[middle], most)? {
             SearchEnd::Linearization(_) => low = middle + 1,
-            SearchEnd::Nothing => {
+            SearchEnd::NoOrder => {
                 high = middle;
                 unexplained = true;
                 stuck = true;

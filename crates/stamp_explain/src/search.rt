@@ -12,7 +12,7 @@ ghost use Rattle.stamp_explain.specs.Expand.{MayGoOn, Expands, IsTakeOf, PassesT
 use crate::ahead::gives_way;
 use crate::found::SearchEnd;
 use crate::linearization::linearization_to;
-use crate::node::{Next, Node, Origin, Waiting, has_bit, with_bit, without_bit};
+use crate::node::{Next, Node, Origin, Waiting, has_thread, with_thread, without_thread};
 use crate::observed::{Observed, are_of_one_object};
 use crate::store::Store;
 use crate::timeline::Timeline;
@@ -63,7 +63,7 @@ pub(crate) fn take_of(observed: &Observed, node: &Node, i: usize) -> Option<Next
         → IsOpenAt observed.now returns node.now.past i → IsTakeOf observed.now returns node.now i result }
 {
     let thread = observed.entries()[i].thread;
-    if has_bit(node.threads, thread) {
+    if has_thread(node.threads, thread) {
         return None;
     }
     match transition_of(observed, node.bits, node.put, i) {
@@ -73,7 +73,7 @@ pub(crate) fn take_of(observed: &Observed, node: &Node, i: usize) -> Option<Next
                 past: node.past,
                 bits: transition.bits,
                 put: transition.put,
-                threads: with_bit(node.threads, thread),
+                threads: with_thread(node.threads, thread),
             },
             took: Some(i),
         }),
@@ -92,14 +92,14 @@ pub(crate) fn settled(observed: &Observed, timeline: &Timeline, next: &Next) -> 
     let mut node = next.node;
     while node.past < timeline.returns.len() {
         let thread = observed.entries()[timeline.returns[node.past]].thread;
-        if !has_bit(node.threads, thread) {
+        if !has_thread(node.threads, thread) {
             break;
         }
         node = Node {
             past: node.past + 1,
             bits: node.bits,
             put: node.put,
-            threads: without_bit(node.threads, thread),
+            threads: without_thread(node.threads, thread),
         };
     }
     Next {
@@ -228,7 +228,7 @@ pub(crate) fn search(
         successors(observed, timeline, &node, &mut nexts)?;
         leave(&mut waiting, index, nexts.as_slice())?;
         if !look(&mut store, &mut waiting)? {
-            return Ok(SearchEnd::Nothing);
+            return Ok(SearchEnd::NoOrder);
         }
     }
     Ok(SearchEnd::GaveUp)

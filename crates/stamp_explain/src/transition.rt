@@ -14,7 +14,7 @@ use stamp_core::{Call, Limits, LockDecision, LockReply, Reply, Word, Words, deci
 
 /// Whether the observation allows this reply.
 #[inline(always)]
-fn may_reply(entry: &Observation, reply: &Reply) -> bool
+fn allows_reply(entry: &Observation, reply: &Reply) -> bool
     ensures { IsTrue result ↔ AllowsReply entry.now reply.now }
 {
     match &entry.returned {
@@ -47,7 +47,7 @@ fn lock_transition(limits: Limits, bits: u64, entry: &Observation) -> Option<(u6
 {
     let (next, found) = small_transition(limits, limits.word(bits), &entry.call)?;
     let reply = found.as_reply();
-    if may_reply(entry, &reply) {
+    if allows_reply(entry, &reply) {
         Some((next.bits(), reply))
     } else {
         None
@@ -97,7 +97,7 @@ fn record_transition(
         }
         _ => return None,
     };
-    if may_reply(entry, &reply) {
+    if allows_reply(entry, &reply) {
         Some((next, reply))
     } else {
         None

@@ -13,7 +13,7 @@ pub fn opening_word(layout: Layout) -> u64
 
 /// The word of a record after one put, which got write mode and released it.
 #[tactic(auto, using(stamp_core::proofs::TwoLayouts::either_layout))]
-pub fn first_word(layout: Layout) -> u64
+pub fn word_after_one_put(layout: Layout) -> u64
     ensures { result ≡ word_with layout 1 false }
 {
     let held = opening_word(layout) + layout.writer_unit();

@@ -16,7 +16,7 @@ use crate::record_pass::RecordPass;
 use crate::record_rule::{AnyContent, ContentRule, RecordRule};
 use crate::record_steps::{self, acquire, load_for_put, release, store_all};
 use crate::record_view::{RecordKey, RecordPasses, RecordShape};
-use crate::record_word::{first_word, opening_word};
+use crate::record_word::{opening_word, word_after_one_put};
 use crate::running_lock::LockError;
 use atomic_table::Table;
 use stamp_core::{Layout, Limits, Words};
@@ -132,7 +132,7 @@ impl<P: ContentRule> RuledRecord<P> {
         ensures { IfOk result (λ r. IsNew limits (length first) enterable (Some first) r.0 r.1) }
     {
         let width = first.len();
-        let row = table_words(first_word(limits.layout()), first.as_slice());
+        let row = table_words(word_after_one_put(limits.layout()), first.as_slice());
         Self::of_table(alloc, limits, &row[..width + 1], Some(first), enterable)
     }
 

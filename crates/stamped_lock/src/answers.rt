@@ -46,9 +46,9 @@ pub fn test_in(reply: Reply) -> bool
     }
 }
 
-/// Whether the release was made.
+/// Whether the reply of a release says that it was made.
 #[inline(always)]
-pub fn release_in(reply: Reply) -> Result<(), Mismatch>
+pub fn was_released(reply: Reply) -> Result<(), Mismatch>
     requires { IsRelease reply }
     ensures { released result ≡ reply }
 {

@@ -15,7 +15,7 @@ ghost use Rattle.stamp_threads.specs.PassView.{after_split, split_off};
 ghost use Rattle.stamped_lock.specs.Made.{Made, MadeOrLost};
 ghost use Rattle.stamped_lock.specs.Replies.{stamped, tested, released, NeverLoses};
 
-use crate::answers::{count_in, release_in, some_stamp_in, stamp_unless_zero, test_in};
+use crate::answers::{count_in, some_stamp_in, stamp_unless_zero, test_in, was_released};
 use crate::mismatch::Mismatch;
 use crate::stamp::Stamp;
 use stamp_core::{Call, Reply};
@@ -164,7 +164,7 @@ impl<'a> LockHandle<'a> {
     pub fn unlock_write(&mut self, stamp: Stamp) -> Result<(), Mismatch>
         ensures { Made (UnlockWrite stamp) (released result) self.old self.new }
     {
-        release_in(self.once_surely(Call::UnlockWrite(stamp.number())))
+        was_released(self.once_surely(Call::UnlockWrite(stamp.number())))
     }
 
     /// Releases one hold of read mode (`unlockRead`). `Mismatch` where the stamp doesn't match one:
@@ -172,7 +172,7 @@ impl<'a> LockHandle<'a> {
     pub fn unlock_read<R: Wait>(&mut self, rt: &R, stamp: Stamp) -> Result<(), Mismatch>
         ensures { Made (UnlockRead stamp) (released result) self.old self.new }
     {
-        release_in(self.once_or_call(rt, Call::UnlockRead(stamp.number())))
+        was_released(self.once_or_call(rt, Call::UnlockRead(stamp.number())))
     }
 
     /// Releases the mode that the stamp matches (`unlock`). `Mismatch` where it matches none that
@@ -180,7 +180,7 @@ impl<'a> LockHandle<'a> {
     pub fn unlock<R: Wait>(&mut self, rt: &R, stamp: Stamp) -> Result<(), Mismatch>
         ensures { Made (Unlock stamp) (released result) self.old self.new }
     {
-        release_in(self.once_or_call(rt, Call::Unlock(stamp.number())))
+        was_released(self.once_or_call(rt, Call::Unlock(stamp.number())))
     }
 
     /// Converts a stamp to write mode (`tryConvertToWriteLock`): from write mode with the same stamp, from

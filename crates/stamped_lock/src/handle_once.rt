@@ -7,7 +7,7 @@ ghost use Rattle.stamp_core.specs.declared.call.Call.TheVariants.{TryUnlockWrite
 ghost use Rattle.stamped_lock.specs.Made.{MadeOrLost, UnlockedOrLost};
 ghost use Rattle.stamped_lock.specs.Replies.{stamped, tested};
 
-use crate::answers::{release_in, stamp_unless_zero, test_in};
+use crate::answers::{stamp_unless_zero, test_in, was_released};
 use crate::handle::LockHandle;
 use crate::stamp::Stamp;
 use crate::unlock_error::UnlockError;
@@ -39,7 +39,7 @@ impl<'a> LockHandle<'a> {
         ensures { UnlockedOrLost (UnlockRead stamp) result self.old self.new }
     {
         let reply = self.by_once(Call::UnlockRead(stamp.number()))?;
-        release_in(reply)?;
+        was_released(reply)?;
         Ok(())
     }
 
@@ -49,7 +49,7 @@ impl<'a> LockHandle<'a> {
         ensures { UnlockedOrLost (Unlock stamp) result self.old self.new }
     {
         let reply = self.by_once(Call::Unlock(stamp.number()))?;
-        release_in(reply)?;
+        was_released(reply)?;
         Ok(())
     }
 

@@ -38,19 +38,19 @@ test_gt i n is so = gt (sym is ∙ so)
     gt so = grind (arith, nat_tests)
 
 pub loop-i-init : goal.loop-i-init
-loop-i-init c = unites_none c.args.observed.now c.args.locks.now c.args.records.now c.args.lock_order.now
-    c.args.record_order.now c.in_ok-order.order.items c.requires.locks c.requires.records c.requires.lock_order
-    c.requires.record_order c.in_ok-order.ensures.items
+loop-i-init c = unites_none c.args.observed.now c.args.lock_calls.now c.args.record_calls.now c.args.lock_order.now
+    c.args.record_order.now c.in_ok-order.order.items c.requires.lock_calls c.requires.record_calls
+    c.requires.lock_order c.requires.record_order c.in_ok-order.ensures.items
 
 pub first_of-requires : goal.first_of-requires
-first_of-requires c = call_inside c.args.observed.now true c.args.locks.now c.args.lock_order.now c.loop-i.i
-    c.index-lock_order-i.result c.requires.locks c.requires.lock_order
+first_of-requires c = call_inside c.args.observed.now true c.args.lock_calls.now c.args.lock_order.now c.loop-i.i
+    c.index-lock_order-i.result c.requires.lock_calls c.requires.lock_order
     (slice_get_read c.args.lock_order.now (length c.args.lock_order.now) c.loop-i.i c.index-lock_order-i.result refl
     c.if-i-lock_order-2.true c.index-lock_order-i.is)
 
 pub first_of-requires-then-i-lock_order-2 : goal.first_of-requires-then-i-lock_order-2
-first_of-requires-then-i-lock_order-2 c = call_inside c.args.observed.now false c.args.records.now
-    c.args.record_order.now c.loop-i.j c.index-record_order-j.result c.requires.records c.requires.record_order
+first_of-requires-then-i-lock_order-2 c = call_inside c.args.observed.now false c.args.record_calls.now
+    c.args.record_order.now c.loop-i.j c.index-record_order-j.result c.requires.record_calls c.requires.record_order
     (slice_get_read c.args.record_order.now (length c.args.record_order.now) c.loop-i.j
     c.index-record_order-j.result refl
     (omega (arith, c.loop-i.invariant.records_within, c.if-j-record_order-2.false)) c.index-record_order-j.is)
@@ -70,8 +70,8 @@ lock_inside c = elim c.if-j-record_order-2.branch [
 
 pub in_whole-requires : goal.in_whole-requires
 in_whole-requires c =
-    index_inside c.args.observed.now true c.args.locks.now c.args.lock_order.now c.loop-i.i
-    c.index-lock_order-i-then-lock_is_next.result c.requires.locks c.requires.lock_order
+    index_inside c.args.observed.now true c.args.lock_calls.now c.args.lock_order.now c.loop-i.i
+    c.index-lock_order-i-then-lock_is_next.result c.requires.lock_calls c.requires.lock_order
     (slice_get_read c.args.lock_order.now (length c.args.lock_order.now) c.loop-i.i
     c.index-lock_order-i-then-lock_is_next.result refl (lock_inside c) c.index-lock_order-i-then-lock_is_next.is)
 
@@ -82,17 +82,18 @@ loop-i-preserved-then-lock_is_next c =
     let at : slice_get c.args.lock_order.now c.loop-i.i ≡ Some t =
     slice_get_read c.args.lock_order.now (length c.args.lock_order.now) c.loop-i.i t refl inside
     c.index-lock_order-i-then-lock_is_next.is in
-    let first : BeganFirst c.args.locks.now.history.entries c.args.records.now.history.entries t
+    let first : BeganFirst c.args.lock_calls.now.history.entries c.args.record_calls.now.history.entries t
     c.args.record_order.now c.loop-i.j = elim c.if-j-record_order-2.branch [
-      | then-j-record_order-2 w ↦ none_is_next c.args.locks.now.history.entries c.args.records.now.history.entries t
+      | then-j-record_order-2 w ↦ none_is_next c.args.lock_calls.now.history.entries
+          c.args.record_calls.now.history.entries t
           c.args.record_order.now c.loop-i.j (omega (arith, w.if-j-record_order-2.true))
       | else-j-record_order-2+then-i-lock_order-2 w ↦
           let again : w.index-lock_order-i.result ≡ t = read_again c.args.lock_order.now c.loop-i.i
           w.index-lock_order-i.result t inside w.index-lock_order-i.is c.index-lock_order-i-then-lock_is_next.is in
-          began_first c.args.locks.now.history.entries c.args.records.now.history.entries t
+          began_first c.args.lock_calls.now.history.entries c.args.record_calls.now.history.entries t
           w.index-record_order-j.result c.args.record_order.now c.loop-i.j w.first_of.result
           w.first_of-then-i-lock_order-2.result
-          (subst (λ (s : OrderedCall). IsFirstOf c.args.locks.now.history.entries s w.first_of.result) again
+          (subst (λ (s : OrderedCall). IsFirstOf c.args.lock_calls.now.history.entries s w.first_of.result) again
           w.first_of.ensures) w.first_of-then-i-lock_order-2.ensures
           (slice_get_read c.args.record_order.now (length c.args.record_order.now) c.loop-i.j
           w.index-record_order-j.result refl
@@ -112,9 +113,9 @@ loop-i-preserved-then-lock_is_next c =
     c.in_ok-push.ensures.items in
     subst (UnitesSoFar c.args.observed.now c.args.lock_order.now c.args.record_order.now (c.loop-i.i + 1) c.loop-i.j)
     (sym pushed)
-    (unites_lock c.args.observed.now c.args.locks.now c.args.records.now c.args.lock_order.now
+    (unites_lock c.args.observed.now c.args.lock_calls.now c.args.record_calls.now c.args.lock_order.now
     c.args.record_order.now c.loop-i.order.items c.loop-i.i c.loop-i.j t c.in_whole.result c.requires.observed
-    c.requires.locks c.requires.records at c.in_whole.ensures.index c.in_whole.ensures.reply first
+    c.requires.lock_calls c.requires.record_calls at c.in_whole.ensures.index c.in_whole.ensures.reply first
     c.loop-i.invariant)
 
 -- and where it is not, there is one of the record's
@@ -131,8 +132,8 @@ record_inside c = elim c.if-j-record_order-2.branch [
 
 pub in_whole-requires-else-lock_is_next : goal.in_whole-requires-else-lock_is_next
 in_whole-requires-else-lock_is_next c =
-    index_inside c.args.observed.now false c.args.records.now c.args.record_order.now c.loop-i.j
-    c.index-record_order-j-else-lock_is_next.result c.requires.records c.requires.record_order
+    index_inside c.args.observed.now false c.args.record_calls.now c.args.record_order.now c.loop-i.j
+    c.index-record_order-j-else-lock_is_next.result c.requires.record_calls c.requires.record_order
     (slice_get_read c.args.record_order.now (length c.args.record_order.now) c.loop-i.j
     c.index-record_order-j-else-lock_is_next.result refl (record_inside c) c.index-record_order-j-else-lock_is_next.is)
 
@@ -143,7 +144,7 @@ loop-i-preserved c =
     let at : slice_get c.args.record_order.now c.loop-i.j ≡ Some t =
     slice_get_read c.args.record_order.now (length c.args.record_order.now) c.loop-i.j t refl inside
     c.index-record_order-j-else-lock_is_next.is in
-    let first : BeganFirst c.args.records.now.history.entries c.args.locks.now.history.entries t
+    let first : BeganFirst c.args.record_calls.now.history.entries c.args.lock_calls.now.history.entries t
     c.args.lock_order.now c.loop-i.i = elim c.if-j-record_order-2.branch [
       | then-j-record_order-2 w ↦ absurd (test_eq c.loop-i.j (length c.args.record_order.now)
           w.lock_is_next-is c.if-lock_is_next.false w.if-j-record_order-2.true)
@@ -151,27 +152,27 @@ loop-i-preserved c =
           let again : w.index-record_order-j.result ≡ t = read_again c.args.record_order.now c.loop-i.j
           w.index-record_order-j.result t inside w.index-record_order-j.is
           c.index-record_order-j-else-lock_is_next.is in
-          began_first c.args.records.now.history.entries c.args.locks.now.history.entries t
+          began_first c.args.record_calls.now.history.entries c.args.lock_calls.now.history.entries t
           w.index-lock_order-i.result c.args.lock_order.now c.loop-i.i w.first_of-then-i-lock_order-2.result
           w.first_of.result
-          (subst (λ (s : OrderedCall). IsFirstOf c.args.records.now.history.entries s
+          (subst (λ (s : OrderedCall). IsFirstOf c.args.record_calls.now.history.entries s
           w.first_of-then-i-lock_order-2.result) again w.first_of-then-i-lock_order-2.ensures)
           w.first_of.ensures
           (slice_get_read c.args.lock_order.now (length c.args.lock_order.now) c.loop-i.i
           w.index-lock_order-i.result refl w.if-i-lock_order-2.true w.index-lock_order-i.is)
           (test_gt w.first_of.result w.first_of-then-i-lock_order-2.result
           w.lock_is_next-is c.if-lock_is_next.false)
-      | else-j-record_order-2+else-i-lock_order-2 w ↦ none_is_next c.args.records.now.history.entries
-          c.args.locks.now.history.entries t c.args.lock_order.now c.loop-i.i
+      | else-j-record_order-2+else-i-lock_order-2 w ↦ none_is_next c.args.record_calls.now.history.entries
+          c.args.lock_calls.now.history.entries t c.args.lock_order.now c.loop-i.i
           (omega (arith, w.if-i-lock_order-2.false))
     ] in
     let pushed : c.push-else-lock_is_next.new.self.items ≡
     c.loop-i.order.items ++ c.in_whole-else-lock_is_next.result ∷ [] = c.in_ok-push-2.ensures.items in
     subst (UnitesSoFar c.args.observed.now c.args.lock_order.now c.args.record_order.now c.loop-i.i (c.loop-i.j + 1))
     (sym pushed)
-    (unites_record c.args.observed.now c.args.locks.now c.args.records.now c.args.lock_order.now
+    (unites_record c.args.observed.now c.args.lock_calls.now c.args.record_calls.now c.args.lock_order.now
     c.args.record_order.now c.loop-i.order.items c.loop-i.i c.loop-i.j t c.in_whole-else-lock_is_next.result
-    c.requires.observed c.requires.locks c.requires.records at c.in_whole-else-lock_is_next.ensures.index
+    c.requires.observed c.requires.lock_calls c.requires.record_calls at c.in_whole-else-lock_is_next.ensures.index
     c.in_whole-else-lock_is_next.ensures.reply first c.loop-i.invariant)
 
 pub returns : goal.returns

@@ -5,8 +5,8 @@ use Rattle.stamp_explain.proofs.Exploring.{is_zero}
 use Rattle.stamp_explain.proofs.Faulting.{order_of_none}
 use Rattle.stamp_explain.proofs.explaining.without_order.Goals as goal
 
-pub record_of-requires-clause-order : goal.record_of-requires-clause-order
-record_of-requires-clause-order c = order_of_none c.args.observed.now c.in_ok-return_keys.return_keys.items
+pub recorded_with_points-requires-clause-order : goal.recorded_with_points-requires-clause-order
+recorded_with_points-requires-clause-order c = order_of_none c.args.observed.now c.in_ok-return_keys.return_keys.items
     (subst (λ (es : List Observation). AreReturnKeys es c.in_ok-return_keys.return_keys.items) c.entries.ensures.entries
     c.in_ok-return_keys.ensures)
     (sym c.in_ok-return_keys.return_keys.ok.0 ∙ is_zero c.in_ok-return_keys.return_keys.len c.if-is_empty.ensures)

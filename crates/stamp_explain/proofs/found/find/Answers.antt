@@ -13,24 +13,25 @@ returns-then-width-eq0 c = IfOk-weaker c.find_alone.result (λ found. IsSearched
     (sym c.width.ensures.width ∙ c.if-width-eq0.true) is) c.find_alone.ensures
 
 pub find_alone-requires-2 : goal.find_alone-requires-2
-find_alone-requires-2 c = subhistory_observed c.args.observed.now true c.in_ok-locks.locks c.requires
-    c.in_ok-locks.ensures
+find_alone-requires-2 c = subhistory_observed c.args.observed.now true c.in_ok-lock_calls.lock_calls c.requires
+    c.in_ok-lock_calls.ensures
 
 pub find_alone-requires-3 : goal.find_alone-requires-3
-find_alone-requires-3 c = subhistory_observed c.args.observed.now false c.in_ok-records.records c.requires
-    c.in_ok-records.ensures
+find_alone-requires-3 c = subhistory_observed c.args.observed.now false c.in_ok-record_calls.record_calls c.requires
+    c.in_ok-record_calls.ensures
 
-pub returns-in-Nothing : goal.returns-in-Nothing
-returns-in-Nothing c = none_of_one c.args.observed.now true c.in_ok-locks.locks c.requires c.in_ok-locks.ensures
-    (subst (λ (f : SearchEnd). IsSearched c.in_ok-locks.locks.history c.args.most f) c.in-Nothing.is
-    c.in_ok-of_locks.ensures)
+pub returns-in-NoOrder : goal.returns-in-NoOrder
+returns-in-NoOrder c = none_of_one c.args.observed.now true c.in_ok-lock_calls.lock_calls c.requires
+    c.in_ok-lock_calls.ensures
+    (subst (λ (f : SearchEnd). IsSearched c.in_ok-lock_calls.lock_calls.history c.args.most f) c.in-NoOrder.is
+    c.in_ok-lock_end.ensures)
 
-pub returns-in-Nothing-of_records : goal.returns-in-Nothing-of_records
-returns-in-Nothing-of_records c = none_of_one c.args.observed.now false c.in_ok-records.records c.requires
-    c.in_ok-records.ensures (subst (λ (f : SearchEnd). IsSearched c.in_ok-records.records.history c.args.most f)
-    c.in-Nothing-of_records.is c.in_ok-of_records.ensures)
+pub returns-in-NoOrder-record_end : goal.returns-in-NoOrder-record_end
+returns-in-NoOrder-record_end c = none_of_one c.args.observed.now false c.in_ok-record_calls.record_calls c.requires
+    c.in_ok-record_calls.ensures (subst (λ (f : SearchEnd). IsSearched c.in_ok-record_calls.record_calls.history
+    c.args.most f) c.in-NoOrder-record_end.is c.in_ok-record_end.ensures)
 
-pub returns-in-Nothing-of_records-2 : goal.returns-in-Nothing-of_records-2
-returns-in-Nothing-of_records-2 c = none_of_one c.args.observed.now false c.in_ok-records.records c.requires
-    c.in_ok-records.ensures (subst (λ (f : SearchEnd). IsSearched c.in_ok-records.records.history c.args.most f)
-    c.in-Nothing-of_records-2.is c.in_ok-of_records.ensures)
+pub returns-in-NoOrder-record_end-2 : goal.returns-in-NoOrder-record_end-2
+returns-in-NoOrder-record_end-2 c = none_of_one c.args.observed.now false c.in_ok-record_calls.record_calls c.requires
+    c.in_ok-record_calls.ensures (subst (λ (f : SearchEnd). IsSearched c.in_ok-record_calls.record_calls.history
+    c.args.most f) c.in-NoOrder-record_end-2.is c.in_ok-record_end.ensures)

@@ -3,7 +3,7 @@ use Rattle.stamp_explain.proofs.Faulting.{IsBetween, between_at_first, stuck_bet
 use Rattle.stamp_explain.proofs.Faulting.{unexplained_between}
 use Rattle.stamp_explain.proofs.Faulting.{middle_inside, end_at, end_is_entry, halved, narrows_so}
 use Rattle.stamp_explain.proofs.refusal.refusal_of.Goals as goal
-use Rattle.stamp_explain.proofs.refusal.refusal_of.Goals.{Joined-branch-2, in-Linearization, in-Nothing}
+use Rattle.stamp_explain.proofs.refusal.refusal_of.Goals.{Joined-branch-2, in-Linearization, in-NoOrder}
 use Rattle.stamp_explain.proofs.refusal.refusal_of.Goals.{in-GaveUp}
 use Rattle.stamp_explain.proofs.Faulting.Narrows.{above, below, at_least}
 
@@ -26,7 +26,7 @@ narrower c = halved c.requires.observed c.requires.keys c.loop-low.invariant c.l
     c.in_ok-found_at.ensures
     (elim c.match-branch-2.branch [
       | in-Linearization w ↦ narrows_so w.in-Linearization.is (above w.low-is w.high-is w.unexplained-is w.stuck-is)
-      | in-Nothing w ↦ narrows_so w.in-Nothing.is (below w.low-is w.high-is w.unexplained-is w.stuck-is)
+      | in-NoOrder w ↦ narrows_so w.in-NoOrder.is (below w.low-is w.high-is w.unexplained-is w.stuck-is)
       | in-GaveUp w ↦ narrows_so w.in-GaveUp.is (at_least w.low-is w.high-is w.unexplained-is w.stuck-is)
     ])
 

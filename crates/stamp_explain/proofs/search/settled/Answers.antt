@@ -7,7 +7,7 @@ use Rattle.stamp_explain.specs.Expand.PassesTo.{passes_none, passes_more}
 use Rattle.stamp_explain.specs.Expand.{ComesByOneMove}
 use Rattle.stamp_explain.proofs.Awaiting.{Awaits, awaits_of, leads_past, past_of}
 use Rattle.stamp_explain.proofs.search.settled.Goals as goal
-use Rattle.stamp_explain.proofs.search.settled.Goals.{else-loop-node-test, then-loop-node-test+then-not-has_bit}
+use Rattle.stamp_explain.proofs.search.settled.Goals.{else-loop-node-test, then-loop-node-test+then-not-has_thread}
 
 pub loop-node-init : goal.loop-node-init
 loop-node-init c = passes_none
@@ -15,13 +15,13 @@ loop-node-init c = passes_none
 pub loop-node-preserved : goal.loop-node-preserved
 loop-node-preserved c =
     let on : ComesByOneMove c.args.observed.now None c.args.timeline.now.returns.items c.loop-node.node
-    (past_of c.loop-node.node c.without_bit.result) = leads_past c.args.observed.now None c.args.timeline.now
+    (past_of c.loop-node.node c.without_thread.result) = leads_past c.args.observed.now None c.args.timeline.now
     c.loop-node.node
-    (get_or c.entries.result.now c.index.result.now c.index-entries-index.result) c.without_bit.result
+    (get_or c.entries.result.now c.index.result.now c.index-entries-index.result) c.without_thread.result
     (awaits_of c.args.observed.now c.args.timeline.now c.loop-node.node c.index.result.now c.entries.result.now
     c.index-entries-index.result c.requires.observed c.requires.timeline
     (omega (arith, c.loop-node-test.true, c.len.ensures)) c.index.ensures c.entries.ensures.entries)
-    (c.has_bit.ensures.0 c.if-not-has_bit.false) c.without_bit.ensures in
+    (c.has_thread.ensures.0 c.if-not-has_thread.false) c.without_thread.ensures in
     passes_more c.loop-node.invariant (record { inside = on.inside; leads = on.leads })
 
 pub returns-clause-passes : goal.returns-clause-passes
@@ -32,7 +32,7 @@ returns-clause-settled c = elim c.loop-node-test.branch [
   | else-loop-node-test w ↦ record {
     awaited = λ a it bit. absurd (omega (arith, it.inside, w.loop-node-test.false, c.len.ensures));
   }
-  | then-loop-node-test+then-not-has_bit w ↦ record {
+  | then-loop-node-test+then-not-has_thread w ↦ record {
     awaited = λ a it bit.
         let is : Awaits c.args.observed.now c.args.timeline.now c.loop-node.node
         (get_or w.entries.result.now w.index.result.now w.index-entries-index.result) =
@@ -42,7 +42,7 @@ returns-clause-settled c = elim c.loop-node-test.branch [
         let same : get_or w.entries.result.now w.index.result.now w.index-entries-index.result ≡ a =
         same_Some (get_or w.entries.result.now w.index.result.now w.index-entries-index.result) a
         (sym is.at ∙ it.is_entry) in
-        false≢true (sym w.if-not-has_bit.true ∙ w.has_bit.ensures.1
+        false≢true (sym w.if-not-has_thread.true ∙ w.has_thread.ensures.1
         (ap (λ (o : Observation). bit_at c.loop-node.node.threads o.thread) same ∙ bit));
   }
 ]

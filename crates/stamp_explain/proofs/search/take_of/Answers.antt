@@ -9,15 +9,16 @@ use Rattle.std.proofs.Common.{subst}
 use Rattle.std.proofs.lemmas.Bool.{false≢true}
 use Rattle.stamp_explain.proofs.search.take_of.Goals as goal
 
-pub returns-then-has_bit : goal.returns-then-has_bit
-returns-then-has_bit c returns are it = record {
+pub returns-then-has_thread : goal.returns-then-has_thread
+returns-then-has_thread c returns are it = record {
   takes = λ a s taken awaited stands.
       let same : it.entry ≡ get_or c.entries.result.now c.args.i c.index-entries-i.result = entry_is
       c.args.observed.now.entries c.entries.result.now
       c.args.i it.entry c.index-entries-i.result it.is_entry c.entries.ensures.entries in
       none_by_bit c.args.observed.now returns c.args.node.now a c.args.i s taken
       (trying c.requires.observed are awaited stands it)
-      (ap (λ (o : Observation). bit_at c.args.node.now.threads o.thread) same ∙ c.has_bit.ensures.0 c.if-has_bit.true);
+      (ap (λ (o : Observation). bit_at c.args.node.now.threads o.thread) same ∙ c.has_thread.ensures.0
+      c.if-has_thread.true);
 }
 
 pub transition_of-requires-clause-suits : goal.transition_of-requires-clause-suits
@@ -39,11 +40,11 @@ returns-in-Some c returns are it = record {
       let same : it.entry ≡ get_or c.entries.result.now c.args.i c.index-entries-i.result = entry_is
       c.args.observed.now.entries c.entries.result.now
       c.args.i it.entry c.index-entries-i.result it.is_entry c.entries.ensures.entries in
-      taken_to c.args.observed.now returns c.args.node.now a c.args.i s taken c.with_bit.result c.in-Some.transition
+      taken_to c.args.observed.now returns c.args.node.now a c.args.i s taken c.with_thread.result c.in-Some.transition
       (trying c.requires.observed are awaited stands it)
-      (λ bit. false≢true (sym c.if-has_bit.false ∙ c.has_bit.ensures.1
+      (λ bit. false≢true (sym c.if-has_thread.false ∙ c.has_thread.ensures.1
       (ap (λ (o : Observation). bit_at c.args.node.now.threads o.thread) (sym same) ∙ bit)))
       (λ e at. c.in-Some.ensures e s at stands.at)
-      (subst (λ (o : Observation). SetsBit c.args.node.now.threads c.with_bit.result o.thread) (sym same)
-      c.with_bit.ensures);
+      (subst (λ (o : Observation). SetsBit c.args.node.now.threads c.with_thread.result o.thread) (sym same)
+      c.with_thread.ensures);
 }

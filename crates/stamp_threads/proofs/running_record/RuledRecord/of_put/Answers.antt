@@ -11,12 +11,12 @@ pub of_table-requires-clause-kept : goal.of_table-requires-clause-kept
 of_table-requires-clause-kept g c =
     let limits = c.args.limits in
     let words = c.args.first in
-    let word = c.first_word.result in
+    let word = c.word_after_one_put.result in
     let row : take (c.len-width.result + 1) c.table_words-row.result ≡ word ∷ words =
     rw (c.len-width.ensures.len, ← c.as_slice.ensures) c.table_words-row.ensures in
     let same : length words ≡ length (word ∷ words) - 1 = omega arith in
     rw row (subst (λ (n : ℕ). IsKept c.args.enterable g.P.ContentRule.holds (record { limits = limits; width = n })
     (opening (word ∷ words) [] (opening_pass (Some words) ∷ []))) same
     (opens_holding words _ limits _
-    (c.first_word.ensures ∙ ap (λ (l : Layout). word_with l 1 false) c.layout.ensures.layout)
+    (c.word_after_one_put.ensures ∙ ap (λ (l : Layout). word_with l 1 false) c.layout.ensures.layout)
     c.requires.version c.requires.rule))

@@ -1,6 +1,6 @@
 use Rattle.std.proofs.Common.{w64}
 use Rattle.std.proofs.lemmas.Nat.Bits.{bit_at_set_same, bit_at_set_other}
-use Rattle.stamp_explain.proofs.node.with_bit.Goals as goal
+use Rattle.stamp_explain.proofs.node.with_thread.Goals as goal
 
 pub returns : goal.returns
 returns c = record {

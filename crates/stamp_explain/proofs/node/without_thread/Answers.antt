@@ -2,7 +2,7 @@ use Rattle.std.proofs.Common.{w64}
 use Rattle.std.proofs.Common.{◌≡◌, ◌<◌, ℕ, ◌∙◌, sym, min, arith}
 use Rattle.std.specs.Int.{bit_at}
 use Rattle.std.proofs.lemmas.Nat.Bits.{bit_at_and, bit_at_clear_same, bit_at_clear_other, bit_at-lt}
-use Rattle.stamp_explain.proofs.node.without_bit.Goals as goal
+use Rattle.stamp_explain.proofs.node.without_thread.Goals as goal
 
 left_one : (a b : ℕ) → a < 2 → min a b ≡ 1 → a ≡ 1
 left_one a b less one = grind arith

@@ -3,7 +3,7 @@ use Rattle.std.proofs.lemmas.Bool.{false≢true}
 use Rattle.std.specs.Option.{IsSome}
 use Rattle.stamp_core.specs.Limits.{Bounds}
 use Rattle.stamp_core.specs.Record.{recorded, IsRecorded}
-use Rattle.stamp_explain.proofs.points.record_of.Goals as goal
+use Rattle.stamp_explain.proofs.points.recorded_with_points.Goals as goal
 
 pub unreachable-requires : goal.unreachable-requires
 unreachable-requires c = false≢true (subst IsSome c.in_default.is (c.of.ensures.some.1
