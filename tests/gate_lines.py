@@ -1,27 +1,56 @@
-"""Prints the lines of `rt ci` as they come, each with the minutes so far, and says what it waits for.
+"""Prints the lines of `rt ci` as they come, each with the minutes so far, and keeps what the later stages use.
 
-    rt ci 2>&1 | gate_lines.py CRATES PROVED BUILT COUNT PROGRAM..
+    rt ci 2>&1 | gate_lines.py FOLDER PROGRAM..
 
-CRATES is crates.txt. Once all of them are proved, a line is written to the pipe PROVED; once each PROGRAM
-is proved, and so linked, one to the pipe BUILT. What an earlier run proved is there at once. The last two
-lines of a gate that passes speak of the gate alone, so they are kept from the page: how many things passed
-and failed goes to the file COUNT. After a minute without a line, one says how far it is."""
+Run at the top of the repository. Once all crates of crates.txt are proved, their libraries are in FOLDER/libraries, and
+a line is written to the pipe FOLDER/proved; once each PROGRAM is proved, and so linked, one to the pipe FOLDER/built.
+What an earlier run proved is there at once.
+
+A library is taken when its crate is proved, and not at the end: `rt ci` moves what stood in crates/*/out aside when it
+begins, and gives that back over its own when it ends, also what other commands had built there of other texts.
+
+The last two lines of a gate that passes speak of the gate alone, so they are kept from the page: how many things passed
+and failed goes to the file FOLDER/gate. After a minute without a line, one says how far it is."""
 import os
 import re
 import select
+import shutil
 import sys
 import time
 
 QUIET = 60
 
 
+def link_or_copy(one, other):
+    """A second name for a file, or a copy on another disk. `rt` removes the files of a library before it makes them anew."""
+    try:
+        os.link(one, other)
+    except OSError:
+        shutil.copyfile(one, other)
+
+
+def take_library(name, folder):
+    """Takes the library that the gate built of this crate. Where it is gone already, the gate has ended: then no other
+    crate was still to be proved over it."""
+    if os.path.isdir(f"crates/{name}/out/rlib/{name}.rlib"):
+        try:
+            shutil.copytree(f"crates/{name}/out/rlib", f"{folder}/{name}", copy_function=link_or_copy)
+        except (OSError, shutil.Error):
+            shutil.rmtree(f"{folder}/{name}", ignore_errors=True)
+
+
+def say_to(pipe):
+    with open(pipe, "w") as file:
+        file.write("there\n")
+
+
 class Gate:
     """How far it is: the crates that are proved, and what is still to be built."""
 
-    def __init__(self, crates, proved, built, count, programs):
-        with open(crates) as file:
+    def __init__(self, folder, programs):
+        with open("crates.txt") as file:
             self.names = [line.split()[0].rstrip(":") for line in file if re.match(r"\w", line)]
-        self.count, self.waited = count, {proved: set(self.names), built: set(programs)}
+        self.folder, self.programs = folder, {*programs}
         self.proved, self.start = set(), time.monotonic()
 
     def tell(self, text):
@@ -31,26 +60,31 @@ class Gate:
     def take(self, line):
         last = re.fullmatch(r"(\d+) passed, (\d+) failed", line)
         if last:
-            with open(self.count, "w") as file:
+            with open(f"{self.folder}/gate", "w") as file:
                 file.write(f"{last[1]} {last[2]}\n")
             return
         if line.startswith("rt: ok; "):
             return
         self.tell(line)
         proved = re.fullmatch(r"rt: (\w+) (?:proved|is kept: .*)", line)
-        if proved:
+        if proved and proved[1] not in self.proved:
             self.proved.add(proved[1])
-            for pipe in [pipe for pipe, names in self.waited.items() if names <= self.proved]:
-                del self.waited[pipe]
-                with open(pipe, "w") as file:
-                    file.write("there\n")
+            self.hand_on(proved[1])
+
+    def hand_on(self, name):
+        """Takes the library of this crate, which is proved, and says what is there since."""
+        take_library(name, f"{self.folder}/libraries")
+        if self.programs <= self.proved and name in self.programs:
+            say_to(f"{self.folder}/built")
+        if len(self.proved) == len(self.names):
+            say_to(f"{self.folder}/proved")
 
     def wait(self):
         self.tell(f"at work: {len(self.proved)} of {len(self.names)} crates proved")
 
 
 def main():
-    gate, rest = Gate(*sys.argv[1:5], sys.argv[5:]), b""
+    gate, rest = Gate(sys.argv[1], sys.argv[2:]), b""
     while True:
         if not select.select([sys.stdin], [], [], QUIET)[0]:
             gate.wait()

@@ -27,6 +27,6 @@ head -n 2 lines > commands
 bash -eu commands > told 2>&1 || { cat told >&2; fail "a command of docs/C.md failed"; }
 [ "$(sed -n 3p lines)" = '$ ./count' ] || fail "docs/C.md runs something else"
 [ "$(./count)" = "$(sed -n 4p lines)" ] || fail "count doesn't print what docs/C.md says"
-[ -z "$(nm --undefined-only --no-sort crates/stamped_c/out/libstamped_c.a | grep ' U ')" ] ||
-    fail "the archive needs other libraries"
+nm --undefined-only --no-sort crates/stamped_c/out/libstamped_c.a > names || fail "nm can't read the archive"
+! grep ' U ' names || fail "the archive needs other libraries"
 echo "build.sh: the two commands of docs/C.md build count, which prints $(./count); the archive needs no other library"

@@ -1,9 +1,10 @@
 """Tries wrong bodies, many over one load of the libraries: the prover must refuse each.
 
-    refused.py [--count FILE] [--all] [CRATE | CRATE/NAME.edit | CRATE/more/NAME.edit ..]
+    refused.py [--libraries FOLDER] [--count FILE] [--all] [CRATE | CRATE/NAME.edit | CRATE/more/NAME.edit ..]
 
 Without --all, or an edit's own name, those of the folders `more` are left out: `./test` tries one for each public
-function and those of the faults that a lock, a judge or a picture must not have, and the others take as long again.
+function that a wrong body can be made of, and those of the faults that a lock, a judge or a picture must not have;
+the others take as long again.
 
 An edit is a file tests/edits/CRATE/NAME.edit or tests/edits/CRATE/more/NAME.edit, in the form of the kit's must-fail
 edits: a line `file:`, then pairs of lines `old:` and `new:`. A function is proved from the contracts of those that it
@@ -14,12 +15,20 @@ tried once more with the bodies and proofs of all that the function calls. An ed
 and so is one with a line `by: FUNCTION`, which names a function that must not be proved with it: what it changes is no
 body.
 
-An edit is refused if the prover doesn't prove the edited function for its own sake: it names the goal, or a fault
-in the function's proof by hand. One that is tried alone is refused if one of its functions isn't proved. It fails if the function is proved, or if the edit can't be applied or compiled. A
-crate fails if another function isn't proved for its own sake. Where a proof by hand only lacks names that an edit
-took away, the line says so, since that shows little of the contract: change a value and keep the names. The
-libraries must be built: `rt ci` leaves them in crates/*/out. What `rt check` kept is begun with, if there is any.
-How many were refused and how many failed is the last line, and goes to the file FILE."""
+Before that, the same functions are tried without an edit, in the same form: one that isn't proved then, for its own
+sake, fails the crate. So does another function that isn't proved for its own sake beside an edit.
+
+An edit is refused if the prover doesn't prove the edited function for its own sake, and names a goal of its contract,
+or a fault in the function's proof by hand. One that is tried alone is refused if one of its functions isn't proved so.
+It fails if the function is proved, if it can't be applied or compiled, and if it shows nothing of the contract: where
+the goals that aren't proved are only that a number fits, an index is within or a divisor isn't 0; where the prover
+doesn't cover the form of the new body; and where a proof by hand only lacks names that the edit took away. Change a
+value then, and keep the form and the names. Where only what a call requires isn't proved, the line says so.
+
+The libraries are those of FOLDER, each in a folder of its crate's name, and else those in crates/*/out. Where they
+can't be used together, that is one failure, and nothing is tried. What `rt check` kept is begun with, if there is any.
+How many were refused and how many failed is the last line, and goes to the file FILE. No edit at all fails."""
+import argparse
 import concurrent.futures
 import os
 import re
@@ -35,8 +44,18 @@ PARTS = ("src", "specs", "proofs")
 FUNCTION = re.compile(r'^( *)(?:pub(?:\([a-z]+\))? )?(?:extern "C" )?fn (\w+)', re.M)
 IMPL = re.compile(r"^impl(?:<([^>{]*)>)? (?:([\w:]+)(?:<(\w*)[^{]*>)? for )?([^{]+?) *(?:where [^{]*)?\{", re.M)
 STATED = re.compile(r"^fn (\S+): (.*)$", re.M)
-# What is said of an edit that shows little of the contract: it changes the form, and not a value alone.
-LACKS_NAMES = "only since the proof lacks names that the edit took away"
+# What the prover says of libraries that were built of different texts.
+UNUSABLE = re.compile(r"^.*error\[unusable-built-library\].*$", re.M)
+# What is said of an edit that shows nothing of the contract: it changes the form, and not a value alone.
+LACKS_NAMES = "only the names are missing that the edit took away"
+NOT_COVERED = "the prover doesn't cover the form of the new body"
+SAFE = "only a number may not fit, or an index not be within, in the new body"
+# The goals that `search` left open, one of them, and those that no contract states.
+GOALS = re.compile(r"`search` did not prove ((?:`[^`]+`(?:, )?)+)")
+GOAL = re.compile(r"`([^`]+)`")
+SAFETY = re.compile(r"overflow_|nonzero_|bounds-|slice_bounds-|offset_bounds-")
+# What is wrong with the answer of a goal.
+ANSWER = re.compile(r": error: `([^`]+)`: ")
 # What a proof says that cites a name which the edit took away, or a declaration that was rejected for one.
 NAMES = re.compile(r"has no field|is not in scope|has no `|was not admitted|rattle does not read"
                    r"|is not admitted: rejected|, which was rejected, ")
@@ -44,6 +63,10 @@ NAMES = re.compile(r"has no field|is not in scope|has no `|was not admitted|ratt
 
 class Failed(Exception):
     """What is wrong with an edit or a crate."""
+
+
+class Unusable(Exception):
+    """Why the libraries can't be used together."""
 
 
 def listed():
@@ -56,8 +79,9 @@ def listed():
 class Crate:
     """A crate, and how the prover is called on it."""
 
-    def __init__(self, name, uses):
+    def __init__(self, name, uses, built):
         self.name, self.folder = name, f"{TOP}/crates/{name}"
+        place = lambda it: f"{built}/{it}" if built else f"{TOP}/crates/{it}/out/rlib"
         kit = os.path.dirname(subprocess.run(["rt", "doc"], capture_output=True, text=True, check=True).stdout.strip())
         rlibs = f"{kit}/rlibs"
         below, new = set(), {*uses[name]} & {*uses}
@@ -65,8 +89,9 @@ class Crate:
             below, new = below | new, {it for one in new for it in uses[one] if it in uses} - below - new
         libraries = [f"std={rlibs}/std.rlib"]
         for it in uses[name]:
-            libraries.append(f"{it}={TOP}/crates/{it}/out/rlib/{it}.rlib" if it in uses else f"{it}={rlibs}/{it}.rlib")
-        folders = [rlibs, *sorted(f"{TOP}/crates/{it}/out/rlib" for it in below)]
+            libraries.append(f"{it}={place(it)}/{it}.rlib" if it in uses else f"{it}={rlibs}/{it}.rlib")
+        self.missing = [it for it in sorted(below) if not os.path.isdir(f"{place(it)}/{it}.rlib")]
+        folders = [rlibs, *sorted(place(it) for it in below)]
         root = "src/main.rt" if os.path.isfile(f"{self.folder}/src/main.rt") else "src/lib.rt"
         self.words = [f"{kit}/bin/rattle", "check", "--crate-name", name, root, "--links", f"{name}=", "--jobs", "1"]
         self.words += [word for it in libraries for word in ("--extern", it)]
@@ -99,9 +124,11 @@ class Crate:
             with open(f"{copy}/{file}", "w") as it:
                 it.write(text)
 
-    def check(self, room, kept, edits, is_bare=False):
-        """What the prover says of the functions with the edits, over what was kept; if it is bare, with the contracts
+    def check(self, room, kept, edits, functions, is_bare=False):
+        """What the prover says of these functions, with the edits, over what was kept; if it is bare, with the contracts
         of all others alone, and else with the bodies and proofs of those that they call."""
+        if self.missing:
+            raise Unusable(f"{self.missing[0]} isn't built")
         with tempfile.TemporaryDirectory(dir=room) as copy:
             for part in PARTS:
                 if os.path.isdir(f"{self.folder}/{part}"):
@@ -111,14 +138,19 @@ class Crate:
                     text = it.read()
                 with open(f"{copy}/{file}", "w") as it:
                     it.write(text[:at] + new + text[at + len(old) :])
-            functions = {function for edit in edits for function in edit.functions}
             if is_bare:
                 self.take_others(copy, functions)
             only = [word for function in sorted(functions) for word in ("--only", function)]
             ran = subprocess.run(
                 [*self.words, "--incremental", kept, *only], cwd=copy, stdin=subprocess.DEVNULL,
                 stdout=subprocess.PIPE, stderr=subprocess.STDOUT, text=True, errors="replace")
+        if found := UNUSABLE.search(ran.stdout):
+            raise Unusable(found[0])
         return ran.stdout
+
+    def tried(self, room, kept, edits, is_bare=False):
+        """What the prover says of the functions of these edits."""
+        return self.check(room, kept, edits, {function for edit in edits for function in edit.functions}, is_bare)
 
 
 class Edit:
@@ -194,19 +226,23 @@ def owner_of(function):
 
 
 def faults_in(folder, said):
-    """What is wrong in the proofs of this folder, but that names aren't there and what comes of that: first the goals
-    of its contract, then what its calls require."""
+    """What is wrong in the proofs of this folder, but that names aren't there and what comes of that: first what is so of
+    the contract, then of what calls require, then of numbers and indices."""
     # a message that has a long name goes on in an indented line
     wrong = re.findall(rf"^(?:\./)?{re.escape(folder)}\S+: error.*(?:\n  .*)?", said, re.M)
     wrong = [it.split("\n")[0] for it in wrong if not NAMES.search(it)]
-    return sorted(wrong, key=lambda it: "-requires" in it)
+    is_safety = lambda it: any(map(SAFETY.match, ANSWER.findall(it)))
+    return [it for it in sorted(wrong, key=lambda it: "-requires" in it) if not is_safety(it)] or [SAFE for _ in wrong[:1]]
 
 
 def why_of(function, crate, said):
     """What the prover says against the function itself."""
     stated = dict(STATED.findall(said))[function]
-    if "did not prove" in stated:
-        return stated.partition("; ")[2] or stated
+    if "does not cover" in stated:
+        return NOT_COVERED
+    if goals := GOALS.search(stated):
+        of_contract = [it for it in GOAL.findall(goals[1]) if not SAFETY.match(it)]
+        return f"not proved: {', '.join(sorted(of_contract, key=lambda it: '-requires' in it))}" if of_contract else SAFE
     # a proof by hand: what is wrong in its own files
     folder = "proofs/" + function.removeprefix(f"{crate.name}::").replace("::", "/") + "/"
     return next(iter(faults_in(folder, said)), None)
@@ -238,6 +274,14 @@ def stated_by(said):
     return stated
 
 
+def verdict_on(name, whys):
+    """The line of an edit whose functions aren't proved, by what the prover says against them, the most telling first."""
+    shown = [why for why in whys if why not in (NOT_COVERED, SAFE)]
+    if shown:
+        return f"refused: {shown[0][:160]}"
+    return f"SHOWS NOTHING: {whys[0] if whys else LACKS_NAMES}"
+
+
 def judged_alone(crate, edit, said):
     """What came of an edit that was tried alone: what isn't proved then is so for its sake."""
     stated = stated_by(said)
@@ -245,9 +289,8 @@ def judged_alone(crate, edit, said):
                 if not stated[it].startswith("proved")]
     if not unproved:
         return {edit.name: f"NOT REFUSED: {', '.join(edit.functions)} proved with it"}
-    whys = [why for why in (why_of(it, crate, said) for it in unproved) if why and not why.startswith("it calls ")]
-    whys += faults_in("proofs/", said)
-    return {edit.name: f"refused: {whys[0][:160]}" if whys else f"refused: {LACKS_NAMES}"}
+    whys = [why for why in (why_of(it, crate, said) for it in unproved) if why]
+    return {edit.name: verdict_on(edit.name, whys + faults_in("proofs/", said))}
 
 
 def judged(crate, edits, said, calls, is_bare):
@@ -265,15 +308,27 @@ def judged(crate, edits, said, calls, is_bare):
         if not own:
             told[edit.name] = f"NOT REFUSED: {function} is proved with it"
             continue
-        why = next((why for why in (why_of(it, crate, said) for it in sorted(own)) if why), None)
-        if why:
-            told[edit.name] = f"refused: {why[:160]}"
-        elif any(not below[it] - own for it in own):
-            told[edit.name] = f"refused: {LACKS_NAMES}"
+        whys = [why for why in (why_of(it, crate, said) for it in sorted(own)) if why]
+        if whys or any(not below[it] - own for it in own):
+            told[edit.name] = verdict_on(edit.name, whys)
         else:
             owners = {owner_of(other) for it in own for other in below[it]}
             calls[edit.functions[0]] = {edited[it].functions[0] for it in owners & {*edited}} or {edit.functions[0]}
     return told
+
+
+def try_without_edits(crate, room, kept, functions, is_bare):
+    """Tries functions as they are: no edit shows anything of one that isn't proved then."""
+    if not functions:
+        return
+    said = crate.check(room, kept, [], functions, is_bare)
+    stated = stated_by(said)
+    for function in map(lambda it: named(it, stated), sorted(functions)):
+        own = [it for it, word in stated.items() if owner_of(it) == function and not word.startswith("proved")]
+        for why in filter(None, (why_of(it, crate, said) for it in own)):
+            raise Failed(f"{function} isn't proved without an edit: {why}")
+        if own and not is_bare:
+            raise Failed(f"{function} isn't proved without an edit: {stated[own[0]]}")
 
 
 def edits_of(crate, more):
@@ -287,24 +342,27 @@ def tried(crate, names):
     """Tries these edits of the crate, round by round, and gives the lines that tell of it."""
     begun = time.monotonic()
     edits = [Edit(crate, f"{FOLDER}/{crate.name}/{name}") for name in names]
-    several, alone = [it for it in edits if not it.is_alone], [it for it in edits if it.is_alone]
     lines, rounds = {}, 0
     with tempfile.TemporaryDirectory() as room:
+        kept = f"{room}/kept"
         begin = f"{crate.folder}/out/incremental"
         if os.path.isdir(begin):
-            shutil.copytree(begin, f"{room}/kept")
+            shutil.copytree(begin, kept)
         else:
-            os.mkdir(f"{room}/kept")
+            os.mkdir(kept)
+        several, alone = [it for it in edits if not it.is_alone], [it for it in edits if it.is_alone]
+        try_without_edits(crate, room, kept, {it.functions[0] for it in several}, is_bare=True)
+        try_without_edits(crate, room, kept, {function for it in alone for function in it.functions}, is_bare=False)
         while several:
             rounds += 1
             now = round_of(several, {})
-            lines |= judged(crate, now, crate.check(room, f"{room}/kept", now, is_bare=True), {}, is_bare=True)
+            lines |= judged(crate, now, crate.tried(room, kept, now, is_bare=True), {}, is_bare=True)
             several = [it for it in several if it not in now]
         several, calls = [it for it in edits if not it.is_alone and it.name not in lines], {}
         while several:
             rounds += 1
             now = round_of(several, calls)
-            told = judged(crate, now, crate.check(room, f"{room}/kept", now), calls, is_bare=False) if now else {}
+            told = judged(crate, now, crate.tried(room, kept, now), calls, is_bare=False) if now else {}
             if not told:
                 # Each calls another of them by way of a function that isn't edited.
                 alone, several = alone + several, []
@@ -312,7 +370,7 @@ def tried(crate, names):
             several = [it for it in several if it.name not in told]
         for edit in alone:
             rounds += 1
-            lines |= judged_alone(crate, edit, crate.check(room, f"{room}/kept", [edit]))
+            lines |= judged_alone(crate, edit, crate.tried(room, kept, [edit]))
     seconds = round(time.monotonic() - begun)
     print(f"{crate.name}: {len(lines)} edits tried, in {rounds} rounds and {seconds} seconds", flush=True)
     return [f"{crate.name}/{name}: {what}" for name, what in sorted(lines.items())]
@@ -325,30 +383,59 @@ def lines_of(crate, done):
         return [f"{crate.name}: FAILED: {fault}"]
 
 
-def main():
-    words = sys.argv[1:]
-    count = words[1] if words[:1] == ["--count"] else None
-    words = words[2:] if count else words
-    more = words[:1] == ["--all"]
-    uses, wanted = listed(), {}
-    for word in (words[1:] if more else words) or sorted(os.listdir(FOLDER)):
+def options_of(words):
+    """What the words ask for: where the libraries are, where the count goes, whether all edits are tried, and of what."""
+    parser = argparse.ArgumentParser()
+    parser.add_argument("--libraries")
+    parser.add_argument("--count")
+    parser.add_argument("--all", action="store_true")
+    parser.add_argument("names", nargs="*")
+    return parser.parse_args(words)
+
+
+def wanted_by(options):
+    """The edits to be tried, by their crate."""
+    wanted = {}
+    for word in options.names or sorted(os.listdir(FOLDER)):
         name, _, edit = word.partition("/")
         if os.path.isdir(f"{FOLDER}/{name}"):
-            wanted.setdefault(name, []).extend([edit] if edit else edits_of(name, more))
-    refused = failed = named = 0
+            wanted.setdefault(name, []).extend([edit] if edit else edits_of(name, options.all))
+    return {name: edits for name, edits in wanted.items() if edits}
+
+
+def try_all(crates, wanted):
+    """Tries the edits of these crates side by side, tells what came of each, and gives how many were refused and failed."""
+    lines = []
     with concurrent.futures.ThreadPoolExecutor(len(os.sched_getaffinity(0))) as pool:
-        crates = {name: Crate(name, uses) for name in wanted}
         most_first = sorted(wanted, key=lambda name: -len(wanted[name]))
         tries = {name: pool.submit(tried, crates[name], wanted[name]) for name in most_first}
-        for name in wanted:
-            lines = lines_of(crates[name], tries[name])
-            print("\n".join(lines), flush=True)
-            good = sum(": refused: " in line for line in lines)
-            refused, failed = refused + good, failed + len(lines) - good
-            named += sum(LACKS_NAMES in line for line in lines)
-    print(f"{refused} wrong bodies refused, {named} of them {LACKS_NAMES}, {failed} failed")
-    if count:
-        with open(count, "w") as file:
+        try:
+            for name in wanted:
+                told = lines_of(crates[name], tries[name])
+                print("\n".join(told), flush=True)
+                lines += told
+        except Unusable as fault:
+            pool.shutdown(cancel_futures=True)
+            print(f"FAILED: the libraries can't be used: {fault}")
+            return 0, 1
+    refused = [line for line in lines if ": refused: " in line]
+    required = sum("-requires" in line for line in refused)
+    print(f"{len(refused)} wrong bodies refused, {required} of them only by what a call requires, "
+          f"{len(lines) - len(refused)} failed")
+    return len(refused), len(lines) - len(refused)
+
+
+def main():
+    options, uses = options_of(sys.argv[1:]), listed()
+    wanted = wanted_by(options)
+    crates = {name: Crate(name, uses, options.libraries) for name in wanted}
+    if wanted:
+        refused, failed = try_all(crates, wanted)
+    else:
+        print("FAILED: there is no edit")
+        refused, failed = 0, 1
+    if options.count:
+        with open(options.count, "w") as file:
             file.write(f"{refused} {failed}\n")
     return 1 if failed else 0
 

@@ -9,7 +9,7 @@ import subprocess
 import sys
 import tempfile
 
-PAGES = ["README.md", "docs/TOUR.md", "docs/FORMATS.md", "docs/JUDGING.md"]
+PAGES = ["docs/TOUR.md", "docs/FORMATS.md", "docs/JUDGING.md"]
 INDENT = "    "
 
 
@@ -69,9 +69,8 @@ def main():
     with tempfile.TemporaryDirectory() as room:
         for page in PAGES:
             check_page(page, programs, room)
-    check_quoted("README.md", "crates/five_calls/stdout")
     check_quoted("docs/TOUR.md", "examples/first.json")
-    for example in ["point", "price_board", "observed_handles"]:
+    for example in ["five_calls", "point", "price_board", "observed_handles"]:
         check_quoted("docs/EXAMPLES.md", f"crates/{example}/stdout")
 
 
