@@ -89,12 +89,15 @@ THE_FIRST_FAULT_OF_THE_FIELDS = (
         '{"entries":[],"format":"1","readers":1,"versions":1,"width":0}',
         '{"entries":[],"format":1.0,"readers":1,"versions":1,"width":0}',
         '{"entries":[],"format":3,"layout":2,"readers":1,"versions":1,"width":0}',
-        '{"entries":[],"format":2,"readers":1,"report":[],"versions":1,"width":0}')
+        '{"entries":[],"format":2,"readers":1,"report":[],"versions":1,"width":0}',
+        LOST.replace('"format":1', '"format":1,"layout":1'),
+        LOST.replace('"format":1', '"format":2'))
     + refused(
         "not a history: layout",
         '{"entries":5,"format":2,"layout":0,"readers":0,"versions":1,"width":0}',
         '{"entries":[],"format":2,"layout":3,"readers":1,"versions":1,"width":0}',
-        '{"entries":[],"format":2,"layout":"2","readers":1,"versions":1,"width":0}')
+        '{"entries":[],"format":2,"layout":"2","readers":1,"versions":1,"width":0}',
+        LOST.replace('"format":1', '"format":2,"layout":3'))
     + refused("not a history: readers", '{"entries":5,"format":1,"readers":null,"versions":-1,"width":0}')
     + refused(
         "over a limit: readers",
@@ -152,10 +155,11 @@ HISTORIES = (
     VERDICTS + A_REPORT_IS_READ_AND_NOT_JUDGED + KEYS + THE_FIRST_FAULT_OF_THE_FIELDS + NO_ENTRIES
     + A_REPORT_HAS_A_PAIR_FOR_EACH_ENTRY + A_REPLY_WITHOUT_A_PLACE_IN_LAYOUT_TWO)
 
-FOREIGN = of([(0, '["unlock",128]', '"mismatch"', 0, 0, 0)], '"versions":36028797018963966,"width":0')
+MOST, MOST_WIDE = '"versions":36028797018963966,"width":0', '"versions":70368744177662,"width":0'
+FOREIGN_ENTRY = (0, '["unlock",128]', '"mismatch"', 0, 0, 0)
 FOREIGN_WIDE = (
     '{"entries":[{"call":["unlock",0],"first":0,"last":0,"point":0,"reply":"mismatch","thread":0}],"format":2,'
-    '"layout":2,"readers":127,"versions":70368744177662,"width":0}')
+    '"layout":2,"readers":127,"versions":1000,"width":0}')
 WRONG = of([(0, TRY_WRITE, "257", 0, 0, 0)], PLAIN)
 WRONG_WIDE = (
     '{"entries":[{"call":["try_write"],"first":0,"last":0,"point":0,"reply":131073,"thread":0}],"format":2,'
@@ -166,7 +170,9 @@ MIGRATED = [
     (LOST_WIDE, LOST_WIDE, "ok 3"),
     (LOST.replace('"format":1', '"format":2,"layout":1'), LOST_WIDE, "ok 3"),
     (reported(LOST), reported(LOST_WIDE), "ok 3"),
-    (FOREIGN, FOREIGN_WIDE, "ok 1"),
+    (of([FOREIGN_ENTRY], PLAIN), FOREIGN_WIDE, "ok 1"),
+    (of([FOREIGN_ENTRY], MOST), FOREIGN_WIDE.replace(PLAIN, MOST_WIDE), "ok 1"),
+    (of([], MOST), f'{{"entries":[],"format":2,"layout":2,"readers":127,{MOST_WIDE}}}', "ok 0"),
     (WRONG, WRONG_WIDE, "bad 0 reply"),
 ]
 

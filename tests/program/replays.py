@@ -126,12 +126,16 @@ THE_FIRST_FAULT_OF_THE_FIELDS = [
     refused('{"calls":[],"layout":2,"readers":0,"versions":1}', "over a limit: readers"),
     refused('{"calls":5,"readers":1,"versions":null}', "not a script: versions"),
     refused('{"calls":5,"readers":1,"versions":36028797018963967}', "over a limit: versions"),
+    refused('{"calls":[],"readers":127,"versions":36028797018963967}', "over a limit: versions"),
     refused('{"calls":[],"layout":2,"readers":1,"versions":70368744177663}', "over a limit: versions"),
     refused('{"calls":5,"readers":1,"versions":0}', "not a script: calls"),
     refused('{"calls":{},"readers":1,"versions":0}', "not a script: calls"),
     refused('{"calls":[["try_write"],["get"],0],"readers":1,"versions":0}', "not a script: call 1"),
     refused('{"calls":[' + ",".join("0" * 640_000) + '],"readers":1,"versions":0}', "not a script: call 0"),
     refused('{"calls":[' + ",".join("0" * 640_001) + '],"readers":1,"versions":0}', "over a limit: calls"),
+] + [
+    refused(f'{{"calls":{calls},"readers":{readers},"versions":1000}}', "over a limit: readers")
+    for calls in ("[]", "5") for readers in (0, 128)
 ]
 
 NO_CALLS_OF_THE_LOCK = [

@@ -42,10 +42,18 @@ LOST_ENTRIES = [
 LOST_IN_TWO = [
     (1, '["try_write"]', "196608", 1, 2), (1, '["unlock_write",196608]', '"done"', 3, 4),
     (0, '["try_write"]', "327680", 0, 6)]
+READERS = ('[["try_read"]],[["try_read"],["try_read"]]', "0,1,1,0,1,1,0,0", 0)
+READERS_ENTRIES = [
+    (1, '["try_read"]', "257", 1, 2), (1, '["try_read"]', "258", 4, 5), (0, '["try_read"]', "259", 0, 7)]
+CONDITIONAL = ('[["put_if",[0],[5]]],[["put_if",[0],[6]]]', "0,0,1,1,0,1,0,0,0,0,1,1,1,1,0,0,0,0", 1)
+CONDITIONAL_ENTRIES = [
+    (1, '["put_if",[0],[6]]', '"yes"', 2, 13), (0, '["put_if",[0],[5]]', '"no"', 0, 17)]
 
 CALLS_THAT_FINISHED = [
     run(*LOST, *LOST_ENTRIES),
     report(*LOST, '"report":[[2,0],[2,0],[3,2]]', *LOST_ENTRIES),
+    ("run", script(*LOST, '"layout":2,"readers":127'),
+     history(LOST_IN_TWO, 0, '"format":2,"layout":2,"readers":127')),
     ("run --report", script(*LOST, '"layout":2,"readers":127'),
      history(LOST_IN_TWO, 0, '"format":2,"layout":2,"readers":127,"report":[[2,0],[2,0],[3,2]]')),
     ("run", '{"layout":2,"readers":5,"steps":[0],"threads":[[["try_write"]]],"versions":1,"width":2}',
@@ -82,16 +90,15 @@ STEPS_OF_THREADS_BETWEEN_ONE_ANOTHER = [
     ("run", script('[["put",[7]],["get"]]', "0,0,0,0,0,0,0", 1, versions=0),
      history([(0, '["put",[7]]', '"done"', 0, 3), (0, '["get"]', "[7]", 4, 6)], 1, versions=0)),
     run('[["write_lock"]],[["try_write"]]', "1,1," + ",".join("0" * 1000), 0, (1, '["try_write"]', "384", 0, 1)),
+    run(*READERS, *READERS_ENTRIES),
+    run(*CONDITIONAL, *CONDITIONAL_ENTRIES),
 ]
 
 OWN_STEPS_AND_WHAT_OTHERS_CHANGED = [
     report('[["try_write"]],[["try_write"]]', "0,1,0,1", 0, '"report":[[2,0],[2,1]]',
            (0, '["try_write"]', "384", 0, 2), (1, '["try_write"]', "0", 1, 3)),
-    report('[["try_read"]],[["try_read"],["try_read"]]', "0,1,1,0,1,1,0,0", 0, '"report":[[2,0],[2,0],[4,2]]',
-           (1, '["try_read"]', "257", 1, 2), (1, '["try_read"]', "258", 4, 5), (0, '["try_read"]', "259", 0, 7)),
-    report('[["put_if",[0],[5]]],[["put_if",[0],[6]]]', "0,0,1,1,0,1,0,0,0,0,1,1,1,1,0,0,0,0", 1,
-           '"report":[[7,0],[11,0]]',
-           (1, '["put_if",[0],[6]]', '"yes"', 2, 13), (0, '["put_if",[0],[5]]', '"no"', 0, 17)),
+    report(*READERS, '"report":[[2,0],[2,0],[4,2]]', *READERS_ENTRIES),
+    report(*CONDITIONAL, '"report":[[7,0],[11,0]]', *CONDITIONAL_ENTRIES),
     report('[["put_if",[0],[5]]]', ",".join("0" * 7), 1, '"report":[[7,0]]',
            (0, '["put_if",[0],[5]]', '"yes"', 0, 6)),
     report('[["try_write"]]', "", 0, ""),
@@ -108,6 +115,7 @@ PARTS_THAT_DO_NOT_SUIT = [
         (script('[["put",[1,2]]]', "", 1), "record width"),
         (script('[],[["put_if",[1],[1,2]]]', "", 1), "record width"),
         (script(",".join(["[]"] * 65), "", 1), "too many threads"),
+        (script(",".join(["[]"] * 65), "", 17), "too many threads"),
         (script("[" + ",".join(['["get"]'] * 10_001) + "]", "", 1), "too many calls"),
         (script("[]", ",".join("0" * 1_000_001), 1), "too many steps"))
     for row in refused(text, f"script refused: {line}")
@@ -115,6 +123,7 @@ PARTS_THAT_DO_NOT_SUIT = [
 
 AS_MUCH_AS_THERE_MAY_BE = [
     run(",".join(["[]"] * 64), "", 1),
+    run("[]", ",".join("0" * 1_000_000), 0),
     run("[" + ",".join(['["get"]'] * 10_000) + "]", "", 1),
     run('[["put",[5]]]', "", 1),
     run('[["put",[1,2,3,4,5,6,7,8,9,10,11,12,13,14,15,16]]]', "", 16),

@@ -105,8 +105,8 @@ fn a_script_is_refused_by_its_first_fault(rt: HostRuntime) {
 }
 
 /// Scripts, and the histories that they are run to: none that finishes a call, one that does, and
-/// one whose second writer loses an exchange.
-const RUNS: [(&str, &str); 3] = [
+/// one whose second writer loses an exchange, in each layout.
+const RUNS: [(&str, &str); 4] = [
     (
         r#"{"layout":2,"readers":5,"steps":[0],"threads":[[["try_write"]]],"versions":1,"width":2}"#,
         r#"{"entries":[],"format":2,"layout":2,"readers":5,"versions":1,"width":2}"#,
@@ -118,6 +118,10 @@ const RUNS: [(&str, &str); 3] = [
     (
         r#"{"readers":127,"steps":[0,1,1,1,1,0,0],"threads":[[["try_write"]],[["try_write"],["unlock_write",[1,0]]]],"versions":1000,"width":0}"#,
         r#"{"entries":[{"call":["try_write"],"first":1,"last":2,"point":2,"reply":384,"thread":1},{"call":["unlock_write",384],"first":3,"last":4,"point":4,"reply":"done","thread":1},{"call":["try_write"],"first":0,"last":6,"point":6,"reply":640,"thread":0}],"format":1,"readers":127,"versions":1000,"width":0}"#,
+    ),
+    (
+        r#"{"layout":2,"readers":127,"steps":[0,1,1,1,1,0,0],"threads":[[["try_write"]],[["try_write"],["unlock_write",[1,0]]]],"versions":1000,"width":0}"#,
+        r#"{"entries":[{"call":["try_write"],"first":1,"last":2,"point":2,"reply":196608,"thread":1},{"call":["unlock_write",196608],"first":3,"last":4,"point":4,"reply":"done","thread":1},{"call":["try_write"],"first":0,"last":6,"point":6,"reply":327680,"thread":0}],"format":2,"layout":2,"readers":127,"versions":1000,"width":0}"#,
     ),
 ];
 

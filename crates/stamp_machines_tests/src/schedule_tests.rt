@@ -1,5 +1,5 @@
 //! Schedules worked out by hand: who steps when, what each call is answered, and the last word.
-ghost use Rattle.std.specs.Prelude.{◌≡◌, IfOk};
+ghost use Rattle.std.specs.Prelude.{◌≡◌, ◌<◌, IfOk, length};
 
 use crate::fixtures::{entry, limits, script, script_under, words};
 use stamp_core::{Call, Entry, Layout, Limits, Reply};
@@ -40,6 +40,29 @@ fn steps_until(alloc: Global, script: &Script, calls: usize) -> Result<usize, Ru
         let _ = run.step(*thread)?;
     }
     Ok(run.steps().len())
+}
+
+/// Makes a step of the thread, and gives the lock's word after it.
+fn word_after_step(run: &mut Run, thread: u64) -> Result<u64, RunError>
+    requires { thread < length run.old.script.threads }
+    ensures { run.new.script ≡ run.old.script }
+{
+    let stepped = run.step(thread)?;
+    if let Stepped::Ended(entry) = &stepped {
+        // The types that a step holds are named, as above.
+        let (_call, _reply): (Call, Reply) = (entry.call, entry.reply);
+    }
+    Ok(run.word().bits())
+}
+
+/// The lock's word after each of the script's steps.
+fn words_after_steps(alloc: Global, script: &Script) -> Result<Vec<u64>, Fail> {
+    let mut run = Run::start(alloc, script)?;
+    let mut words = Vec::new(alloc);
+    for thread in script.steps() {
+        words.push(word_after_step(&mut run, *thread)?)?;
+    }
+    Ok(words)
 }
 
 /// The entries that are passed on, one at a time.
@@ -84,6 +107,18 @@ fn ends_with(
     Ok(())
 }
 
+/// The script has these entries, and the lock these words, one after each step.
+fn shows(
+    rt: &impl Abort,
+    alloc: Global,
+    script: &Script,
+    entries: &[Entry],
+    words: &[u64],
+) -> Result<(), Fail> {
+    assert!(rt; words_after_steps(alloc, script)?.as_slice() == words);
+    ends_with(rt, alloc, script, entries, *words.last().ok_or("no steps")?)
+}
+
 /// The script's report has these pairs.
 fn costs(
     rt: &impl Abort,
@@ -122,6 +157,69 @@ fn a_run_is_stopped_between_two_steps(rt: HostRuntime) -> Result<(), Fail> {
     assert!(rt; steps_until(rt.alloc(), &script, 1)? == 3);
     assert!(rt; steps_until(rt.alloc(), &script, 3)? == 4);
     Ok(())
+}
+
+#[test]
+fn a_run_may_end_while_a_call_still_waits(rt: HostRuntime) -> Result<(), Fail> {
+    let threads: [&[ScriptCall]; 2] = [&[ScriptCall::WriteLock], &[ScriptCall::TryWrite]];
+    let mut steps = [0; 1002];
+    steps[0] = 1;
+    steps[1] = 1;
+    let script = script(rt.alloc(), 0, threads, &steps)?;
+    let entries = [entry(1, Call::TryWrite, Reply::Stamp(384), 0, 1)];
+    let mut words = [384; 1002];
+    words[0] = 256;
+    shows(&rt, rt.alloc(), &script, &entries, &words)
+}
+
+#[test]
+fn a_waiting_writer_goes_on_once_the_reader_has_ended(rt: HostRuntime) -> Result<(), Fail> {
+    let second = [ScriptCall::ReadLock, ScriptCall::UnlockRead(Arg::Of(1, 0))];
+    let script = script(
+        rt.alloc(),
+        0,
+        [&[ScriptCall::WriteLock], &second],
+        &[1, 1, 0, 0, 1, 1, 0, 0],
+    )?;
+    let entries = [
+        entry(1, Call::ReadLock, Reply::Stamp(257), 0, 1),
+        entry(1, Call::UnlockRead(257), Reply::Done, 4, 5),
+        entry(0, Call::WriteLock, Reply::Stamp(384), 2, 7),
+    ];
+    let words = [256, 257, 257, 257, 257, 256, 256, 384];
+    shows(&rt, rt.alloc(), &script, &entries, &words)
+}
+
+#[test]
+fn a_thread_may_release_what_another_holds(rt: HostRuntime) -> Result<(), Fail> {
+    let second = [
+        ScriptCall::UnlockWrite(Arg::Of(0, 0)),
+        ScriptCall::UnlockWrite(Arg::Of(0, 0)),
+    ];
+    let script = script(
+        rt.alloc(),
+        0,
+        [&[ScriptCall::TryWrite], &second],
+        &[0, 1, 0, 1, 1],
+    )?;
+    let entries = [
+        entry(1, Call::UnlockWrite(0), Reply::Mismatch, 1, 1),
+        entry(0, Call::TryWrite, Reply::Stamp(384), 0, 2),
+        entry(1, Call::UnlockWrite(384), Reply::Done, 3, 4),
+    ];
+    let words = [256, 256, 384, 384, 512];
+    shows(&rt, rt.alloc(), &script, &entries, &words)
+}
+
+#[test]
+fn gets_and_puts_of_a_record_change_no_word_of_the_lock(rt: HostRuntime) -> Result<(), Fail> {
+    let calls = [ScriptCall::Put(words(&[7])?), ScriptCall::Get];
+    let script = script_under(rt.alloc(), limits(127, 0)?, 1, [&calls, &[]], &[0; 7])?;
+    let entries = [
+        entry(0, Call::Put(words(&[7])?), Reply::Done, 0, 3),
+        entry(0, Call::Get, Reply::Content(words(&[7])?), 4, 6),
+    ];
+    shows(&rt, rt.alloc(), &script, &entries, &[256; 7])
 }
 
 #[test]
