@@ -5,3 +5,4 @@ pub mod OneReplay
 pub mod OneAnswer
 pub mod HandedOn
 pub mod MadeSoFar
+pub mod RunLines
