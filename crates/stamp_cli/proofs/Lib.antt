@@ -5,3 +5,5 @@ pub mod OneReplay
 pub mod OneAnswer
 pub mod HandedOn
 pub mod MadeSoFar
+pub mod RunLines
+pub mod Migrating

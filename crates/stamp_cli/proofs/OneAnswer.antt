@@ -61,20 +61,20 @@ of_lock_in input = by (replay_of input) refl
     by (Ok replay) e = of_all replay.calls (replay_of_lock input replay e)
     by (Err e) _ = tt
 
-long_or_not : (n m : ℕ) → (n < m) ⊎ (m ≤ n)
+pub long_or_not : (n m : ℕ) → (n < m) ⊎ (m ≤ n)
 long_or_not n m = by_test (nat_lt n m) refl
   where
     by_test : (b : Bool) → nat_lt n m ≡ b → (n < m) ⊎ (m ≤ n)
     by_test true e = inl (ltb-true n m e)
     by_test false e = inr (ltb-false n m e)
 
-ok_inj : {A : Type 0} {a b : A} → Path (Result A ServeFault) (Ok a) (Ok b) → a ≡ b
+pub ok_inj : {A : Type 0} {a b : A} → Path (Result A ServeFault) (Ok a) (Ok b) → a ≡ b
 ok_inj e = cc
 
 err_inj : {A : Type 0} {d e : ServeFault} → Path (Result A ServeFault) (Err d) (Err e) → d ≡ e
 err_inj e = cc
 
-ok_not_err : {A : Type 0} {a : A} {e : ServeFault} → Path (Result A ServeFault) (Ok a) (Err e) → ⊥
+pub ok_not_err : {A : Type 0} {a : A} {e : ServeFault} → Path (Result A ServeFault) (Ok a) (Err e) → ⊥
 ok_not_err e = cc
 
 same_line : (a b : LineView) → a.text ≡ b.text → a.verdict ≡ b.verdict → a ≡ b

@@ -16,7 +16,7 @@ use Rattle.stamp_history.specs.JsonReading.{json_of}
 use Rattle.stamp_history.specs.ReplayText.{number_data}
 use Rattle.stamp_history.proofs.EntriesReadAgain.{report_again}
 use Rattle.stamp_history.proofs.ReadAgain.{ReadsAgain, MembersReadAgain, number_again, no_members_again, member_again}
-use Rattle.stamp_history.proofs.ReadAgain.{object_again, text_read}
+use Rattle.stamp_history.proofs.ReadAgain.{object_again}
 
 pub small : (n m : ℕ) → n ≤ m → m < 2 ^ 64 → IsU64 n
 small n m le lt = omega arith
@@ -66,18 +66,16 @@ in_order Two readers versions w d [] entries report r v width =
 in_order Two readers versions w d (p ∷ ps) entries report r v width =
     rw (entries, (format_again Two).same, r, report, v, width) refl
 
--- the text is read as the value that was written
+-- what is written of them reads again
 pub fields_again : (l : Layout) (readers versions w : ℕ) (d : Data) (ps : List (ℕ × ℕ)) →
     AreInRange (bounds l readers versions) → w ≤ 16 → ReadsAgain 4 d → All PairIsU64 ps →
-    json_of (compact_text (with_entries d (bounds l readers versions) w ps)) ≡
-    Ok (with_entries d (bounds l readers versions) w ps)
+    ReadsAgain 127 (with_entries d (bounds l readers versions) w ps)
 fields_again l readers versions w d ps range most entries fit =
     let limits = limits_fit l readers versions range in
     let report = report_again ps fit in
     let r = number_again readers limits.0 in
     let v = number_again versions limits.1 in
     let width = number_again w (small w 16 most (lit< tt)) in
-    let written = with_entries d (bounds l readers versions) w ps in
     let again = object_again 4 _
     (member_again 4 4 (codes "entries") d _ (omega arith) refl entries
     (member_again 0 4 (codes "format") (number_data (format_of l)) _ (omega arith) refl (format_again l)
@@ -87,7 +85,4 @@ fields_again l readers versions w d ps range most entries fit =
     (member_again 0 4 (codes "versions") (number_data versions) _ (omega arith) refl v
     (member_again 0 4 (codes "width") (number_data w) no_members (omega arith) refl width (no_members_again 4))))))))
     (in_order l readers versions w d ps entries.same report.same r.same v.same width.same) in
-    let deep : ReadsAgain 127 written =
     record { numbers = again.numbers; depth = omega (arith, again.depth); same = again.same; utf8 = again.utf8 }
-    in
-    rw (is_utf8-from_IsUtf8 (compact_text written) again.utf8, text_read written deep) refl

@@ -29,7 +29,7 @@ fails : {P : Type 0} (b : Bool) → Decides b P → (P → ⊥) → b ≡ false
 fails true d n = absurd (n (d.0 refl))
 fails false d n = refl
 
-at_most : (n most : ℕ) → Decides (nat_le n most) (n ≤ most)
+pub at_most : (n most : ℕ) → Decides (nat_le n most) (n ≤ most)
 at_most n most = (leb-true n most, le-leb n most)
 
 short : (threads : List (Vec ScriptCall Global)) → Decides (are_short (map thread_calls threads)) (AreShort threads)
@@ -37,7 +37,7 @@ short = Decides-by_and (λ (calls : Vec ScriptCall Global). nat_le (length calls
     (λ (calls : Vec ScriptCall Global). length calls.items ≤ 10000) (λ threads. are_short (map thread_calls threads))
     (λ calls. at_most (length calls.items) 10000) refl (λ _ _. refl)
 
-one_suits : (width : ℕ) (call : ScriptCall) → Decides (suits width call) (Suits width call)
+pub one_suits : (width : ℕ) (call : ScriptCall) → Decides (suits width call) (Suits width call)
 one_suits width Get = Decides-ltb 0 width
 one_suits width (Put a) = Decides-and _ _ (Decides-ltb 0 width) (Decides-eqb (length a) width)
 one_suits width (PutIf a b) = Decides-like _ (λ h. (h.0.0, h.0.1, h.1)) (λ h. ((h.0, h.1), h.2))

@@ -17,9 +17,16 @@ pub mod ReportKey
 pub mod HistoryParts
 pub mod PairLengths
 pub mod KnownHistory
+pub mod LineFeed
 pub mod ReadAgain
 pub mod EntriesReadAgain
 pub mod FieldsFound
 pub mod FieldsReadAgain
 pub mod HistoryAgain
 pub mod HistoryReadsAgain
+pub mod LegalReplies
+pub mod RunReplies
+pub mod NumbersRead
+pub mod ScriptNumbers
+pub mod RunsReadAgain
+pub mod HistoryNumbers

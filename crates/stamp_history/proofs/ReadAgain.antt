@@ -1,10 +1,10 @@
 -- Values whose text reads as the value.
 use Rattle.std.proofs.Common.{◌≡◌, ◌≤◌, ◌∙◌, ◌++◌, ℕ, ◌^◌, ◌<◌, suc, List, [], ◌∷◌, Bool, true}
 use Rattle.std.proofs.Common.{false, refl, ap, sym, arith, Some, option_and_then, decimal}
-use Rattle.std.proofs.Common.{append-nil}
+use Rattle.std.proofs.Common.{append-nil, Ok}
 use Rattle.std.specs.Str.{IsUtf8}
 use Rattle.std.proofs.lemmas.Fmt.{IsAscii-decimal}
-use Rattle.std.proofs.lemmas.Str.{IsUtf8-append, IsUtf8-nil, IsUtf8-from_ascii}
+use Rattle.std.proofs.lemmas.Str.{IsUtf8-append, IsUtf8-nil, IsUtf8-from_ascii, is_utf8-from_IsUtf8}
 use Rattle.json.specs.Json as json
 use Rattle.json.specs.Lex.{tokens}
 use Rattle.json.specs.Tree as tree
@@ -19,7 +19,9 @@ use Rattle.serde_json.specs.Written.{outline, items_outline, members_outline, co
 use Rattle.serde_json.specs.Written.{items_text, members_text, comma_if}
 use Rattle.serde_json.proofs.Numbers.{number_of-decimal}
 use Rattle.serde_json.proofs.Texts.{print-outline}
+use Rattle.stamp_history.specs.JsonReading.{json_of}
 use Rattle.stamp_history.specs.ReplayText.{number_data}
+use Rattle.stamp_history.proofs.LineFeed.{tokens_line}
 
 -- a value that is n deep at most, and reads again from its text
 pub record ReadsAgain (n : ℕ) (d : Data) : Type 0 where
@@ -40,13 +42,30 @@ pub record MembersReadAgain (n : ℕ) (ms : Members) : Type 0 where
   pub depth : tree.members_depth (members_outline ms) ≤ n
   pub utf8 : (later : Bool) → IsUtf8 (members_text later ms)
 
-pub text_read : (d : Data) → ReadsAgain 127 d → read (compact_text d) ≡ Some d
+-- a text that has the tokens of the value's own text is read as that value
+tokens_read : (d : Data) (text : List ℕ) → ReadsAgain 127 d → tokens text ≡ tree.json_tokens (outline d) →
+    read text ≡ Some d
+tokens_read d text again lexed =
+    let ts = tree.json_tokens (outline d) in
+    let parsed = ap (json.value 127) (lexed ∙ sym (append-nil ts)) ∙ value-json_tokens (outline d) 127 [] again.depth in
+    ap (λ found. option_and_then of_json (option_and_then (λ p. json.if_last p.0 p.1) found)) parsed ∙ again.same
+
+pub text_read : (d : Data) → ReadsAgain 127 d → json_of (compact_text d) ≡ Ok d
 text_read d again =
     let ts = tree.json_tokens (outline d) in
-    let lexed : tokens (compact_text d) ≡ ts ++ [] = ap tokens (sym (print-outline d)) ∙
-    tokens-print ts (ArePrintable-json_tokens (outline d) again.numbers) ∙ sym (append-nil ts) in
-    let parsed = ap (json.value 127) lexed ∙ value-json_tokens (outline d) 127 [] again.depth in
-    ap (λ found. option_and_then of_json (option_and_then (λ p. json.if_last p.0 p.1) found)) parsed ∙ again.same
+    let lexed = ap tokens (sym (print-outline d)) ∙ tokens-print ts (ArePrintable-json_tokens (outline d) again.numbers)
+    in
+    rw (is_utf8-from_IsUtf8 (compact_text d) again.utf8, tokens_read d (compact_text d) again lexed) refl
+
+-- and so is its line
+pub line_read : (d : Data) → ReadsAgain 127 d → json_of (compact_text d ++ 10 ∷ []) ≡ Ok d
+line_read d again =
+    let ts = tree.json_tokens (outline d) in
+    let line = compact_text d ++ 10 ∷ [] in
+    let lexed = ap (λ (text : List ℕ). tokens (text ++ 10 ∷ [])) (sym (print-outline d)) ∙
+    tokens_line ts (ArePrintable-json_tokens (outline d) again.numbers) in
+    let utf8 = IsUtf8-append (compact_text d) (10 ∷ []) again.utf8 (IsUtf8-are_ascii (10 ∷ []) refl) in
+    rw (is_utf8-from_IsUtf8 line utf8, tokens_read d line again lexed) refl
 
 comma : (later : Bool) → IsUtf8 (comma_if later)
 comma true = IsUtf8-are_ascii (44 ∷ []) refl

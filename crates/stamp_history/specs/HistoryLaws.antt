@@ -1,5 +1,5 @@
 -- What is written of a recorded history reads as that history.
-use Rattle.std.specs.Prelude.{ℕ, ◌≡◌, ◌<◌, ◌^◌, Ok, ⊤}
+use Rattle.std.specs.Prelude.{ℕ, ◌≡◌, ◌<◌, ◌^◌, List, Ok, ⊤}
 use Rattle.std.specs.List.{All}
 use Rattle.stamp_core.specs.Limits.{AreInRange}
 use Rattle.stamp_core.specs.Record.{Recorded, IsRecorded, RepliesFit}
@@ -10,8 +10,11 @@ use Rattle.stamp_core.specs.declared.call.Call.TheVariants.{Put, PutIf}
 use Rattle.stamp_core.specs.declared.entry.Entry.{Entry}
 use Rattle.stamp_core.specs.declared.reply.Reply.{Reply}
 use Rattle.stamp_core.specs.declared.reply.Reply.TheVariants.{Stamp, Count, Content}
-use Rattle.stamp_history.specs.HistoryText.{history_text}
+use Rattle.stamp_machines.specs.RecordedRun.{recorded_run, reported_run}
+use Rattle.stamp_machines.specs.Script.{Scripted}
+use Rattle.stamp_history.specs.HistoryText.{history_text, history_line}
 use Rattle.stamp_history.specs.History.{recorded_of}
+use Rattle.stamp_history.specs.ScriptReading.{script_of}
 
 -- a number of 64 bits
 abbrev pub IsU64 : ℕ → Type 0
@@ -53,3 +56,13 @@ pub record AreU64 (r : Recorded) : Type 0 where
 abbrev pub HistoriesReadAgain : Type 0
 HistoriesReadAgain = (r : Recorded) → AreInRange r.limits → IsRecorded r → RepliesFit r.entries → AreU64 r →
     recorded_of (history_text r) ≡ Ok r
+
+abbrev pub LinesReadAgain : Type 0
+LinesReadAgain = (r : Recorded) → AreInRange r.limits → IsRecorded r → RepliesFit r.entries → AreU64 r →
+    recorded_of (history_line r) ≡ Ok r
+
+-- what a script that was read is run to, without a report and with one, reads again from its line
+abbrev pub RunsReadAgain : Type 0
+RunsReadAgain = (bytes : List ℕ) (script : Scripted) → script_of bytes ≡ Ok script →
+    (recorded_of (history_line (recorded_run script)) ≡ Ok (recorded_run script)) ×
+    (recorded_of (history_line (reported_run script)) ≡ Ok (reported_run script))

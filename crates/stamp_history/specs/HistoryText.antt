@@ -1,5 +1,5 @@
 -- The JSON value that a recorded history is written as, and its text.
-use Rattle.std.specs.Prelude.{ℕ, List, [], ◌∷◌, map, codes}
+use Rattle.std.specs.Prelude.{ℕ, List, [], ◌∷◌, ◌++◌, map, codes}
 use Rattle.serde_json.specs.Data.{Data, string, array, object, Items, no_items, item, Members, no_members, member}
 use Rattle.serde_json.specs.Written.{compact_text}
 use Rattle.serde_json.specs.View.{items_of}
@@ -109,3 +109,7 @@ history_data r = with_entries (entries_data r.entries) r.limits r.width r.report
 -- without spaces
 unfoldable pub history_text : Recorded → List ℕ
 history_text r = compact_text (history_data r)
+
+-- the text as a program writes it, with a line feed
+abbrev pub history_line : Recorded → List ℕ
+history_line r = history_text r ++ 10 ∷ []

@@ -28,7 +28,7 @@ use Rattle.stamp_history.proofs.FieldsFound.{fields_found, listed_found, mapped_
 use Rattle.stamp_history.proofs.FieldsReadAgain.{small, fields_again}
 use Rattle.stamp_history.proofs.HistoryAgain.{call_found, reply_found}
 use Rattle.stamp_history.proofs.ReadAgain.{ReadsAgain, ItemsReadAgain, number_again, no_items_again, item_again}
-use Rattle.stamp_history.proofs.ReadAgain.{array_again, no_members_again, member_again, object_again}
+use Rattle.stamp_history.proofs.ReadAgain.{array_again, no_members_again, member_again, object_again, text_read}
 use Rattle.stamp_observed.specs.ProgramValue.{ReturnIsProgramValue, ObservationIsProgramValue}
 use Rattle.stamp_observed.specs.ObservationValue as value
 use Rattle.stamp_observed.specs.ObservedFields.{top, ends_in_range, entry_at, entries}
@@ -149,8 +149,9 @@ pub reads_again : (h : ObservedHistory) → AreInRange h.limits → IsSmall h �
 unfolding observed_of observed_text
 reads_again h range known suited are_values =
     ap (λ found. found >>= λ d. observed_in d)
+    (text_read (observed_data h)
     (fields_again h.limits.layout h.limits.readers h.limits.versions h.width (observations_data h.entries) [] range
     known.width
     (array_again 3 (items_of (map observation_data h.entries))
-    (items_again h.entries suited.threads known.positions are_values)) (All-nil PairIsU64))
+    (items_again h.entries suited.threads known.positions are_values)) (All-nil PairIsU64)))
     ∙ observed_found h range known suited are_values
