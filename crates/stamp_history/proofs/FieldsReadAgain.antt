@@ -1,10 +1,9 @@
 -- The fields of a history, or of an observed one, are read again from the text that has them.
-use Rattle.std.proofs.Common.{◌≡◌, ◌≤◌, ◌<◌, ◌^◌, ℕ, List, [], ◌∷◌, refl, arith, codes, lit<, Some, Ok}
+use Rattle.std.proofs.Common.{◌≡◌, ◌≤◌, ◌<◌, ◌^◌, ℕ, List, [], ◌∷◌, refl, arith, codes, lit<, Some}
 use Rattle.std.specs.List.{All}
-use Rattle.std.proofs.lemmas.Str.{is_utf8-from_IsUtf8}
 use Rattle.serde_json.specs.Data.{Data, Members, member, no_members}
 use Rattle.serde_json.specs.Read.{of_json, of_members}
-use Rattle.serde_json.specs.Written.{outline, members_outline, compact_text}
+use Rattle.serde_json.specs.Written.{outline, members_outline}
 use Rattle.stamp_core.specs.Layout.{units_of}
 use Rattle.stamp_core.specs.Limits.{AreInRange, bounds}
 use Rattle.stamp_core.specs.declared.layout.Layout.{Layout}
@@ -12,7 +11,6 @@ use Rattle.stamp_core.specs.declared.layout.Layout.TheVariants.{One, Two}
 use Rattle.stamp_history.specs.HistoryLaws.{IsU64, PairIsU64}
 use Rattle.stamp_history.specs.HistoryText.{report_data, format_of, with_layout, with_report, after_entries}
 use Rattle.stamp_history.specs.HistoryText.{with_entries}
-use Rattle.stamp_history.specs.JsonReading.{json_of}
 use Rattle.stamp_history.specs.ReplayText.{number_data}
 use Rattle.stamp_history.proofs.EntriesReadAgain.{report_again}
 use Rattle.stamp_history.proofs.ReadAgain.{ReadsAgain, MembersReadAgain, number_again, no_members_again, member_again}

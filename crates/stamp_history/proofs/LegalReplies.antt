@@ -1,5 +1,5 @@
 -- The replies of a legal history are those of program values, where its calls are.
-use Rattle.std.proofs.Common.{◌≡◌, ◌≤◌, ◌<◌, ◌+◌, ◌*◌, ◌++◌, ℕ, List, [], ◌∷◌, length, Bool, true, false, refl}
+use Rattle.std.proofs.Common.{◌≡◌, ◌≤◌, ◌+◌, ◌*◌, ◌++◌, ℕ, List, [], ◌∷◌, length, Bool, true, false, refl}
 use Rattle.std.proofs.Common.{Option, Some, None, subst, sym, arith, lit<}
 use Rattle.std.specs.Prelude.{◌==◌, ◌&&◌, nat_lt, IsTrue, if◌then◌else◌}
 use Rattle.std.specs.Bool.{MatchBool}
@@ -30,7 +30,7 @@ use Rattle.stamp_core.specs.declared.call.Call.TheVariants.{IsReadLocked, ReadCo
 use Rattle.stamp_core.specs.declared.call.Call.TheVariants.{PutIf}
 use Rattle.stamp_core.specs.declared.entry.Entry.{Entry}
 use Rattle.stamp_core.specs.declared.reply.Reply.{Reply}
-use Rattle.stamp_core.specs.declared.reply.Reply.TheVariants.{Stamp, Yes, No, Done, Mismatch, Count, Content}
+use Rattle.stamp_core.specs.declared.reply.Reply.TheVariants.{Stamp, Yes, No, Done, Mismatch}
 use Rattle.stamp_core.proofs.StampValidity.{transition_counts}
 use Rattle.stamp_core.proofs.WellFormedPush.{obeys_now}
 use Rattle.stamp_history.specs.HistoryLaws.{IsU64, CallIsU64, ReplyIsU64}

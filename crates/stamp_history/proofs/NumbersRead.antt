@@ -1,7 +1,7 @@
 -- The whole numbers of a JSON value that was read have 64 bits.
-use Rattle.std.proofs.Common.{◌≡◌, ℕ, ◌^◌, List, Bool, true, false, Option, Some, None, Result, Ok, Err, refl, subst}
+use Rattle.std.proofs.Common.{◌≡◌, ℕ, ◌^◌, List, Bool, true, false, Option, Some, None, refl, subst}
 use Rattle.std.proofs.Common.{option_map, option_and_then}
-use Rattle.std.specs.Prelude.{◌&&◌, ◌==◌, nat_lt, nat_le, slice_index, drop, if◌then◌else◌}
+use Rattle.std.specs.Prelude.{◌&&◌, ◌==◌, nat_lt, slice_index, drop, if◌then◌else◌}
 use Rattle.std.proofs.Common.{Ordering, Less, Equal, Greater}
 use Rattle.std.specs.Ordering.{nat_cmp, match_ordering}
 use Rattle.std.specs.Float.Numeral.{Parts, scan_numeral}
@@ -12,13 +12,11 @@ use Rattle.json.specs.Json as json
 use Rattle.json.specs.Lex.{tokens}
 use Rattle.serde_json.specs.Data.{Num, unsigned, negative, float, Data, null, boolean, number, string, array, object}
 use Rattle.serde_json.specs.Data.{Items, no_items, item, Members, no_members, member, put}
-use Rattle.serde_json.specs.Find.{get, get_member, as_number, as_array, as_u64}
-use Rattle.serde_json.specs.Read.{is_integer, float_of, number_from, number_of, of_json, of_items, of_members, read, max_depth}
+use Rattle.serde_json.specs.Find.{get, get_member, as_array, as_u64}
+use Rattle.serde_json.specs.Read.{is_integer, float_of, number_from, number_of, of_json, of_items, of_members}
+use Rattle.serde_json.specs.Read.{read, max_depth}
 use Rattle.stamp_history.specs.HistoryLaws.{IsU64}
-use Rattle.stamp_history.specs.JsonReading.{json_of, kind}
-use Rattle.stamp_history.specs.JsonValue.{whole, whole_under, list_under}
-use Rattle.stamp_history.specs.declared.read_error.ReadError.{ReadError}
-use Rattle.stamp_history.specs.declared.read_error.ReadError.TheVariants.{NotJson}
+use Rattle.stamp_history.specs.JsonValue.{whole, list_under}
 
 -- the fact holds of what was found, if anything
 pub record Finds {A : Type 0} (P : A → Type 0) (found : Option A) : Type 0 where

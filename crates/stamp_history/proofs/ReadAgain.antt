@@ -47,14 +47,15 @@ tokens_read : (d : Data) (text : List ℕ) → ReadsAgain 127 d → tokens text 
     read text ≡ Some d
 tokens_read d text again lexed =
     let ts = tree.json_tokens (outline d) in
-    let parsed = ap (json.value 127) (lexed ∙ sym (append-nil ts)) ∙ value-json_tokens (outline d) 127 [] again.depth in
+    let parsed = ap (json.value 127) (lexed ∙ sym (append-nil ts)) ∙
+    value-json_tokens (outline d) 127 [] again.depth in
     ap (λ found. option_and_then of_json (option_and_then (λ p. json.if_last p.0 p.1) found)) parsed ∙ again.same
 
 pub text_read : (d : Data) → ReadsAgain 127 d → json_of (compact_text d) ≡ Ok d
 text_read d again =
     let ts = tree.json_tokens (outline d) in
-    let lexed = ap tokens (sym (print-outline d)) ∙ tokens-print ts (ArePrintable-json_tokens (outline d) again.numbers)
-    in
+    let lexed = ap tokens (sym (print-outline d)) ∙
+    tokens-print ts (ArePrintable-json_tokens (outline d) again.numbers) in
     rw (is_utf8-from_IsUtf8 (compact_text d) again.utf8, tokens_read d (compact_text d) again lexed) refl
 
 -- and so is its line

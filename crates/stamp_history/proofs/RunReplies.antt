@@ -1,25 +1,21 @@
 -- The finished calls of a script of program values are program values.
-use Rattle.std.proofs.Common.{◌≡◌, ◌≤◌, ◌<◌, ◌+◌, ◌++◌, ℕ, zero, suc, List, [], ◌∷◌, length, Bool, true, false}
-use Rattle.std.proofs.Common.{Option, Some, None, refl, ap, subst, sym, arith, lit<, map, append-nil, append_assoc}
-use Rattle.std.specs.Prelude.{IsTrue, fold, filter, slice_get, slice_index, slice_index_or, slice_set, replicate}
+use Rattle.std.proofs.Common.{◌≡◌, ◌≤◌, ◌++◌, ℕ, zero, suc, List, [], ◌∷◌, length}
+use Rattle.std.proofs.Common.{Option, Some, None, refl, subst, sym, arith, lit<, append-nil, append_assoc}
+use Rattle.std.specs.Prelude.{filter, slice_get, slice_index, slice_index_or}
 use Rattle.std.specs.List.{All}
 use Rattle.std.proofs.lemmas.Option.{get_or_from_slice_get, slice_get_within}
 use Rattle.std.proofs.lemmas.List.Elements.{All-nil, All-push, All-head, All-tail, All-filter, All-map}
 use Rattle.std.proofs.lemmas.List.Elements.{All-replicate}
 use Rattle.std.proofs.lemmas.List.{length-replicate, length-append}
-use Rattle.stamp_core.specs.Call.{call_suits}
 use Rattle.stamp_core.specs.Content.{zeros}
 use Rattle.stamp_core.specs.Decision.{stamp_in}
-use Rattle.stamp_core.specs.Linearized.{history_of}
 use Rattle.stamp_core.specs.declared.call.Call.{Call}
 use Rattle.stamp_core.specs.declared.entry.Entry.{Entry}
 use Rattle.stamp_core.specs.declared.reply.Reply.{Reply}
 use Rattle.stamp_core.specs.declared.reply.Reply.TheVariants.{Stamp, Yes, No, Done, Mismatch, Count, Content}
 use Rattle.stamp_core.proofs.WellFormedPush.{well_formed_none}
-use Rattle.stamp_machines.specs.Invariant.{Invariant}
-use Rattle.stamp_machines.specs.Machine.{after_access}
 use Rattle.stamp_machines.specs.Script.{Scripted, IsSound, calls_of}
-use Rattle.stamp_machines.specs.World.{World, opening, current, current_of, begun_call, shape_of, stamps_of, is_of}
+use Rattle.stamp_machines.specs.World.{World, current, current_of, begun_call, shape_of, stamps_of, is_of}
 use Rattle.stamp_machines.specs.World.{number_of, resolved, world_after, world_stepped, step, entry_of}
 use Rattle.stamp_machines.specs.World.{execution_of, finished_calls}
 use Rattle.stamp_machines.specs.MachineState.{start}
@@ -36,7 +32,7 @@ use Rattle.stamp_machines.proofs.EntryCount.{IsStillOf, after_same, finished-rec
 use Rattle.stamp_machines.proofs.EntryOrder.{each_slot, slot_none}
 use Rattle.stamp_machines.proofs.StepsKeep.{always-kept, execution_of-more}
 use Rattle.stamp_history.specs.HistoryLaws.{IsU64, CallIsU64}
-use Rattle.stamp_history.proofs.LegalReplies.{IsProgramCall, IsProgramReply, IsProgramContent, replies_are}
+use Rattle.stamp_history.proofs.LegalReplies.{IsProgramReply, IsProgramContent, replies_are}
 
 -- the numbers that a script gives its calls have 64 bits
 abbrev pub ArgIsU64 : Arg → Type 0

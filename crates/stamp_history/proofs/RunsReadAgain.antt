@@ -1,15 +1,15 @@
 -- What a script that was read is run to reads again from its line.
-use Rattle.std.proofs.Common.{◌≡◌, ◌≤◌, ◌<◌, ◌+◌, ◌==◌, ◌&&◌, ◌^◌, ℕ, List, [], ◌∷◌, length, take, drop, get_or, Bool}
+use Rattle.std.proofs.Common.{◌≤◌, ◌+◌, ◌==◌, ℕ, List, [], ◌∷◌, length, take, get_or, Bool}
 use Rattle.std.proofs.Common.{true}
-use Rattle.std.proofs.Common.{false, Ok, not, map, arith, lit<, inr}
-use Rattle.std.specs.Prelude.{count_by, if◌then◌else◌}
+use Rattle.std.proofs.Common.{false, arith, inr}
+use Rattle.std.specs.Prelude.{if◌then◌else◌}
 use Rattle.std.specs.List.{All}
 use Rattle.std.proofs.lemmas.List.{length-take, length-drop, length-map}
 use Rattle.std.proofs.lemmas.List.Elements.{All-nil, All-map}
 use Rattle.std.proofs.lemmas.List.Sums.{count_by-le-length}
-use Rattle.stamp_core.specs.Record.{Recorded, IsRecorded, RepliesFit}
+use Rattle.stamp_core.specs.Record.{IsRecorded, RepliesFit}
 use Rattle.stamp_core.specs.declared.entry.Entry.{Entry}
-use Rattle.stamp_machines.specs.Interference.{cost, steps_during, own_steps, interference, interferes}
+use Rattle.stamp_machines.specs.Interference.{cost, steps_during, interferes}
 use Rattle.stamp_machines.specs.Interference.{changes_by_others}
 use Rattle.stamp_machines.specs.RecordedRun.{recorded_run, reported_run}
 use Rattle.stamp_machines.specs.Script.{Scripted, IsSound}
@@ -19,8 +19,8 @@ use Rattle.stamp_machines.proofs.EntryOrder.{always-in-order}
 use Rattle.stamp_machines.proofs.StepsKeep.{execution-position}
 use Rattle.stamp_history.specs.HistoryLaws.{IsU64, EntryIsU64, PairIsU64, AreU64, RunsReadAgain}
 use Rattle.stamp_history.proofs.HistoryReadsAgain.{lines_read_again}
-use Rattle.stamp_history.proofs.RunReplies.{ThreadsAreU64, IsProgramRun, program_run}
-use Rattle.stamp_history.proofs.ScriptNumbers.{IsProgramScript, program_script}
+use Rattle.stamp_history.proofs.RunReplies.{IsProgramRun, program_run}
+use Rattle.stamp_history.proofs.ScriptNumbers.{program_script}
 
 -- a number of steps of a schedule
 few_fits : (n : ℕ) → n ≤ 1000000 → IsU64 n

@@ -1,19 +1,17 @@
 -- A script that was read is one of program values.
-use Rattle.std.proofs.Common.{◌≡◌, ◌≤◌, ℕ, ◌+◌, List, [], ◌∷◌, length, Bool, true, false, Option, Some, None, Result}
+use Rattle.std.proofs.Common.{◌≡◌, ◌≤◌, ℕ, ◌+◌, List, ◌∷◌, length, Bool, true, false, Option, Some, None, Result}
 use Rattle.std.proofs.Common.{Ok, Err, refl, subst, option_map, option_and_then}
-use Rattle.std.specs.Prelude.{◌&&◌, ◌==◌, not, nat_le, nat_lt, codes, Decides, if◌then◌else◌}
+use Rattle.std.specs.Prelude.{◌&&◌, not, nat_le, codes, Decides, if◌then◌else◌}
 use Rattle.std.specs.List.{All, list_all}
 use Rattle.std.specs.Option.{option_map_or}
-use Rattle.std.specs.Str.{bytes_eq, is_utf8}
+use Rattle.std.specs.Str.{bytes_eq}
 use Rattle.std.proofs.lemmas.Bool.{and_parts, leb-true, ltb-false}
 use Rattle.std.proofs.lemmas.Bool.Decides.{Decides-by_and}
 use Rattle.std.proofs.lemmas.List.Elements.{All-nil, All-cons}
 use Rattle.serde_json.specs.Data.{Data, Items, no_items, item}
 use Rattle.serde_json.specs.Find as find
-use Rattle.serde_json.specs.Read.{read}
 use Rattle.stamp_core.specs.Layout.{units_of}
-use Rattle.stamp_core.specs.Limits.{Bounds, bounds, AreInRange}
-use Rattle.stamp_core.specs.declared.layout.Layout.{Layout}
+use Rattle.stamp_core.specs.Limits.{AreInRange}
 use Rattle.stamp_core.specs.declared.script_error.ScriptError.{ScriptError}
 use Rattle.stamp_core.specs.declared.script_error.ScriptError.TheVariants.{NoSuchThread, RecordWidth}
 use Rattle.stamp_machines.specs.Script.{Scripted, Suits, IsSound}
@@ -26,11 +24,11 @@ use Rattle.stamp_history.specs.HistoryLaws.{IsU64}
 use Rattle.stamp_history.specs.JsonReading.{◌>>=◌, json_of, kind, ranged, each}
 use Rattle.stamp_history.specs.JsonValue.{whole, whole_under, list_under}
 use Rattle.stamp_history.specs.LimitFields as limit
-use Rattle.stamp_history.specs.ScriptCallValue.{stamp_of_call, stamp, plain_call, stamp_call, call_with, call_with_two}
-use Rattle.stamp_history.specs.ScriptCallValue.{listed_call, script_call}
+use Rattle.stamp_history.specs.ScriptCallValue.{stamp_of_call, stamp, plain_call, stamp_call, call_with}
+use Rattle.stamp_history.specs.ScriptCallValue.{call_with_two, listed_call, script_call}
 use Rattle.stamp_history.specs.ScriptReading.{script_in, faultless, script_of}
-use Rattle.stamp_history.specs.ScriptValue.{top, width, are_lists, as_lists, listed_threads, call_at, thread_at, threads}
-use Rattle.stamp_history.specs.ScriptValue.{steps}
+use Rattle.stamp_history.specs.ScriptValue.{top, width, are_lists, as_lists, listed_threads, call_at, thread_at}
+use Rattle.stamp_history.specs.ScriptValue.{threads, steps}
 use Rattle.stamp_history.specs.WordsValue.{numbers, as_words, listed_words, words}
 use Rattle.stamp_history.specs.declared.read_error.ReadError.{ReadError}
 use Rattle.stamp_history.specs.declared.read_error.ReadError.TheVariants.{BadScript}
@@ -174,7 +172,8 @@ listed_u64 (item name (item expected (item new no_items))) fits =
 listed_u64 (item name (item expected (item new (item further rest)))) fits = finds_none
 
 call_u64 : (t i : ℕ) (d : Data) → DataIsU64 d → Reads ScriptCallIsU64 (call_at t i d)
-call_u64 t i d fits = reads_kind _ (script_call d) (finds_then listed_call (find.as_array d) (array_u64 d fits) listed_u64)
+call_u64 t i d fits =
+    reads_kind _ (script_call d) (finds_then listed_call (find.as_array d) (array_u64 d fits) listed_u64)
 
 -- ---- the fields
 
