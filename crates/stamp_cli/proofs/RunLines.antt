@@ -5,7 +5,6 @@ use Rattle.stamp_core.specs.Linearized.{IsLinearized}
 use Rattle.stamp_core.specs.Record.{Recorded}
 use Rattle.stamp_machines.specs.RecordedRun.{recorded_run, reported_run}
 use Rattle.stamp_machines.specs.Script.{Scripted}
-use Rattle.stamp_machines.specs.World.{finished_calls}
 use Rattle.stamp_machines.proofs.EntryOrder.{always-in-order}
 use Rattle.stamp_history.specs.History.{recorded_of}
 use Rattle.stamp_history.specs.HistoryText.{history_text, history_line}
@@ -16,8 +15,8 @@ use Rattle.stamp_history.proofs.ScriptNumbers.{program_script}
 use Rattle.stamp_cli.specs.declared.faults.ServeFault.{ServeFault}
 use Rattle.stamp_cli.specs.declared.orders.Order.TheVariants as order
 use Rattle.stamp_cli.specs.Answer.{LineView, IsOrderAnswer, IsInputAnswer, IsAccepted, IsCheckAnswer}
-use Rattle.stamp_cli.specs.Answer.{AnswersCheck, script_answer, with_line_feed}
-use Rattle.stamp_cli.specs.Laws.{AnswersAlone, ok_line, IsAcceptedRun, RunLinesAreAccepted}
+use Rattle.stamp_cli.specs.Answer.{script_answer, with_line_feed}
+use Rattle.stamp_cli.specs.Laws.{AnswersAlone, ok_line, RunLinesAreAccepted}
 use Rattle.stamp_cli.specs.Source.{most_bytes}
 use Rattle.stamp_cli.proofs.OneAnswer.{long_or_not, ok_inj, ok_not_err, one_answer}
 
@@ -45,9 +44,11 @@ run_as record_of input line answer = by_length (long_or_not most_bytes (length i
 accepted : (line : LineView) (history : Recorded) → recorded_of (with_line_feed line) ≡ Ok history →
     IsLinearized history → length (with_line_feed line) ≤ most_bytes →
     AnswersAlone order.Check (with_line_feed line) (Ok (ok_line (length history.entries)))
-accepted line history read linearized fits a =
-    (λ x. one_answer order.Check (with_line_feed line) a answer x is, λ e. subst
-    (IsOrderAnswer order.Check (with_line_feed line)) (sym e) is)
+accepted line history read linearized fits a = (
+  λ x. one_answer order.Check (with_line_feed line) a answer x is,
+  λ e. subst
+      (IsOrderAnswer order.Check (with_line_feed line)) (sym e) is,
+)
   where
     answer : Result LineView ServeFault
     answer = Ok (ok_line (length history.entries))
