@@ -2,7 +2,7 @@
 use Rattle.std.proofs.Common.{◌≡◌, ℕ, ◌+◌, ◌<◌, ◌≤◌, List, [], ◌∷◌, ◌++◌, length, map, refl, sym}
 use Rattle.std.proofs.Common.{◌∙◌, ap, subst, arith, cond}
 use Rattle.std.specs.Prelude.{◌↔◌}
-use Rattle.std.proofs.lemmas.List.Elements.{All-head, All-tail}
+use Rattle.std.proofs.lemmas.List.Elements.{All-nil, All-cons, All-head, All-tail}
 use Rattle.std.proofs.lemmas.List.Sums.{sum_by-append}
 use Rattle.stamp_core.specs.LockEvent.{LockEvent, write_count, is_write_acquired}
 use Rattle.stamp_core.specs.Limits.{Bounds, AreInRange}
@@ -77,6 +77,19 @@ legal_alike limits events content (e ∷ es) one range can room =
     (legal_alike limits (events ++ appended_by (transition limits events e.call))
     (content_next content e.call e.reply) es one range (All-tail (λ (x : Entry). CanRespell x.reply) e es can)
     (omega arith))
+
+-- legal entries can be respelled
+pub legal_can : (limits : Bounds) (events : List LockEvent) (content : List ℕ) (es : List Entry) → limits.layout ≡
+    One → AreInRange limits → write_count events + length es ≤ 70368744177662 →
+    IsLegalFrom limits events content (history_of es) → AllCanRespell es
+legal_can limits events content [] one range room legal = All-nil (λ (x : Entry). CanRespell x.reply)
+legal_can limits events content (e ∷ es) one range room legal =
+    let alike = goes_alike limits events e.call one range (omega arith) in
+    let few = alike.few in
+    let more = writes-append events (appended_by (transition limits events e.call)) in
+    All-cons (λ (x : Entry). CanRespell x.reply) e es (alike.given content e.reply legal.0)
+    (legal_can limits (events ++ appended_by (transition limits events e.call))
+    (content_next content e.call e.reply) es one range (omega arith) legal.1)
 
 -- each call acquires write mode once at most
 writes_few : (limits : Bounds) (events : List LockEvent) (es : List Entry) → limits.layout ≡ One →

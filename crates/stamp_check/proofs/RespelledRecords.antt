@@ -22,8 +22,9 @@ use Rattle.stamp_check.specs.SameJudgement.{HaveSameJudgement}
 use Rattle.stamp_check.specs.Migration.{respelled_entry, respelled_record, widened, migrated}
 use Rattle.stamp_check.specs.Migration.{migrated_from, CanRespell, AllCanRespell, CanMigrate}
 use Rattle.stamp_check.specs.Migration.{IsFirstForeign}
-use Rattle.stamp_check.specs.MigrationLaws.{MigrationKeepsLinearized, MigrationKeepsFaults, MigrationKeepsVerdicts}
-use Rattle.stamp_check.proofs.RespelledEntries.{legal_alike, answered_alike}
+use Rattle.stamp_check.specs.MigrationLaws.{LinearizedMigrates, MigrationKeepsLinearized}
+use Rattle.stamp_check.specs.MigrationLaws.{MigrationKeepsFaults, MigrationKeepsVerdicts}
+use Rattle.stamp_check.proofs.RespelledEntries.{legal_alike, legal_can, answered_alike}
 
 -- what is true of respelled entries where it is true of the entries
 all_alike : (P Q : Entry → Type 0) (es : List Entry) → ((e : Entry) → P (respelled_entry e) ↔ Q e) →
@@ -236,6 +237,12 @@ migration_keeps_faults r i why known range can = by r.limits.layout refl
     by One one = faults_alike r i why one range (can one) known.entries
     by Two two = (λ h. h, λ h. h)
 
+pub linearized_migrates : LinearizedMigrates
+linearized_migrates r known range all =
+    let can : CanMigrate r = λ one. legal_can r.limits [] (zeros r.width) r.entries one range
+    (omega (arith, known.entries)) all.legal in
+    (can, (migration_keeps_linearized r known range can).1 all)
+
 as_many : (r : Recorded) (l : Layout) → length (migrated_from l r).entries ≡ length r.entries
 as_many r One = length-map r.entries respelled_entry
 as_many r Two = refl
@@ -266,3 +273,10 @@ cannot_migrate r limits entries i same one each first = (
   λ can. absurd (first.foreign (can_at entries i first.entry
       (subst AllCanRespell (sym each) (can (layout_of r limits same one))) first.is_entry)),
 )
+
+pub is_not_linearized : (r : Recorded) (limits : Bounds) (entries : List Entry) (i : ℕ) → limits ≡ r.limits →
+    limits.layout ≡ One → AreInRange limits → IsRecorded r → entries ≡ r.entries → IsFirstForeign entries i →
+    IsLinearized r → false ≡ true
+is_not_linearized r limits entries i same one range known each first all =
+    (cannot_migrate r limits entries i same one each first).1
+    (linearized_migrates r known (subst AreInRange same range) all).0

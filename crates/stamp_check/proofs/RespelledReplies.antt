@@ -103,6 +103,26 @@ record_alike content (PutIf expected words) reply =
     (yes_or_no_is_no_stamp (same_words content expected))
 record_alike content _ reply = (λ h. h, λ h. h)
 
+-- what is replied can be respelled
+replied_can : (t : Option Transition) (reply : Reply) → CanRespellReply t → Replies t reply → CanRespell reply
+replied_can None reply can never = absurd never
+replied_can (Some t) reply can is = subst CanRespell is can
+
+yes_or_no_can : (b : Bool) → CanRespell (if b then Yes else No)
+yes_or_no_can true = tt
+yes_or_no_can false = tt
+
+record_can : (content : List ℕ) (call : Call) (reply : Reply) → RecordReplies content call reply → CanRespell reply
+record_can content Get reply is = subst CanRespell (sym is) tt
+record_can content (Put words) reply is = subst CanRespell (sym is) tt
+record_can content (PutIf expected words) reply is =
+    subst CanRespell (sym is) (yes_or_no_can (same_words content expected))
+record_can content _ reply never = absurd never
+
+given_by : (b : Bool) {P Q R : Type 0} → (P → R) → (Q → R) → MatchBool b P Q → R
+given_by true f g p = f p
+given_by false f g q = g q
+
 same_owner : (call : Call) → is_lock_call (respelled_call call) ≡ is_lock_call call
 same_owner Get = refl
 same_owner _ = refl
@@ -144,6 +164,7 @@ pub record GoesAlike (limits : Bounds) (events : List LockEvent) (call : Call) :
   pub replies : (content : List ℕ) (reply : Reply) → CanRespell reply →
       IsReply (widened limits) events content (respelled_call call) (respelled_reply reply) ↔
       IsReply limits events content call reply
+  pub given : (content : List ℕ) (reply : Reply) → IsReply limits events content call reply → CanRespell reply
 
 pub goes_alike : (limits : Bounds) (events : List LockEvent) (call : Call) → limits.layout ≡ One →
     AreInRange limits → write_count events < 70368744177662 → GoesAlike limits events call
@@ -157,6 +178,8 @@ goes_alike limits events call one range room =
           (same_owner call) (replied_alike (transition limits events call)
           (transition (widened limits) events (respelled_call call)) reply alike can)
           (record_alike content call reply);
+      given = λ content reply. given_by (is_lock_call call)
+          (replied_can (transition limits events call) reply alike.reply) (record_can content call reply);
     }
 
 -- a stamp can be respelled where the number that it is respelled to is one

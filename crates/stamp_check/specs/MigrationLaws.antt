@@ -13,6 +13,12 @@ use Rattle.stamp_check.specs.Migration.{respelling, migrated, CanMigrate}
 abbrev pub RespellingIsOfStamps : Type 0
 RespellingIsOfStamps = (s : ℕ) → IsRespelled s (respelling s)
 
+-- A recorded history that is linearized can be migrated, and the migrated one is linearized.
+abbrev pub LinearizedMigrates : Type 0
+LinearizedMigrates =
+    (r : Recorded) → IsRecorded r → AreInRange r.limits → IsLinearized r →
+    CanMigrate r × IsLinearized (migrated r)
+
 -- A recorded history that can be migrated is linearized exactly where the migrated one is.
 abbrev pub MigrationKeepsLinearized : Type 0
 MigrationKeepsLinearized =

@@ -1,5 +1,6 @@
 //! Recorded histories of layout 1, spelled anew in layout 2.
 ghost use Rattle.std.specs.Prelude.{◌≡◌, ◌↔◌, map, IsOk, IfOk, IfErr, IsTrue, MatchOption};
+ghost use Rattle.stamp_core.specs.Linearized.{IsLinearized};
 ghost use Rattle.stamp_check.specs.SameJudgement.{HaveSameJudgement};
 ghost use Rattle.stamp_check.specs.Migration.{respelling, respelled_call, respelled_reply, respelled_entry, respelled_record, widened, migrated, CanRespell, AllCanRespell, CanMigrate, IsFirstForeign, IsBadReply};
 
@@ -130,11 +131,12 @@ fn in_layout_two(history: Record) -> Record
 /// The limits become those of layout 2 with the same readers and the smaller of the two numbers of
 /// versions. A history of layout 2 comes back as it is. One of layout 1 is refused exactly where some
 /// call was answered a number other than 0 that is no stamp which layout 2 can spell; the refusal
-/// returns the history.
+/// returns the history. A linearized history has no such reply, and is never refused.
 pub fn migrate(history: Record) -> Result<Record, BadReply>
     ensures ok { IsOk result ↔ CanMigrate history }
     ensures migrated { IfOk result (λ r. r ≡ migrated history) }
     ensures judgement { IfOk result (λ r. HaveSameJudgement r history) }
+    ensures linearized { IsLinearized history → IsOk result }
     ensures bad { IfErr result (λ bad. IsBadReply history bad.entry) }
     ensures unchanged { IfErr result (λ bad. bad.unchanged ≡ history) }
 {

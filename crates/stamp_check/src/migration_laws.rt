@@ -1,11 +1,16 @@
 //! Laws of migration. Each function does nothing; its contract is the law, over the definitions
 //! alone.
-ghost use Rattle.stamp_check.specs.MigrationLaws.{RespellingIsOfStamps, MigrationKeepsLinearized, MigrationKeepsFaults, MigrationKeepsVerdicts};
+ghost use Rattle.stamp_check.specs.MigrationLaws.{RespellingIsOfStamps, LinearizedMigrates, MigrationKeepsLinearized, MigrationKeepsFaults, MigrationKeepsVerdicts};
 
 /// A stamp is respelled to the stamp of the same kind, version and count in layout 2, and a number
 /// that is none there to 0.
 pub fn respelling_is_of_stamps()
     ensures { RespellingIsOfStamps }
+{}
+
+/// A linearized history can be migrated, and the migrated one is linearized.
+pub fn linearized_migrates()
+    ensures { LinearizedMigrates }
 {}
 
 /// A migrated history is linearized exactly where the old one is.
