@@ -6,3 +6,4 @@ pub mod OneAnswer
 pub mod HandedOn
 pub mod MadeSoFar
 pub mod RunLines
+pub mod Migrating

@@ -1,5 +1,5 @@
 -- Laws of the program's answers.
-use Rattle.std.specs.Prelude.{◌≡◌, ◌⊎◌, ◌↔◌, ◌≤◌, ℕ, List, length, Result, Ok}
+use Rattle.std.specs.Prelude.{◌≡◌, ◌⊎◌, ◌↔◌, ◌≤◌, ℕ, List, length, Result, Ok, IsOk}
 use Rattle.stamp_machines.specs.Script.{Scripted}
 use Rattle.stamp_machines.specs.World.{finished_calls}
 use Rattle.stamp_history.specs.ScriptReading.{script_of}
@@ -36,3 +36,15 @@ abbrev pub RunLinesAreAccepted : Type 0
 RunLinesAreAccepted = (input : List ℕ) (line : LineView) →
     IsOrderAnswer order.Run input (Ok line) ⊎ IsOrderAnswer order.RunReported input (Ok line) →
     length (with_line_feed line) ≤ most_bytes → IsAcceptedRun input line
+
+-- an input whose history is accepted is migrated, and not refused
+abbrev pub AcceptedMigrates : Type 0
+AcceptedMigrates = (input : List ℕ) (line : LineView) (answer : Result LineView ServeFault) →
+    IsOrderAnswer order.Check input (Ok line) → line.verdict ≡ Accepted →
+    IsOrderAnswer order.Migrate input answer → IsOk answer
+
+-- a check answers the line of a migration as it answers the input, where that line is short enough to be one
+abbrev pub MigrationKeepsLines : Type 0
+MigrationKeepsLines = (input : List ℕ) (line written : LineView) → IsOrderAnswer order.Check input (Ok line) →
+    IsOrderAnswer order.Migrate input (Ok written) → length (with_line_feed written) ≤ most_bytes →
+    IsOrderAnswer order.Check (with_line_feed written) (Ok line)

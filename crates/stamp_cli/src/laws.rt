@@ -1,7 +1,7 @@
 //! Laws of the program's answers. Each function does nothing; its contract is the law, over the
 //! definitions alone.
 
-ghost use Rattle.stamp_cli.specs.Laws.{OneAnswer, RunLinesAreAccepted};
+ghost use Rattle.stamp_cli.specs.Laws.{OneAnswer, RunLinesAreAccepted, AcceptedMigrates, MigrationKeepsLines};
 
 /// A command has one answer to what it reads. So a line is written, and an input refused, exactly
 /// where the answer is so.
@@ -14,4 +14,15 @@ pub fn one_answer()
 /// else. So it is with a report, too.
 pub fn run_lines_are_accepted()
     ensures { RunLinesAreAccepted }
+{}
+
+/// An input that a check accepts is migrated, and never refused.
+pub fn accepted_migrates()
+    ensures { AcceptedMigrates }
+{}
+
+/// A check answers the line of a migration, with its line feed, as it answers the input that was
+/// migrated, where that line is no longer than an input may be.
+pub fn migration_keeps_lines()
+    ensures { MigrationKeepsLines }
 {}

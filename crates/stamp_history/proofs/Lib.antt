@@ -29,3 +29,4 @@ pub mod RunReplies
 pub mod NumbersRead
 pub mod ScriptNumbers
 pub mod RunsReadAgain
+pub mod HistoryNumbers

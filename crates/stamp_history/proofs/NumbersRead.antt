@@ -137,7 +137,7 @@ member_u64 k (member l e ms) held =
     ordered (Finds DataIsU64) (slice_cmp nat_cmp k l) (get_member k ms) (Some e) (get_member k ms)
     (member_u64 k ms held.1) (finds held.0) (member_u64 k ms held.1)
 
-get_u64 : (k : List ℕ) (d : Data) → DataIsU64 d → Finds DataIsU64 (get k d)
+pub get_u64 : (k : List ℕ) (d : Data) → DataIsU64 d → Finds DataIsU64 (get k d)
 get_u64 k null fits = finds_none
 get_u64 k (boolean b) fits = finds_none
 get_u64 k (number n) fits = finds_none

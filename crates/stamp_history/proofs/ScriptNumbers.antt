@@ -32,6 +32,7 @@ use Rattle.stamp_history.specs.ScriptValue.{threads, steps}
 use Rattle.stamp_history.specs.WordsValue.{numbers, as_words, listed_words, words}
 use Rattle.stamp_history.specs.declared.read_error.ReadError.{ReadError}
 use Rattle.stamp_history.specs.declared.read_error.ReadError.TheVariants.{BadScript}
+use Rattle.stamp_history.specs.declared.text_kind.TextKind.{TextKind}
 use Rattle.stamp_history.specs.declared.text_kind.TextKind.TheVariants as text
 use Rattle.stamp_history.proofs.FirstFaults.{at_most, one_suits}
 use Rattle.stamp_history.proofs.NumbersRead.{Finds, finds, finds_none, finds_mapped, finds_then, finds_either}
@@ -39,25 +40,25 @@ use Rattle.stamp_history.proofs.NumbersRead.{DataIsU64, ItemsAreU64, read_u64, a
 use Rattle.stamp_history.proofs.RunReplies.{ArgIsU64, ScriptCallIsU64, ThreadsAreU64}
 
 -- the fact holds of what was read, unless there is a fault
-record Reads {A : Type 0} (P : A → Type 0) (reading : Result A ReadError) : Type 0 where
-  is : (x : A) → reading ≡ Ok x → P x
+pub record Reads {A : Type 0} (P : A → Type 0) (reading : Result A ReadError) : Type 0 where
+  pub is : (x : A) → reading ≡ Ok x → P x
 
-reads : {A : Type 0} {P : A → Type 0} {x : A} → P x → Reads P (Ok x)
+pub reads : {A : Type 0} {P : A → Type 0} {x : A} → P x → Reads P (Ok x)
 reads {A} {P} {x} holds = record { is = λ y e. let same : x ≡ y = cc in subst P same holds }
 
 refuses : {A : Type 0} {P : A → Type 0} {e : ReadError} → Reads P (Err e)
 refuses {A} {P} {e} = record { is = λ x same. cc }
 
-reads_then : {A B : Type 0} {P : A → Type 0} {Q : B → Type 0} (reading : Result A ReadError)
+pub reads_then : {A B : Type 0} {P : A → Type 0} {Q : B → Type 0} (reading : Result A ReadError)
     (f : A → Result B ReadError) → Reads P reading → ((x : A) → P x → Reads Q (f x)) → Reads Q (reading >>= f)
 reads_then (Ok x) f first more = more x (first.is x refl)
 reads_then (Err e) f first more = refuses
 
 -- what is read says nothing
-reads_any : {A : Type 0} (reading : Result A ReadError) → Reads (λ x. Unit {0}) reading
+pub reads_any : {A : Type 0} (reading : Result A ReadError) → Reads (λ x. Unit {0}) reading
 reads_any reading = record { is = λ x e. tt }
 
-reads_kind : {A : Type 0} {P : A → Type 0} (mistake : ReadError) (found : Option A) → Finds P found →
+pub reads_kind : {A : Type 0} {P : A → Type 0} (mistake : ReadError) (found : Option A) → Finds P found →
     Reads P (kind mistake found)
 reads_kind mistake None first = refuses
 reads_kind mistake (Some x) first = reads (first.is x refl)
@@ -71,7 +72,7 @@ reads_ranged {A} mistake over fits (Some x) = by (fits x) refl
     by true e = reads e
     by false e = refuses
 
-reads_each : {A : Type 0} {P : A → Type 0} (one : ℕ → Data → Result A ReadError) →
+pub reads_each : {A : Type 0} {P : A → Type 0} (one : ℕ → Data → Result A ReadError) →
     ((i : ℕ) (d : Data) → DataIsU64 d → Reads P (one i d)) → (i : ℕ) (ds : Items) → ItemsAreU64 ds →
     Reads (All P) (each one i ds)
 reads_each {A} {P} one known i no_items fits = reads (All-nil P)
@@ -89,7 +90,7 @@ numbers_u64 (item d ds) fits =
     (λ n holds. finds_mapped (λ ns. n ∷ ns) (numbers ds) (numbers_u64 ds fits.1)
     (λ ns rest. All-cons IsU64 n ns holds rest))
 
-words_u64 : (d : Data) → DataIsU64 d → Finds (All IsU64) (words d)
+pub words_u64 : (d : Data) → DataIsU64 d → Finds (All IsU64) (words d)
 words_u64 d fits =
     finds_then listed_words (find.as_array d) (array_u64 d fits)
     (λ ds items. finds_then as_words (numbers ds) (numbers_u64 ds items)
@@ -161,7 +162,7 @@ named f known d = by (find.as_str d)
     by None = finds_none
     by (Some name) = known name
 
-listed_u64 : (ds : Items) → ItemsAreU64 ds → Finds ScriptCallIsU64 (listed_call ds)
+pub listed_u64 : (ds : Items) → ItemsAreU64 ds → Finds ScriptCallIsU64 (listed_call ds)
 listed_u64 no_items fits = finds_none
 listed_u64 (item name no_items) fits = named plain_call plain_u64 name
 listed_u64 (item name (item argument no_items)) fits =
@@ -189,12 +190,12 @@ threads_u64 d fits =
     (λ ds items. finds_either (are_lists ds) (finds items) finds_none)))
     (λ ds items. reads_each thread_at thread_u64 0 ds items)
 
-limits_in_range : (d : Data) → Reads AreInRange (limit.limits text.Script d)
+pub limits_in_range : (kind : TextKind) (d : Data) → Reads AreInRange (limit.limits kind d)
 unfolding limit.limits
-limits_in_range d =
-    reads_then (limit.layout text.Script d) _ (reads_any _) (λ l _.
-    reads_then (limit.readers text.Script l d) _ (reads_ranged _ _ _ (whole_under (codes "readers") d)) (λ r some.
-    reads_then (limit.versions text.Script l d) _ (reads_ranged _ _ _ (whole_under (codes "versions") d)) (λ v few.
+limits_in_range kind d =
+    reads_then (limit.layout kind d) _ (reads_any _) (λ l _.
+    reads_then (limit.readers kind l d) _ (reads_ranged _ _ _ (whole_under (codes "readers") d)) (λ r some.
+    reads_then (limit.versions kind l d) _ (reads_ranged _ _ _ (whole_under (codes "versions") d)) (λ v few.
     let both = and_parts (nat_le 1 r) (nat_le r (units_of l).readers) some in
     reads (record {
       some_reader = leb-true 1 r both.0;
@@ -210,7 +211,7 @@ fields_read : (d : Data) → DataIsU64 d → Reads HasNumbers (script_in d)
 unfolding script_in
 fields_read d fits =
     reads_then (top d) _ (reads_any _) (λ _ _.
-    reads_then (limit.limits text.Script d) _ (limits_in_range d) (λ l range.
+    reads_then (limit.limits text.Script d) _ (limits_in_range text.Script d) (λ l range.
     reads_then (width d) _ (reads_any _) (λ w _.
     reads_then (threads d) _ (threads_u64 d fits) (λ ts numbers.
     reads_then (steps d) _ (reads_any _) (λ ss _. reads (record { range = range; threads = numbers }))))))
