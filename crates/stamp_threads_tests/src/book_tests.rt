@@ -60,3 +60,28 @@ fn a_book_is_that_of_a_new_lock_until_it_is_full(rt: HostRuntime) -> Result<(), 
     assert!(rt; acts(&mut none, 7, Call::Optimistic, Err(BookError::Full)));
     Ok(())
 }
+
+#[test]
+fn a_full_book_still_tells_a_call_that_it_waits(rt: HostRuntime) -> Result<(), Fail> {
+    let mut book = opened(rt.alloc(), 1)?;
+    assert!(rt; acts(&mut book, 0, Call::TryWrite, Ok(Reply::Stamp(384))));
+    assert!(rt; acts(&mut book, 1, Call::ReadLock, Err(BookError::Waits)));
+    assert!(rt; acts(&mut book, 1, Call::TryRead, Err(BookError::Full)));
+    let record = book.record()?;
+    assert!(rt; check(&record) == Ok(1));
+    let entry = record.entries().first().ok_or("no entry")?;
+    assert!(rt; (entry.first, entry.point, entry.last) == (0, 0, 0));
+    Ok(())
+}
+
+#[test]
+fn a_book_of_64_000_calls_is_legal_and_full(rt: HostRuntime) -> Result<(), Fail> {
+    let mut book = opened(rt.alloc(), 64_000)?;
+    for _ in 0..32_000u64 {
+        assert!(rt; acts(&mut book, 0, Call::TryRead, Ok(Reply::Stamp(257))));
+        assert!(rt; acts(&mut book, 0, Call::TryUnlockRead, Ok(Reply::Yes)));
+    }
+    assert!(rt; check(&book.record()?) == Ok(64_000));
+    assert!(rt; acts(&mut book, 0, Call::TryRead, Err(BookError::Full)));
+    Ok(())
+}

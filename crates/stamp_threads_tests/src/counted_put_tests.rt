@@ -106,25 +106,23 @@ fn get_rising(
     (last, pass)
 }
 
-/// Two readers, whose passes meet.
+/// What each of two readers found, and its pass.
 fn two_get_rising<R: Threads + Sync>(
     rt: &R,
     shared: &RunningRecord,
     pass: RecordPass,
     here: &AtomicU64,
-) -> ((Option<u64>, Option<u64>), RecordPass)
+) -> ((Option<u64>, RecordPass), (Option<u64>, RecordPass))
     requires { pass.table ≡ shared.now.table }
-    ensures { result.1.table ≡ shared.now.table }
+    ensures first { result.0.1.table ≡ shared.now.table }
+    ensures second { result.1.1.table ≡ shared.now.table }
 {
     let (first, second) = shared.split(pass);
-    let ((a, first), (b, second)) = join(
+    join(
         rt,
         || get_rising(shared, first, here),
         || get_rising(shared, second, here),
-    );
-    let (first, second) = shared.meet(first, second);
-    drop(second);
-    ((a, b), first)
+    )
 }
 
 #[test]
@@ -132,16 +130,18 @@ fn two_threads_read_what_a_third_puts(rt: HostRuntime) -> Result<(), Fail> {
     let (shared, pass) = made_record(rt.alloc(), Layout::One, 1_000, 2)?;
     let (putting, reading) = shared.split(pass);
     let here = AtomicU64::new(0);
-    let ((made, putting), ((a, b), reading)) = join(
+    let ((made, putting), ((a, first), (b, second))) = join(
         &rt,
         || put_rising(&shared, putting, &here),
         || two_get_rising(&rt, &shared, reading, &here),
     );
     assert!(rt; made == 1_000);
     assert!(rt; a.is_some() && b.is_some());
-    let (mut putting, mut reading) = shared.meet(putting, reading);
+    let (putting, mut first) = shared.meet(putting, first);
+    let (mut putting, mut second) = shared.meet(putting, second);
     let last = pair(1_000);
     assert!(rt; gives(&shared, &mut putting, last));
-    assert!(rt; gives(&shared, &mut reading, last));
+    assert!(rt; gives(&shared, &mut first, last));
+    assert!(rt; gives(&shared, &mut second, last));
     Ok(())
 }

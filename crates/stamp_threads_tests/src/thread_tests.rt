@@ -40,6 +40,30 @@ fn two_threads_write_and_meet(rt: HostRuntime) -> Result<(), Fail> {
     Ok(())
 }
 
+/// Whether this pass, moved to another thread, acquires write mode; and the pass.
+fn try_write(lock: &RunningLock, mut pass: Pass) -> (bool, Pass)
+    requires { pass.table ≡ lock.now.table }
+    ensures { result.1.table ≡ lock.now.table }
+{
+    let is_written = answers(lock, &mut pass, Call::TryWrite, Reply::Stamp(384));
+    (is_written, pass)
+}
+
+#[test]
+fn a_pass_that_has_met_the_writers_is_told_that_the_lock_is_held(
+    rt: HostRuntime,
+) -> Result<(), Fail> {
+    let (lock, pass) = made(rt.alloc(), Layout::One, 127)?;
+    let (first, second) = lock.split(pass);
+    let ((is_written, first), second) = join(&rt, || try_write(&lock, first), || second);
+    assert!(rt; is_written);
+    let (first, mut second) = lock.meet(first, second);
+    assert!(rt; answers(&lock, &mut second, Call::IsWriteLocked, Reply::Yes));
+    assert!(rt; answers(&lock, &mut second, Call::WriteLock, Reply::Stamp(0)));
+    assert!(rt; lock.close(first) == 384);
+    Ok(())
+}
+
 /// Makes the call again while its exchange loses, and gives the stamp, 0 for none.
 fn stamp_by(lock: &RunningLock, pass: &mut Pass, call: &Call) -> u64
     requires lock_call { IsTrue (is_lock_call call.now) }
@@ -220,7 +244,7 @@ fn read_beside<R: Wait>(rt: &R, lock: &RunningLock, both: &Barrier) -> Reply
 
 #[test]
 fn threads_enter_and_a_reader_waits_for_the_writer(rt: HostRuntime) -> Result<(), Fail> {
-    let (lock, pass) = enterable_lock(rt.alloc())?;
+    let (lock, pass) = enterable_lock(rt.alloc(), 127)?;
     let both = Barrier::new(2);
     let ((written, released), read) = join(
         &rt,

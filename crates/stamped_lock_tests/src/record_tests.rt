@@ -2,9 +2,12 @@
 ghost use Rattle.std.specs.Prelude.{◌≡◌, ◌<◌, slice_index};
 
 use stamped_lock::{ContentRule, Layout, Limits, PutFault, RecordHandle, Spent, StampedRecord};
-use std::sync::Wait;
+use std::sync::atomic::{AtomicU64, Ordering};
+use std::sync::{Arc, Barrier, Wait};
 use std::test::Fail;
+use std::thread;
 use std::thread::join;
+use std::time::Duration;
 
 /// The first word, a bid, is below the second, an ask.
 struct BidBelowAsk;
@@ -50,6 +53,50 @@ fn readers_rely_on_the_rule_beside_a_writer(rt: HostRuntime) -> Result<(), Fail>
     );
     assert!(rt; quoted.is_ok() && least >= 1 && most <= 7);
     assert!(rt; board.enter().get(&rt) == [1_000, 1_007]);
+    Ok(())
+}
+
+/// A board, and how many threads have put all their quotes on it.
+#[derive(Drop)]
+struct Quoted {
+    board: Board,
+    /// Where the threads meet before they put.
+    both: Barrier,
+    ended: AtomicU64,
+}
+
+/// Puts beside another thread, often enough that they come across each other, and tells when it has.
+fn quote_beside<R: Wait>(rt: &R, quoted: &Quoted) {
+    quoted.both.wait(rt);
+    for _ in 0..20u64 {
+        if quote(rt, quoted.board.enter()).is_err() {
+            return;
+        }
+    }
+    quoted.ended.fetch_add(1, Ordering::SeqCst);
+}
+
+/// Nobody joins the threads: where a put never comes back, the test ends nevertheless, after some five
+/// seconds.
+#[test]
+fn two_who_put_at_once_come_back(rt: HostRuntime) -> Result<(), Fail> {
+    let Ok(board) = Board::new(rt.alloc(), [10, 11]) else {
+        return Err(Fail::from("no memory for the record"));
+    };
+    let (both, ended) = (Barrier::new(2), AtomicU64::new(0));
+    let quoted = Arc::new(rt.alloc(), Quoted { board, both, ended })?;
+    for _ in 0..2u64 {
+        let theirs = Arc::try_clone(&quoted)?;
+        thread::spawn(&rt, move || quote_beside(&rt, &theirs))?;
+    }
+    for _ in 0..5_000u64 {
+        if quoted.ended.load(Ordering::SeqCst) == 2 {
+            break;
+        }
+        thread::sleep(&rt, Duration::from_millis(1));
+    }
+    assert!(rt; quoted.ended.load(Ordering::SeqCst) == 2);
+    assert!(rt; quoted.board.enter().get(&rt) == [1_000, 1_007]);
     Ok(())
 }
 
