@@ -4,14 +4,14 @@
 
 Run at the top of the repository. A library is a crate with a `lib.rt`, but for those of tests. Its public functions are
 those that `lib.rt` exports, by name or with their type, and that have an `ensures` and a body: so no law, and none that
-is another library's; and none of which no wrong body compiles. A function has a wrong body if an edit of tests/edits/CRATE changes a line of it; edits in the
+is another library's. A function has a wrong body if an edit of tests/edits/CRATE changes a line of it; edits in the
 folder `more` don't count, since `./test` leaves them out."""
 import glob
 import re
 import sys
 
 IMPL = re.compile(r"^impl(?:<[^>{]*>)? (?:[\w:<>]+ for )?(\w+)[^{]*\{$.*?^\}$", re.M | re.S)
-# The only verdict that its body can refer to is the one that it answers.
+# Of these no wrong body compiles: the only verdict that this one can refer to is the one that it answers.
 WITHOUT = {"stamp_picture: Picture::verdict"}
 FUNCTION = re.compile(r'^( *)(pub )?(?:pub\(\w+\) )?(?:const )?(?:extern "C" )?fn (\w+)', re.M)
 
