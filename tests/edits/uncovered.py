@@ -1,0 +1,73 @@
+"""Fails unless each public function of the libraries has a wrong body that each `./test` tries.
+
+    uncovered.py
+
+Run at the top of the repository. A library is a crate with a `lib.rt`, but for those of tests. Its public functions are
+those that `lib.rt` exports, by name or with their type, and that have an `ensures` and a body: so no law, and none that
+is another library's. A function has a wrong body if an edit of tests/edits/CRATE changes a line of it; edits in the
+folder `more` don't count, since `./test` leaves them out."""
+import glob
+import re
+import sys
+
+IMPL = re.compile(r"^impl(?:<[^>{]*>)? (?:[\w:<>]+ for )?(\w+)[^{]*\{$.*?^\}$", re.M | re.S)
+# Of these no wrong body compiles: the only verdict that this one can refer to is the one that it answers.
+WITHOUT = {"stamp_picture: Picture::verdict"}
+FUNCTION = re.compile(r'^( *)(pub )?(?:pub\(\w+\) )?(?:const )?(?:extern "C" )?fn (\w+)', re.M)
+
+
+def text_of(path):
+    with open(path, encoding="utf-8") as file:
+        return file.read()
+
+
+def functions_of(text):
+    """The functions of a file that have a contract and a body: where each begins and ends, its name, and whether it is
+    public."""
+    impls = [(found.start(), found.end(), found[1]) for found in IMPL.finditer(text)]
+    for found in FUNCTION.finditer(text):
+        indent, begin = found[1], found.start()
+        # the line that opens its body, or ends it, is the first that ends so and stands as far left as the function
+        opened = re.compile(rf"^{indent}(?:\S.*)?[{{;}}]$", re.M).search(text, begin)
+        if opened[0].endswith("{") and re.search(r"^ *ensures\b", text[begin:opened.start()], re.M):
+            end = re.compile(rf"^{indent}}}$", re.M).search(text, opened.end()).end()
+            owner = next((f"{name}::" for first, last, name in impls if first < begin < last), "")
+            yield begin, end, owner + found[3], bool(found[2])
+
+
+def exported(crate):
+    """What a library exports by name."""
+    lib = text_of(f"crates/{crate}/src/lib.rt")
+    return {name for names in re.findall(r"^pub use \w+::(.*?);", lib, re.M | re.S) for name in re.findall(r"\w+", names)}
+
+
+def edited(crate):
+    """The places that the crate's edits change, by the file."""
+    for path in glob.glob(f"tests/edits/{crate}/*.edit"):
+        file = None
+        for line in text_of(path).split("\n"):
+            if line.startswith("file: "):
+                file = f"crates/{crate}/{line.removeprefix('file: ').strip()}"
+            elif line.startswith("old: "):
+                yield file, text_of(file).index(line.removeprefix("old: "))
+
+
+def main():
+    count, missing = 0, []
+    for root in sorted(glob.glob("crates/*/src/lib.rt")):
+        crate = root.split("/")[1]
+        if crate.endswith("_tests"):
+            continue
+        names, places = exported(crate), [*edited(crate)]
+        for path in sorted(glob.glob(f"crates/{crate}/src/*.rt")):
+            for begin, end, name, is_public in functions_of(text_of(path)):
+                if is_public and name.split("::")[0] in names and f"{crate}: {name}" not in WITHOUT:
+                    count += 1
+                    if not any(file == path and begin <= at < end for file, at in places):
+                        missing.append(f"{crate}: {name} ({path.split('/')[-1]})")
+    if missing:
+        sys.exit("\n".join(f"no wrong body: {it}" for it in missing))
+    print(f"each of {count} public functions has a wrong body")
+
+
+main()
