@@ -38,7 +38,8 @@ def functions_of(text):
 def exported(crate):
     """What a library exports by name."""
     lib = text_of(f"crates/{crate}/src/lib.rt")
-    return {name for names in re.findall(r"^pub use \w+::(.*?);", lib, re.M | re.S) for name in re.findall(r"\w+", names)}
+    lists = re.findall(r"^pub use \w+::(.*?);", lib, re.M | re.S)
+    return {name for names in lists for name in re.findall(r"\w+", names)}
 
 
 def edited(crate):
