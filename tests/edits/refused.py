@@ -11,9 +11,9 @@ edits: a line `file:`, then pairs of lines `old:` and `new:`. A function is prov
 calls, so edits of several functions are tried in one copy of the crate, and of all other functions no more is left
 in it than their contracts: the prover says of an edited function which of its own goals aren't proved. Edits of one
 function are tried one after another. Where it says only that a function calls one which isn't proved, the edit is
-tried once more with the bodies and proofs of all that the function calls. An edit that changes the bodies of several functions is tried alone,
-and so is one with a line `by: FUNCTION`, which names a function that must not be proved with it: what it changes is no
-body.
+tried once more with the bodies and proofs of all that the function calls. An edit that changes the bodies of several
+functions is tried alone, and so is one with a line `by: FUNCTION`, which names a function that must not be proved with
+it: what it changes is no body.
 
 Before that, the same functions are tried without an edit, in the same form: one that isn't proved then, for its own
 sake, fails the crate. So does another function that isn't proved for its own sake beside an edit.
@@ -50,6 +50,8 @@ UNUSABLE = re.compile(r"^.*error\[unusable-built-library\].*$", re.M)
 LACKS_NAMES = "only the names are missing that the edit took away"
 NOT_COVERED = "the prover doesn't cover the form of the new body"
 SAFE = "only a number may not fit, or an index not be within, in the new body"
+# What is said of a function of which only what a call requires isn't proved.
+REQUIRES = re.compile(r"(?:not proved: |: error: `)[\w-]*-requires")
 # The goals that `search` left open, one of them, and those that no contract states.
 GOALS = re.compile(r"`search` did not prove ((?:`[^`]+`(?:, )?)+)")
 GOAL = re.compile(r"`([^`]+)`")
@@ -274,12 +276,14 @@ def stated_by(said):
     return stated
 
 
-def verdict_on(name, whys):
-    """The line of an edit whose functions aren't proved, by what the prover says against them, the most telling first."""
+def verdict_on(whys, word, said):
+    """The line of an edit whose function isn't proved, by what the prover says against it, the most telling first; `word`
+    is what it says of the function."""
     shown = [why for why in whys if why not in (NOT_COVERED, SAFE)]
+    shown.sort(key=lambda why: bool(REQUIRES.search(why)))
     if shown:
-        return f"refused: {shown[0][:160]}"
-    return f"SHOWS NOTHING: {whys[0] if whys else LACKS_NAMES}"
+        return f"refused{', only by what a call requires' * bool(REQUIRES.search(shown[0]))}: {shown[0][:160]}"
+    return f"SHOWS NOTHING: {whys[0] if whys else LACKS_NAMES if NAMES.search(said) else word[:160]}"
 
 
 def judged_alone(crate, edit, said):
@@ -290,7 +294,7 @@ def judged_alone(crate, edit, said):
     if not unproved:
         return {edit.name: f"NOT REFUSED: {', '.join(edit.functions)} proved with it"}
     whys = [why for why in (why_of(it, crate, said) for it in unproved) if why]
-    return {edit.name: verdict_on(edit.name, whys + faults_in("proofs/", said))}
+    return {edit.name: verdict_on(whys + faults_in("proofs/", said), stated[unproved[0]], said)}
 
 
 def judged(crate, edits, said, calls, is_bare):
@@ -310,7 +314,7 @@ def judged(crate, edits, said, calls, is_bare):
             continue
         whys = [why for why in (why_of(it, crate, said) for it in sorted(own)) if why]
         if whys or any(not below[it] - own for it in own):
-            told[edit.name] = verdict_on(edit.name, whys)
+            told[edit.name] = verdict_on(whys, stated[min(own)], said)
         else:
             owners = {owner_of(other) for it in own for other in below[it]}
             calls[edit.functions[0]] = {edited[it].functions[0] for it in owners & {*edited}} or {edit.functions[0]}
@@ -418,8 +422,8 @@ def try_all(crates, wanted):
             pool.shutdown(cancel_futures=True)
             print(f"FAILED: the libraries can't be used: {fault}")
             return 0, 1
-    refused = [line for line in lines if ": refused: " in line]
-    required = sum("-requires" in line for line in refused)
+    refused = [line for line in lines if ": refused" in line]
+    required = sum(": refused, only" in line for line in refused)
     print(f"{len(refused)} wrong bodies refused, {required} of them only by what a call requires, "
           f"{len(lines) - len(refused)} failed")
     return len(refused), len(lines) - len(refused)
