@@ -23,7 +23,8 @@ or a fault in the function's proof by hand. One that is tried alone is refused i
 It fails if the function is proved, if it can't be applied or compiled, and if it shows nothing of the contract: where
 the goals that aren't proved are only that a number fits, an index is within or a divisor isn't 0; where the prover
 doesn't cover the form of the new body; and where a proof by hand only lacks names that the edit took away. Change a
-value then, and keep the form and the names. Where only what a call requires isn't proved, the line says so.
+value then, and keep the form and the names. Where only the invariant of a loop isn't proved, which is a part of the
+present proof, or only what a call requires, the line says so. An edit without a line `by:` must lie in a body.
 
 The libraries are those of FOLDER, each in a folder of its crate's name, and else those in crates/*/out. Where they
 can't be used together, that is one failure, and nothing is tried. What `rt check` kept is begun with, if there is any.
@@ -50,12 +51,13 @@ UNUSABLE = re.compile(r"^.*error\[unusable-built-library\].*$", re.M)
 LACKS_NAMES = "only the names are missing that the edit took away"
 NOT_COVERED = "the prover doesn't cover the form of the new body"
 SAFE = "only a number may not fit, or an index not be within, in the new body"
-# What is said of a function of which only what a call requires isn't proved.
-REQUIRES = re.compile(r"(?:not proved: |: error: `)[\w-]*-requires")
 # The goals that `search` left open, one of them, and those that no contract states.
 GOALS = re.compile(r"`search` did not prove ((?:`[^`]+`(?:, )?)+)")
 GOAL = re.compile(r"`([^`]+)`")
-SAFETY = re.compile(r"overflow_|nonzero_|bounds-|slice_bounds-|offset_bounds-")
+SAFETY = re.compile(r"overflow_|nonzero_|bounds-|slice_bounds-|offset_bounds-|(?:prove-)?unreachable-requires")
+# Goals of the present proof, and of what a call requires, which tell less than those of the contract.
+LOOP, REQUIRES = re.compile(r"-(?:init|preserved|smaller)\b"), re.compile(r"-requires\b")
+LESS = ("", ", only by the invariant of a loop", ", only by what a call requires")
 # What is wrong with the answer of a goal.
 ANSWER = re.compile(r": error: `([^`]+)`: ")
 # What a proof says that cites a name which the edit took away, or a declaration that was rejected for one.
@@ -159,25 +161,54 @@ class Edit:
     """A wrong body: the places that it changes, and the functions that it is refused by, by the ends of their paths."""
 
     def __init__(self, crate, path):
-        self.name, self.pairs, by, edited, file = os.path.basename(path), [], set(), set(), None
-        with open(path) as it:
-            lines = it.read().split("\n")
-        for line in lines:
-            if line.startswith("file: "):
-                file = line.removeprefix("file: ").strip()
-                with open(f"{crate.folder}/{file}") as it:
-                    text = it.read()
-            elif line.startswith("by: "):
-                by.add(line.removeprefix("by: ").strip())
-            elif line.startswith("old: "):
-                old = line.removeprefix("old: ")
-                if text.count(old) != 1:
-                    raise Failed(f"{self.name}: its text stands in {file} {text.count(old)} times: {old}")
-            elif line.startswith("new:"):
-                self.pairs.append((file, text.index(old), old, line.removeprefix("new:").removeprefix(" ")))
-                edited.add(None if by else function_at(file, text[: text.index(old) + len(old)]))
+        self.name, self.pairs, by, old, file, text = os.path.basename(path), [], set(), None, None, None
+        for key, value in self.lines(path):
+            if (key == "new") != (old is not None):
+                raise Failed(f"{self.name}: an old text and a new one stand in pairs")
+            if key == "file":
+                file, text = value, text_of(f"{crate.folder}/{value}")
+            elif key == "by":
+                by.add(value)
+            elif key == "old":
+                old = value
+                if not text or text.count(old) != 1:
+                    raise Failed(f"{self.name}: its text stands in {file} {text.count(old) if text else 0} times: {old}")
+            else:
+                self.pairs.append((file, text.index(old), old, value))
+                old = None
+        if not self.pairs or old is not None:
+            raise Failed(f"{self.name}: an old text and a new one are missing")
+        edited = set() if by else {self.edited(crate, *pair) for pair in self.pairs}
         self.functions = sorted(by or edited)
         self.is_alone = bool(by) or len(edited) > 1
+
+    def lines(self, path):
+        """The keys and values of its lines. A space behind a key is no part of the value."""
+        for line in text_of(path).split("\n"):
+            key, colon, value = line.partition(":")
+            if line and (key not in ("file", "by", "old", "new") or not colon):
+                raise Failed(f"{self.name}: what is this line: {line}")
+            if line:
+                yield key, value.removeprefix(" ").strip() if key in ("file", "by") else value.removeprefix(" ")
+
+    def edited(self, crate, file, at, old, _new):
+        """The function whose body has this place."""
+        text = text_of(f"{crate.folder}/{file}")
+        function = function_at(file, text[: at + len(old)])
+        begin = [found.start() for found in FUNCTION.finditer(text[: at + len(old)])][-1]
+        indent = re.match(" *", text[begin:])[0]
+        opened = re.compile(rf"^{indent}(?:\S.*)?[{{;}}]$", re.M).search(text, begin)
+        if opened and at < opened.end() and opened[0].endswith("{"):
+            raise Failed(f"{self.name}: it changes what stands before the body of {function}: {old}")
+        return function
+
+
+def text_of(path):
+    """The text of a file of the repository."""
+    if not os.path.isfile(path):
+        raise Failed(f"there is no file {os.path.relpath(path, TOP)}")
+    with open(path, encoding="utf-8") as file:
+        return file.read()
 
 
 def function_at(file, before):
@@ -227,27 +258,31 @@ def owner_of(function):
     return "::".join([module, *names[: 2 if names[0][:1].isupper() else 1]]) if inside else function
 
 
+def rank_of(goal):
+    """How little a goal tells of the contract: an index of `LESS`."""
+    return 2 if REQUIRES.search(goal) else 1 if LOOP.search(goal) else 0
+
+
 def faults_in(folder, said):
-    """What is wrong in the proofs of this folder, but that names aren't there and what comes of that: first what is so of
-    the contract, then of what calls require, then of numbers and indices."""
+    """What is wrong in the proofs of this folder, but that names aren't there and what comes of that, each with its rank."""
     # a message that has a long name goes on in an indented line
     wrong = re.findall(rf"^(?:\./)?{re.escape(folder)}\S+: error.*(?:\n  .*)?", said, re.M)
     wrong = [it.split("\n")[0] for it in wrong if not NAMES.search(it)]
-    is_safety = lambda it: any(map(SAFETY.match, ANSWER.findall(it)))
-    return [it for it in sorted(wrong, key=lambda it: "-requires" in it) if not is_safety(it)] or [SAFE for _ in wrong[:1]]
+    goals = {it: next(iter(ANSWER.findall(it)), "") for it in wrong}
+    return [(rank_of(goals[it]), it) for it in wrong if not SAFETY.match(goals[it])] or [(3, SAFE) for _ in wrong[:1]]
 
 
 def why_of(function, crate, said):
-    """What the prover says against the function itself."""
+    """What the prover says against the function itself, with its rank: the most telling."""
     stated = dict(STATED.findall(said))[function]
     if "does not cover" in stated:
-        return NOT_COVERED
+        return 3, NOT_COVERED
     if goals := GOALS.search(stated):
-        of_contract = [it for it in GOAL.findall(goals[1]) if not SAFETY.match(it)]
-        return f"not proved: {', '.join(sorted(of_contract, key=lambda it: '-requires' in it))}" if of_contract else SAFE
+        shown = sorted((rank_of(it), it) for it in GOAL.findall(goals[1]) if not SAFETY.match(it))
+        return (shown[0][0], f"not proved: {', '.join(it for _, it in shown)}") if shown else (3, SAFE)
     # a proof by hand: what is wrong in its own files
     folder = "proofs/" + function.removeprefix(f"{crate.name}::").replace("::", "/") + "/"
-    return next(iter(faults_in(folder, said)), None)
+    return min(faults_in(folder, said), default=None)
 
 
 def round_of(edits, calls):
@@ -277,13 +312,10 @@ def stated_by(said):
 
 
 def verdict_on(whys, word, said):
-    """The line of an edit whose function isn't proved, by what the prover says against it, the most telling first; `word`
-    is what it says of the function."""
-    shown = [why for why in whys if why not in (NOT_COVERED, SAFE)]
-    shown.sort(key=lambda why: bool(REQUIRES.search(why)))
-    if shown:
-        return f"refused{', only by what a call requires' * bool(REQUIRES.search(shown[0]))}: {shown[0][:160]}"
-    return f"SHOWS NOTHING: {whys[0] if whys else LACKS_NAMES if NAMES.search(said) else word[:160]}"
+    """The line of an edit whose function isn't proved, by the most telling of what the prover says against it; `word` is
+    what it says of the function."""
+    rank, why = min(whys, default=(3, LACKS_NAMES if NAMES.search(said) else word))
+    return f"SHOWS NOTHING: {why[:160]}" if rank == 3 else f"refused{LESS[rank]}: {why[:160]}"
 
 
 def judged_alone(crate, edit, said):
@@ -329,17 +361,30 @@ def try_without_edits(crate, room, kept, functions, is_bare):
     stated = stated_by(said)
     for function in map(lambda it: named(it, stated), sorted(functions)):
         own = [it for it, word in stated.items() if owner_of(it) == function and not word.startswith("proved")]
-        for why in filter(None, (why_of(it, crate, said) for it in own)):
+        for _, why in filter(None, (why_of(it, crate, said) for it in own)):
             raise Failed(f"{function} isn't proved without an edit: {why}")
         if own and not is_bare:
             raise Failed(f"{function} isn't proved without an edit: {stated[own[0]]}")
 
 
 def edits_of(crate, more):
-    """The crate's edits, by their path below its folder."""
+    """The crate's edits, by their path below its folder, which has nothing else."""
     folder = f"{FOLDER}/{crate}"
-    rooms = [room for room in ("", "more/") if os.path.isdir(f"{folder}/{room}") and (more or not room)]
-    return sorted(room + name for room in rooms for name in os.listdir(f"{folder}/{room}") if name.endswith(".edit"))
+    rooms = [room for room in ("", "more/") if os.path.isdir(f"{folder}/{room}")]
+    found = [room + name for room in rooms for name in os.listdir(f"{folder}/{room}")]
+    for name in found:
+        if not (name == "more" and os.path.isdir(f"{folder}/more")) and not name.endswith(".edit"):
+            raise Failed(f"tests/edits/{crate}/{name} is no edit")
+    return sorted(it for it in found if it.endswith(".edit") and (more or not it.startswith("more/")))
+
+
+def take_kept(begin, kept):
+    """Takes what `rt check` kept, if it is there; a gate moves it, and then nothing is begun with."""
+    try:
+        shutil.copytree(begin, kept)
+    except (OSError, shutil.Error):
+        shutil.rmtree(kept, ignore_errors=True)
+        os.mkdir(kept)
 
 
 def tried(crate, names):
@@ -349,11 +394,7 @@ def tried(crate, names):
     lines, rounds = {}, 0
     with tempfile.TemporaryDirectory() as room:
         kept = f"{room}/kept"
-        begin = f"{crate.folder}/out/incremental"
-        if os.path.isdir(begin):
-            shutil.copytree(begin, kept)
-        else:
-            os.mkdir(kept)
+        take_kept(f"{crate.folder}/out/incremental", kept)
         several, alone = [it for it in edits if not it.is_alone], [it for it in edits if it.is_alone]
         try_without_edits(crate, room, kept, {it.functions[0] for it in several}, is_bare=True)
         try_without_edits(crate, room, kept, {function for it in alone for function in it.functions}, is_bare=False)
@@ -400,10 +441,12 @@ def options_of(words):
 def wanted_by(options):
     """The edits to be tried, by their crate."""
     wanted = {}
-    for word in options.names or sorted(os.listdir(FOLDER)):
+    rooms = [it for it in sorted(os.listdir(FOLDER)) if not it.endswith(".py") and it != "__pycache__"]
+    for word in options.names or rooms:
         name, _, edit = word.partition("/")
-        if os.path.isdir(f"{FOLDER}/{name}"):
-            wanted.setdefault(name, []).extend([edit] if edit else edits_of(name, options.all))
+        if not os.path.isdir(f"{FOLDER}/{name}") or not os.path.isdir(f"{TOP}/crates/{name}"):
+            raise Failed(f"tests/edits/{name} is no folder of a crate")
+        wanted.setdefault(name, []).extend([edit] if edit else edits_of(name, options.all))
     return {name: edits for name, edits in wanted.items() if edits}
 
 
@@ -423,20 +466,20 @@ def try_all(crates, wanted):
             print(f"FAILED: the libraries can't be used: {fault}")
             return 0, 1
     refused = [line for line in lines if ": refused" in line]
-    required = sum(": refused, only" in line for line in refused)
-    print(f"{len(refused)} wrong bodies refused, {required} of them only by what a call requires, "
-          f"{len(lines) - len(refused)} failed")
+    less = " and ".join(f"{sum(it in line for line in refused)}{it.removeprefix(',')}" for it in LESS[1:])
+    print(f"{len(refused)} wrong bodies refused, of them {less}; {len(lines) - len(refused)} failed")
     return len(refused), len(lines) - len(refused)
 
 
 def main():
     options, uses = options_of(sys.argv[1:]), listed()
-    wanted = wanted_by(options)
-    crates = {name: Crate(name, uses, options.libraries) for name in wanted}
-    if wanted:
-        refused, failed = try_all(crates, wanted)
-    else:
-        print("FAILED: there is no edit")
+    try:
+        wanted = wanted_by(options)
+        if not wanted:
+            raise Failed("there is no edit")
+        refused, failed = try_all({name: Crate(name, uses, options.libraries) for name in wanted}, wanted)
+    except Failed as fault:
+        print(f"FAILED: {fault}")
         refused, failed = 0, 1
     if options.count:
         with open(options.count, "w") as file:

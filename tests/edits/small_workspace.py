@@ -11,6 +11,7 @@ import shutil
 import subprocess
 import sys
 import tempfile
+import time
 
 TESTS = os.path.dirname(os.path.dirname(os.path.abspath(__file__)))
 TIMEOUT = 600
@@ -66,6 +67,8 @@ pub fn number_of(is_next: bool, number: u32) -> u64
 # What the middle one was before: its contract said less.
 OLDER_MIDDLE = MIDDLE.replace("ensures { result ≡ number + number + 1 }", "ensures { result ≡ number + number }").replace(
     "doubled(number) + 1", "doubled(number)")
+# So that no earlier run has kept a proof of it.
+LOWEST = LOWEST.replace("doubled.", f"doubled, for the trial {time.time_ns()}.", 1)
 SOURCES = {"lowest": LOWEST, "middle": MIDDLE, "highest": HIGHEST}
 EDITS = {
     "lowest/a_number_is_not_doubled": ("wide + wide", "wide"),
@@ -77,7 +80,9 @@ SAME = {"highest/nothing_is_changed": ("        doubled(number)", "        let t
 # Edits that the prover refuses, and that show nothing of the contract.
 EMPTY_EDITS = {
     "lowest/a_sum_that_may_not_fit": ("wide + wide", "((number + number) as u64)"),
+    "lowest/what_is_reached": ("wide + wide", "if number == 7 { unreachable!() } else { wide + wide }"),
 }
+OF_A_CONTRACT = {"lowest/the_contract_is_another": ("result ≡ number + number", "result ≡ number + number + 1")}
 
 
 def fail(text):
@@ -182,6 +187,7 @@ def main():
         if "nothing_is_changed.edit: NOT REFUSED" not in told:
             fail(f"an edit that changes no meaning is refused:\n{told}")
         try_edits("edits that show nothing", top, second, EMPTY_EDITS, (0, len(EMPTY_EDITS)))
+        try_edits("an edit of a contract", top, second, OF_A_CONTRACT, (0, 1))
         try_edits("no edits", top, second, {}, (0, 1))
         shutil.rmtree(f"{second}/libraries/lowest")
         shutil.copytree(f"{top}/crates/lowest/out/rlib", f"{second}/libraries/lowest")

@@ -43,14 +43,22 @@ def exported(crate):
 
 
 def edited(crate):
-    """The places that the crate's edits change, by the file."""
+    """The places that the crate's edits change, by the file, and the functions that an edit's lines `by:` name."""
     for path in glob.glob(f"tests/edits/{crate}/*.edit"):
-        file = None
-        for line in text_of(path).split("\n"):
-            if line.startswith("file: "):
-                file = f"crates/{crate}/{line.removeprefix('file: ').strip()}"
-            elif line.startswith("old: "):
-                yield file, text_of(file).index(line.removeprefix("old: "))
+        text, file = text_of(path), None
+        # the prover writes a type of one impl as `Type+Argument`
+        by = {f"::{re.sub(r'[+][A-Za-z]+', '', name)}" for name in re.findall(r"^by: (\S+)$", text, re.M)}
+        for key, value in re.findall(r"^(file|old): (.*)$", text, re.M):
+            if key == "file":
+                file = f"crates/{crate}/{value.strip()}"
+            else:
+                yield file, text_of(file).index(value), by
+
+
+def is_covered(path, begin, end, name, places):
+    """Whether an edit changes this function, or names it as the one that isn't to be proved with it."""
+    return any(any(it.endswith(f"::{name}") for it in by) if by else file == path and begin <= at < end
+               for file, at, by in places)
 
 
 def main():
@@ -64,7 +72,7 @@ def main():
             for begin, end, name, is_public in functions_of(text_of(path)):
                 if is_public and name.split("::")[0] in names and f"{crate}: {name}" not in WITHOUT:
                     count += 1
-                    if not any(file == path and begin <= at < end for file, at in places):
+                    if not is_covered(path, begin, end, name, places):
                         missing.append(f"{crate}: {name} ({path.split('/')[-1]})")
     if missing:
         sys.exit("\n".join(f"no wrong body: {it}" for it in missing))
