@@ -58,6 +58,9 @@ SAFETY = re.compile(r"overflow_|nonzero_|bounds-|slice_bounds-|offset_bounds-|(?
 # Goals of the present proof, and of what a call requires, which tell less than those of the contract.
 LOOP, REQUIRES = re.compile(r"-(?:init|preserved|smaller)\b"), re.compile(r"-requires\b")
 LESS = ("", ", only by the invariant of a loop", ", only by what a call requires")
+# What the prover notes of a goal that isn't proved, and the line that `check` makes of it, with the function.
+NOTED = re.compile(r"^note: (src/[^:]+):(\d+):\d+: it is not proved .*\(`([^`]+)`\)(?:;.*)?$", re.M)
+NOTED_OF = re.compile(r"^noted (\S+): (\S+)$", re.M)
 # What is wrong with the answer of a goal.
 ANSWER = re.compile(r": error: `([^`]+)`: ")
 # What a proof says that cites a name which the edit took away, or a declaration that was rejected for one.
@@ -148,9 +151,10 @@ class Crate:
             ran = subprocess.run(
                 [*self.words, "--incremental", kept, *only], cwd=copy, stdin=subprocess.DEVNULL,
                 stdout=subprocess.PIPE, stderr=subprocess.STDOUT, text=True, errors="replace")
+            noted = [f"noted {named_at(copy, file, int(line))}: {goal}" for file, line, goal in NOTED.findall(ran.stdout)]
         if found := UNUSABLE.search(ran.stdout):
             raise Unusable(found[0])
-        return ran.stdout
+        return "\n".join([ran.stdout, *noted])
 
     def tried(self, room, kept, edits, is_bare=False):
         """What the prover says of the functions of these edits."""
@@ -224,6 +228,12 @@ def function_at(file, before):
     return name if module in ("lib", "main") else f"{module}::{name}"
 
 
+def named_at(folder, file, line):
+    """The function that stands at a line of a file below the folder."""
+    lines = text_of(f"{folder}/{file}").split("\n")
+    return function_at(file, "\n".join(lines[:line]) + "\n")
+
+
 def type_name(of, parameters):
     """A type as the prover prints it in a path: `Option<Stamp>` as OptionStamp, without the impl's parameters."""
     dropped = re.findall(r"(?:const )?(\w+)", parameters.split(":")[0]) + re.findall(r", *(?:const )?(\w+)", parameters)
@@ -277,12 +287,20 @@ def why_of(function, crate, said):
     stated = dict(STATED.findall(said))[function]
     if "does not cover" in stated:
         return 3, NOT_COVERED
-    if goals := GOALS.search(stated):
-        shown = sorted((rank_of(it), it) for it in GOAL.findall(goals[1]) if not SAFETY.match(it))
-        return (shown[0][0], f"not proved: {', '.join(it for _, it in shown)}") if shown else (3, SAFE)
-    # a proof by hand: what is wrong in its own files
+    found = GOALS.search(stated)
+    # a proof by hand: what is wrong in its own files, and the goals that were left to `search`
     folder = "proofs/" + function.removeprefix(f"{crate.name}::").replace("::", "/") + "/"
-    return min(faults_in(folder, said), default=None)
+    goals = GOAL.findall(found[1]) if found else goals_left(function, folder, said)
+    shown = sorted((rank_of(it), it) for it in goals if not SAFETY.match(it))
+    whys = [(shown[0][0], f"not proved: {', '.join(it for _, it in shown)}")] if shown else [(3, SAFE) for _ in goals[:1]]
+    return min(whys + ([] if found else faults_in(folder, said)), default=None)
+
+
+def goals_left(function, folder, said):
+    """The goals of a function that `search` left open beside a proof by hand. If that proof lacks names, they tell nothing."""
+    errors = re.findall(rf"^(?:\./)?{re.escape(folder)}\S+: error.*$", said, re.M)
+    lacks = any(map(NAMES.search, errors))
+    return [] if lacks else [goal for of, goal in NOTED_OF.findall(said) if function.endswith(f"::{of}")]
 
 
 def round_of(edits, calls):
