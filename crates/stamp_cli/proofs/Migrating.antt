@@ -148,7 +148,8 @@ fits input line long = by (long_or_not most_bytes (length input))
 
 -- the answer to a history that can be migrated
 line_of_migration : (input : List ℕ) (history : Recorded) → length input ≤ most_bytes →
-    recorded_of input ≡ Ok history → CanMigrate history → IsOrderAnswer order.Migrate input (Ok (migrated_line history))
+    recorded_of input ≡ Ok history → CanMigrate history →
+    IsOrderAnswer order.Migrate input (Ok (migrated_line history))
 line_of_migration input history few read can = record {
   too_long = λ long. absurd (omega arith);
   read = λ _. (
