@@ -1,7 +1,6 @@
 -- What is accepted is migrated, and the line of a migration is checked as its input is.
 use Rattle.std.proofs.Common.{◌≡◌, ◌⊎◌, ◌≤◌, ◌<◌, ℕ, List, [], ◌∷◌, ◌++◌, length, refl, sym, ◌∙◌, ap, subst, inl}
 use Rattle.std.proofs.Common.{inr, arith, lit<, Result, Ok, Err}
-use Rattle.std.specs.Prelude.{IsOk}
 use Rattle.std.proofs.lemmas.List.Elements.{All-map, All-weaker}
 use Rattle.stamp_core.specs.Linearized.{IsLinearized}
 use Rattle.stamp_core.specs.Record.{Recorded, HasFewWords}
@@ -16,26 +15,26 @@ use Rattle.stamp_core.specs.declared.reply.Reply.TheVariants.{Stamp}
 use Rattle.stamp_check.specs.declared.checking.Bad.{Bad}
 use Rattle.stamp_check.specs.Judgement.{IsJudgement}
 use Rattle.stamp_check.specs.Migration.{respelling, respelled_call, respelled_reply, respelled_entry}
-use Rattle.stamp_check.specs.Migration.{respelled_record, migrated_from, migrated}
-use Rattle.stamp_check.proofs.OneForeign.{migrates_or_not}
+use Rattle.stamp_check.specs.Migration.{respelled_record, migrated_from, migrated, CanMigrate}
 use Rattle.stamp_check.proofs.RespelledParts.{widened_in_range, respelled_recorded}
 use Rattle.stamp_check.proofs.RespelledRecords.{linearized_migrates, migration_keeps_verdicts}
 use Rattle.stamp_check.proofs.RespelledStamps.{Respells, respells}
 use Rattle.stamp_check.proofs.RespelledStamps.Respells.{writes, reads, foreign}
 use Rattle.stamp_history.specs.History.{recorded_of}
+use Rattle.stamp_history.specs.HistoryText.{history_text}
 use Rattle.stamp_history.specs.declared.read_error.ReadError.{ReadError}
 use Rattle.stamp_history.specs.HistoryLaws.{IsU64, CallIsU64, ReplyIsU64, EntryIsU64}
 use Rattle.stamp_history.proofs.FieldsReadAgain.{small}
 use Rattle.stamp_history.proofs.HistoryNumbers.{IsProgramHistory, program_history}
 use Rattle.stamp_history.proofs.HistoryReadsAgain.{lines_read_again}
-use Rattle.stamp_cli.specs.declared.faults.ServeFault.{ServeFault}
 use Rattle.stamp_cli.specs.declared.faults.ServeFault.TheVariants.{TooLong}
 use Rattle.stamp_cli.specs.declared.line.Verdict.TheVariants.{Accepted}
-use Rattle.stamp_cli.specs.Answer.{LineView, IsCheckAnswer, IsMigrateAnswer, IsAccepted, with_line_feed}
+use Rattle.stamp_cli.specs.declared.orders.Order.TheVariants as order
+use Rattle.stamp_cli.specs.Answer.{LineView, IsCheckAnswer, IsMigrateAnswer, IsOrderAnswer, with_line_feed}
 use Rattle.stamp_cli.specs.CheckText.{verdict_of}
-use Rattle.stamp_cli.specs.Laws.{AcceptedMigrates, MigrationKeepsLines}
+use Rattle.stamp_cli.specs.Laws.{AcceptedMigrates, MigrationKeepsLines, migrated_line}
 use Rattle.stamp_cli.specs.Source.{most_bytes}
-use Rattle.stamp_cli.proofs.OneAnswer.{long_or_not, ok_not_err}
+use Rattle.stamp_cli.proofs.OneAnswer.{long_or_not, ok_not_err, alone}
 
 -- a respelled history is one of program values
 stamp_fits : (s : ℕ) → IsU64 (respelling s)
@@ -104,15 +103,25 @@ accepted_is_linearized : (history : Recorded) (found : Result ℕ Bad) → IsJud
 accepted_is_linearized history (Ok n) is accepted = is.0
 accepted_is_linearized history (Err bad) is accepted = cc
 
-is_migrated : (found : Result Recorded ReadError) (line : LineView) (answer : Result LineView ServeFault) →
-    IsProgram found → IsCheckAnswer found (Ok line) → line.verdict ≡ Accepted →
-    IsAccepted (IsMigrateAnswer found) answer → IsOk answer
-is_migrated found line (Ok written) known check accepted migrate = refl
-is_migrated (Err e) line (Err fault) known check accepted migrate = cc
-is_migrated (Ok history) line (Err fault) known check accepted migrate =
+-- what was read of an input that is accepted: a history that can be migrated
+record IsAcceptedAs (found : Result Recorded ReadError) : Type 0 where
+  history : Recorded
+  read : found ≡ Ok history
+  linearized : IsLinearized history
+  can : CanMigrate history
+
+accepted_as : (found : Result Recorded ReadError) (line : LineView) → IsProgram found →
+    IsCheckAnswer found (Ok line) → line.verdict ≡ Accepted → IsAcceptedAs found
+accepted_as (Err e) line known check accepted = cc
+accepted_as (Ok history) line known check accepted =
     let k = known history refl in
     let all = accepted_is_linearized history check.found check.is (sym check.verdict ∙ accepted) in
-    absurd (migrates_or_not history migrate.entry (linearized_migrates history k.known k.range all).0 migrate.foreign)
+    record {
+      history = history;
+      read = refl;
+      linearized = all;
+      can = (linearized_migrates history k.known k.range all).0;
+    }
 
 checked_alike : (found : Result Recorded ReadError) (line written : LineView) → IsProgram found →
     IsCheckAnswer found (Ok line) → IsMigrateAnswer found (Ok written.text) →
@@ -137,16 +146,36 @@ fits input line long = by (long_or_not most_bytes (length input))
     by (inl h) = absurd (ok_not_err (long h))
     by (inr h) = h
 
+-- the answer to a history that can be migrated
+line_of_migration : (input : List ℕ) (history : Recorded) → length input ≤ most_bytes →
+    recorded_of input ≡ Ok history → CanMigrate history →
+    IsOrderAnswer order.Migrate input (Ok (migrated_line history))
+line_of_migration input history few read can = record {
+  too_long = λ long. absurd (omega arith);
+  read = λ _. (
+    subst (λ (r : Result Recorded ReadError). IsMigrateAnswer r (Ok (history_text (migrated history)))) (sym read)
+        (can, refl),
+    refl,
+  );
+}
+
 pub accepted_migrates : AcceptedMigrates
-accepted_migrates input line answer check accepted migrate =
+accepted_migrates input line check accepted =
     let few = fits input line check.too_long in
-    is_migrated (recorded_of input) line answer (program_history input) (check.read few) accepted (migrate.read few)
+    let is = accepted_as (recorded_of input) line (program_history input) (check.read few) accepted in
+    let answer = line_of_migration input is.history few is.read is.can in
+    record {
+      history = is.history;
+      read = is.read;
+      linearized = is.linearized;
+      answered = alone order.Migrate input (Ok (migrated_line is.history)) answer;
+    }
 
 pub migration_keeps_lines : MigrationKeepsLines
 migration_keeps_lines input line written check migrate short =
     let few = fits input line check.too_long in
-    record {
+    alone order.Check (with_line_feed written) (Ok line) (record {
       too_long = λ long. absurd (omega arith);
       read = λ _. checked_alike (recorded_of input) line written (program_history input) (check.read few)
           (migrate.read few).0;
-    }
+    })

@@ -1,5 +1,5 @@
 -- A command and what was read of an input have one answer.
-use Rattle.std.proofs.Common.{◌≡◌, ◌≤◌, ◌<◌, ◌⊎◌, ℕ, List, length, ◌∙◌, refl, sym, ap, inl, inr}
+use Rattle.std.proofs.Common.{◌≡◌, ◌≤◌, ◌<◌, ◌⊎◌, ℕ, List, length, ◌∙◌, refl, sym, ap, subst, inl, inr}
 use Rattle.std.proofs.Common.{Bool, true, false, Result, Ok, Err, nat_lt}
 use Rattle.std.proofs.lemmas.Bool.{ltb-true, ltb-false}
 use Rattle.stamp_core.specs.declared.layout.Layout.{Layout}
@@ -23,6 +23,7 @@ use Rattle.stamp_cli.specs.Answer.{IsMigrateAnswer}
 use Rattle.stamp_cli.specs.Answer.{AnswersReplay, AnswersRun, AnswersReportedRun, AnswersCheck, AnswersMigrate}
 use Rattle.stamp_cli.specs.Answer.{IsStampAnswer, IsAccepted, AnswersOrder, IsOrderAnswer}
 use Rattle.stamp_cli.specs.CheckText.{judgement_text, verdict_of}
+use Rattle.stamp_cli.specs.Laws.{AnswersAlone}
 use Rattle.stamp_cli.specs.Source.{most_bytes}
 use Rattle.stamp_cli.specs.StampText.{kind_text}
 use Rattle.stamp_core.proofs.OneStampKind.{one_kind}
@@ -156,3 +157,8 @@ one_to_order (order.StampIn layout n) input a b x y =
 pub one_answer : (o : Order) (input : List ℕ) (a b : Result LineView ServeFault) → IsOrderAnswer o input a →
     IsOrderAnswer o input b → a ≡ b
 one_answer o input a b x y = one_to_input (AnswersOrder o) (one_to_order o) input a b x y
+
+-- so what is an answer is the only one
+pub alone : (o : Order) (input : List ℕ) (answer : Result LineView ServeFault) → IsOrderAnswer o input answer →
+    AnswersAlone o input answer
+alone o input answer is a = (λ x. one_answer o input a answer x is, λ e. subst (IsOrderAnswer o input) (sym e) is)

@@ -18,7 +18,7 @@ use Rattle.stamp_cli.specs.Answer.{LineView, IsOrderAnswer, IsInputAnswer, IsAcc
 use Rattle.stamp_cli.specs.Answer.{script_answer, with_line_feed}
 use Rattle.stamp_cli.specs.Laws.{AnswersAlone, ok_line, RunLinesAreAccepted}
 use Rattle.stamp_cli.specs.Source.{most_bytes}
-use Rattle.stamp_cli.proofs.OneAnswer.{long_or_not, ok_inj, ok_not_err, one_answer}
+use Rattle.stamp_cli.proofs.OneAnswer.{long_or_not, ok_inj, ok_not_err, alone}
 
 -- what the lines of either command have in common: the script that was read, and its run as this history
 record RunAs (record_of : Scripted → Recorded) (input : List ℕ) (line : LineView) : Type 0 where
@@ -44,11 +44,7 @@ run_as record_of input line answer = by_length (long_or_not most_bytes (length i
 accepted : (line : LineView) (history : Recorded) → recorded_of (with_line_feed line) ≡ Ok history →
     IsLinearized history → length (with_line_feed line) ≤ most_bytes →
     AnswersAlone order.Check (with_line_feed line) (Ok (ok_line (length history.entries)))
-accepted line history read linearized fits a = (
-  λ x. one_answer order.Check (with_line_feed line) a answer x is,
-  λ e. subst
-      (IsOrderAnswer order.Check (with_line_feed line)) (sym e) is,
-)
+accepted line history read linearized fits = alone order.Check (with_line_feed line) answer is
   where
     answer : Result LineView ServeFault
     answer = Ok (ok_line (length history.entries))

@@ -1,7 +1,12 @@
 -- Laws of the program's answers.
-use Rattle.std.specs.Prelude.{◌≡◌, ◌⊎◌, ◌↔◌, ◌≤◌, ℕ, List, length, Result, Ok, IsOk}
+use Rattle.std.specs.Prelude.{◌≡◌, ◌⊎◌, ◌↔◌, ◌≤◌, ℕ, List, length, Result, Ok}
+use Rattle.stamp_core.specs.Linearized.{IsLinearized}
+use Rattle.stamp_core.specs.Record.{Recorded}
 use Rattle.stamp_machines.specs.Script.{Scripted}
 use Rattle.stamp_machines.specs.World.{finished_calls}
+use Rattle.stamp_check.specs.Migration.{migrated}
+use Rattle.stamp_history.specs.History.{recorded_of}
+use Rattle.stamp_history.specs.HistoryText.{history_text}
 use Rattle.stamp_history.specs.ScriptReading.{script_of}
 use Rattle.stamp_cli.specs.declared.faults.ServeFault.{ServeFault}
 use Rattle.stamp_cli.specs.declared.line.Verdict.TheVariants.{Accepted}
@@ -37,14 +42,24 @@ RunLinesAreAccepted = (input : List ℕ) (line : LineView) →
     IsOrderAnswer order.Run input (Ok line) ⊎ IsOrderAnswer order.RunReported input (Ok line) →
     length (with_line_feed line) ≤ most_bytes → IsAcceptedRun input line
 
--- an input whose history is accepted is migrated, and not refused
+-- the line by which a history is migrated: its text in layout 2
+abbrev pub migrated_line : Recorded → LineView
+migrated_line history = record { text = history_text (migrated history); verdict = Accepted }
+
+-- the input is a linearized history, and `migrate` answers the line by which that is migrated
+pub record IsMigrated (input : List ℕ) : Type 0 where
+  pub history : Recorded
+  pub read : recorded_of input ≡ Ok history
+  pub linearized : IsLinearized history
+  pub answered : AnswersAlone order.Migrate input (Ok (migrated_line history))
+
+-- so it is with each input that `check` accepts
 abbrev pub AcceptedMigrates : Type 0
-AcceptedMigrates = (input : List ℕ) (line : LineView) (answer : Result LineView ServeFault) →
-    IsOrderAnswer order.Check input (Ok line) → line.verdict ≡ Accepted →
-    IsOrderAnswer order.Migrate input answer → IsOk answer
+AcceptedMigrates = (input : List ℕ) (line : LineView) → IsOrderAnswer order.Check input (Ok line) →
+    line.verdict ≡ Accepted → IsMigrated input
 
 -- a check answers the line of a migration as it answers the input, where that line is short enough to be one
 abbrev pub MigrationKeepsLines : Type 0
 MigrationKeepsLines = (input : List ℕ) (line written : LineView) → IsOrderAnswer order.Check input (Ok line) →
     IsOrderAnswer order.Migrate input (Ok written) → length (with_line_feed written) ≤ most_bytes →
-    IsOrderAnswer order.Check (with_line_feed written) (Ok line)
+    AnswersAlone order.Check (with_line_feed written) (Ok line)

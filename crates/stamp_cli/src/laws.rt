@@ -16,13 +16,15 @@ pub fn run_lines_are_accepted()
     ensures { RunLinesAreAccepted }
 {}
 
-/// An input that a check accepts is migrated, and never refused.
+/// An input that `check` accepts is a linearized history, and the answer of `migrate` to it is a line:
+/// the text of that history in layout 2. No refusal is an answer to it. Want of memory and a failed read
+/// or write are no answers.
 pub fn accepted_migrates()
     ensures { AcceptedMigrates }
 {}
 
 /// A check answers the line of a migration, with its line feed, as it answers the input that was
-/// migrated, where that line is no longer than an input may be.
+/// migrated, and in no other way, where that line is no longer than an input may be.
 pub fn migration_keeps_lines()
     ensures { MigrationKeepsLines }
 {}
