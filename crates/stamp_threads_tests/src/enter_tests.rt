@@ -3,7 +3,7 @@ ghost use Rattle.std.specs.Prelude.{◌≡◌, ◌<◌, IfOk, slice_index, true}
 
 use crate::lock_tests::answers;
 use crate::record_tests::{gives, pair, puts};
-use stamp_core::{Call, Limits, Reply, Words};
+use stamp_core::{Call, Layout, Limits, Reply, Words};
 use stamp_threads::{
     AnyContent, ContentRule, GetFault, Pass, PutFault, RecordPass, RuledRecord, RunningLock,
 };
@@ -11,11 +11,15 @@ use std::alloc::Global;
 use std::test::Fail;
 
 /// A lock that threads may enter, and its first pass.
-pub fn enterable_lock(alloc: Global, readers: u64) -> Result<(RunningLock, Pass), Fail>
+pub fn enterable_lock(
+    alloc: Global,
+    layout: Layout,
+    readers: u64,
+) -> Result<(RunningLock, Pass), Fail>
     ensures table { IfOk result (λ r. r.1.table ≡ r.0.table) }
     ensures enterable { IfOk result (λ r. r.0.enterable ≡ true) }
 {
-    match RunningLock::new_enterable(alloc, Limits::new(readers, 1_000_000)?) {
+    match RunningLock::new_enterable(alloc, Limits::in_layout(layout, readers, 1_000_000)?) {
         Ok((lock, pass)) => Ok((lock, pass)),
         Err(_) => Err(Fail::from("no memory for the lock")),
     }
@@ -23,7 +27,7 @@ pub fn enterable_lock(alloc: Global, readers: u64) -> Result<(RunningLock, Pass)
 
 #[test]
 fn a_pass_that_enters_finds_what_is_held_and_releases_nothing(rt: HostRuntime) -> Result<(), Fail> {
-    let (lock, mut first) = enterable_lock(rt.alloc(), 127)?;
+    let (lock, mut first) = enterable_lock(rt.alloc(), Layout::One, 127)?;
     assert!(rt; answers(&lock, &mut first, Call::TryWrite, Reply::Stamp(384)));
     let mut second = lock.enter();
     assert!(rt; answers(&lock, &mut second, Call::IsWriteLocked, Reply::Yes));

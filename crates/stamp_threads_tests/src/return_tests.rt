@@ -3,7 +3,7 @@ ghost use Rattle.std.specs.Prelude.{◌≡◌, true};
 
 use crate::enter_tests::enterable_lock;
 use crate::lock_tests::answers;
-use stamp_core::{Call, Reply};
+use stamp_core::{Call, Layout, Reply};
 use stamp_threads::RunningLock;
 use std::alloc::Global;
 use std::sync::atomic::{AtomicU64, Ordering};
@@ -21,20 +21,29 @@ type Row = (Call, Reply);
 #[derive(Drop)]
 struct Watched {
     lock: RunningLock,
-    /// Where the thread and the test meet before the first call.
+    /// Where the thread meets the test, or another thread, before the first call.
     both: Barrier,
+    /// How many exchanges were lost.
+    lost: AtomicU64,
     /// How many calls were answered as they should.
     right: AtomicU64,
     ghost enterable: { lock.enterable ≡ true },
 }
 
 impl Watched {
-    /// A new lock with room for so many readers.
-    fn new(alloc: Global, readers: u64) -> Result<Arc<Watched, Global>, Fail> {
-        let (lock, pass) = enterable_lock(alloc, readers)?;
+    /// A new lock of this layout with room for so many readers.
+    fn new(alloc: Global, layout: Layout, readers: u64) -> Result<Arc<Watched, Global>, Fail> {
+        let (lock, pass) = enterable_lock(alloc, layout, readers)?;
         drop(pass);
-        let (both, right) = (Barrier::new(2), AtomicU64::new(0));
-        Ok(Arc::new(alloc, Watched { lock, both, right })?)
+        let both = Barrier::new(2);
+        let (lost, right) = (AtomicU64::new(0), AtomicU64::new(0));
+        let watched = Watched {
+            lock,
+            both,
+            lost,
+            right,
+        };
+        Ok(Arc::new(alloc, watched)?)
     }
 
     /// Makes these calls one after another, up to the first that is answered otherwise.
@@ -46,6 +55,25 @@ impl Watched {
                 return;
             }
             self.right.fetch_add(1, Ordering::SeqCst);
+        }
+    }
+
+    /// Reads and releases until ten exchanges were lost, and counts as one right answer then. Only `once` tells
+    /// so; `call`, which stands between, loses as often.
+    fn lose_exchanges<R: Wait>(&self, rt: &R) {
+        let mut pass = self.lock.enter();
+        self.both.wait(rt);
+        for _ in 0..10_000_000u64 {
+            self.lock.call(rt, &mut pass, Call::TryRead);
+            self.lock.call(rt, &mut pass, Call::TryUnlockRead);
+            if self.lock.once(&mut pass, Call::TryRead).is_err() {
+                self.lost.fetch_add(1, Ordering::SeqCst);
+            }
+            let _ = self.lock.once(&mut pass, Call::TryUnlockRead);
+            if self.lost.load(Ordering::SeqCst) >= 10 {
+                self.right.fetch_add(1, Ordering::SeqCst);
+                break;
+            }
         }
     }
 
@@ -77,13 +105,13 @@ const ON_A_FREE_LOCK: [Row; 1] = [(Call::TryWrite, Reply::Stamp(384))];
 
 #[test]
 fn a_call_on_a_free_lock_comes_back(rt: HostRuntime) -> Result<(), Fail> {
-    let watched = Watched::new(rt.alloc(), 127)?;
+    let watched = Watched::new(rt.alloc(), Layout::One, 127)?;
     start(&rt, &watched, ON_A_FREE_LOCK)?;
     assert!(rt; watched.right_in_time(&rt, 1) == 1);
     Ok(())
 }
 
-const WITHOUT_A_WAIT: [Row; 17] = [
+const WITHOUT_A_WAIT: [Row; 20] = [
     (Call::TryWrite, Reply::Stamp(384)),
     (Call::IsWriteLocked, Reply::Yes),
     (Call::Validate(384), Reply::Yes),
@@ -94,8 +122,11 @@ const WITHOUT_A_WAIT: [Row; 17] = [
     (Call::UnlockRead(513), Reply::Done),
     (Call::ReadLock, Reply::Stamp(513)),
     (Call::ToWrite(513), Reply::Stamp(640)),
+    (Call::ToWrite(640), Reply::Stamp(640)),
     (Call::ToRead(640), Reply::Stamp(769)),
+    (Call::ToRead(769), Reply::Stamp(769)),
     (Call::ToOptimistic(769), Reply::Stamp(768)),
+    (Call::ToOptimistic(768), Reply::Stamp(768)),
     (Call::Optimistic, Reply::Stamp(768)),
     (Call::WriteLock, Reply::Stamp(896)),
     (Call::Unlock(896), Reply::Done),
@@ -105,25 +136,76 @@ const WITHOUT_A_WAIT: [Row; 17] = [
 
 #[test]
 fn each_call_that_need_not_wait_comes_back(rt: HostRuntime) -> Result<(), Fail> {
-    let watched = Watched::new(rt.alloc(), 127)?;
+    let watched = Watched::new(rt.alloc(), Layout::One, 127)?;
     start(&rt, &watched, WITHOUT_A_WAIT)?;
-    let right = watched.right_in_time(&rt, 17);
-    assert!(rt; right == 17, "row {right}");
+    let right = watched.right_in_time(&rt, 20);
+    assert!(rt; right == 20, "row {right}");
     Ok(())
 }
 
-const FOR_ROOM: [Row; 1] = [(Call::ReadLock, Reply::Stamp(257))];
+/// The call by which one holds a lock with room for one reader, and its stamp; and the call of one who waits
+/// meanwhile, and its stamp.
+const WAITS: [(Layout, Call, u64, Call, u64); 8] = [
+    (Layout::One, Call::ReadLock, 257, Call::ReadLock, 257),
+    (Layout::One, Call::ReadLock, 257, Call::WriteLock, 384),
+    (Layout::One, Call::WriteLock, 384, Call::ReadLock, 513),
+    (Layout::One, Call::WriteLock, 384, Call::WriteLock, 640),
+    (
+        Layout::Two,
+        Call::ReadLock,
+        131_073,
+        Call::ReadLock,
+        131_073,
+    ),
+    (
+        Layout::Two,
+        Call::ReadLock,
+        131_073,
+        Call::WriteLock,
+        196_608,
+    ),
+    (
+        Layout::Two,
+        Call::WriteLock,
+        196_608,
+        Call::ReadLock,
+        262_145,
+    ),
+    (
+        Layout::Two,
+        Call::WriteLock,
+        196_608,
+        Call::WriteLock,
+        327_680,
+    ),
+];
 
 #[test]
-fn a_reader_who_leaves_makes_room_for_one_who_waits(rt: HostRuntime) -> Result<(), Fail> {
-    let watched = Watched::new(rt.alloc(), 1)?;
-    let lock = &watched.lock;
-    let mut first = lock.enter();
-    assert!(rt; answers(lock, &mut first, Call::ReadLock, Reply::Stamp(257)));
-    start(&rt, &watched, FOR_ROOM)?;
-    thread::sleep(&rt, Duration::from_millis(20));
-    assert!(rt; watched.right.load(Ordering::SeqCst) == 0);
-    assert!(rt; answers(lock, &mut first, Call::UnlockRead(257), Reply::Done));
-    assert!(rt; watched.right_in_time(&rt, 1) == 1);
+fn one_who_leaves_lets_in_one_who_waits(rt: HostRuntime) -> Result<(), Fail> {
+    for (layout, holds, held, waits, stamp) in WAITS {
+        let watched = Watched::new(rt.alloc(), layout, 1)?;
+        let lock = &watched.lock;
+        let mut first = lock.enter();
+        let reply = Reply::Stamp(held);
+        assert!(rt; holds.is_lock_call() && answers(lock, &mut first, holds, reply));
+        start(&rt, &watched, [(waits, Reply::Stamp(stamp))])?;
+        thread::sleep(&rt, Duration::from_millis(20));
+        assert!(rt; watched.right.load(Ordering::SeqCst) == 0);
+        assert!(rt; answers(lock, &mut first, Call::Unlock(held), Reply::Done));
+        assert!(rt; watched.right_in_time(&rt, 1) == 1);
+    }
+    Ok(())
+}
+
+#[test]
+fn a_call_that_loses_exchanges_comes_back(rt: HostRuntime) -> Result<(), Fail> {
+    for layout in [Layout::One, Layout::Two] {
+        let watched = Watched::new(rt.alloc(), layout, 127)?;
+        for _ in 0..2u64 {
+            let theirs = Arc::try_clone(&watched)?;
+            thread::spawn(&rt, move || theirs.lose_exchanges(&rt))?;
+        }
+        assert!(rt; watched.right_in_time(&rt, 2) == 2);
+    }
     Ok(())
 }

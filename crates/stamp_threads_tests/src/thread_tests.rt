@@ -244,7 +244,7 @@ fn read_beside<R: Wait>(rt: &R, lock: &RunningLock, both: &Barrier) -> Reply
 
 #[test]
 fn threads_enter_and_a_reader_waits_for_the_writer(rt: HostRuntime) -> Result<(), Fail> {
-    let (lock, pass) = enterable_lock(rt.alloc(), 127)?;
+    let (lock, pass) = enterable_lock(rt.alloc(), Layout::One, 127)?;
     let both = Barrier::new(2);
     let ((written, released), read) = join(
         &rt,

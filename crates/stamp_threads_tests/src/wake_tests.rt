@@ -76,33 +76,54 @@ fn acquire_once<R: Wait>(rt: &R, shared: &Shared, thread: u64, call: Call, told:
     }
 }
 
-/// What a writer is answered who leaves by this call, and the stamp of the reader who waits for it.
+/// What one is answered who acquires by the first call and leaves by another, and the stamp of one who waits for
+/// it by a third. None for a call to leave by that is no lock call.
 fn leave_by<R: Threads + Wait + Clock + Copy + Send + 'static>(
     rt: &R,
     alloc: Global,
-    call: Call,
+    acquires: Call,
+    leaves: Call,
+    waits: Call,
 ) -> Result<(Option<Reply>, u64), Fail>
-    requires { IsTrue (is_lock_call call) }
+    requires acquires { IsTrue (is_lock_call acquires) }
+    requires waits { IsTrue (is_lock_call waits) }
 {
     let shared = shared_book(alloc)?;
-    let _ = shared.call(rt, 0, Call::WriteLock);
-    let reader = Waiter::start(rt, alloc, &shared, 1, Call::ReadLock)?;
-    let reply = shared.call(rt, 0, call).ok();
-    Ok((reply, reader.stamp(rt)))
+    let _ = shared.call(rt, 0, acquires);
+    let waiter = Waiter::start(rt, alloc, &shared, 1, waits)?;
+    if !leaves.is_lock_call() {
+        return Ok((None, 0));
+    }
+    let reply = shared.call(rt, 0, leaves).ok();
+    Ok((reply, waiter.stamp(rt)))
 }
 
 #[test]
 fn a_writer_who_leaves_wakes_a_reader(rt: HostRuntime) -> Result<(), Fail> {
-    let by_stamp = leave_by(&rt, rt.alloc(), Call::UnlockWrite(384))?;
-    assert!(rt; by_stamp == (Some(Reply::Done), 513));
-    let by_any = leave_by(&rt, rt.alloc(), Call::Unlock(384))?;
-    assert!(rt; by_any == (Some(Reply::Done), 513));
-    let without_stamp = leave_by(&rt, rt.alloc(), Call::TryUnlockWrite)?;
-    assert!(rt; without_stamp == (Some(Reply::Yes), 513));
-    let for_optimistic = leave_by(&rt, rt.alloc(), Call::ToOptimistic(384))?;
-    assert!(rt; for_optimistic == (Some(Reply::Stamp(512)), 513));
-    let for_read = leave_by(&rt, rt.alloc(), Call::ToRead(384))?;
-    assert!(rt; for_read == (Some(Reply::Stamp(513)), 514));
+    for (leaves, reply, stamp) in [
+        (Call::UnlockWrite(384), Reply::Done, 513),
+        (Call::Unlock(384), Reply::Done, 513),
+        (Call::TryUnlockWrite, Reply::Yes, 513),
+        (Call::ToOptimistic(384), Reply::Stamp(512), 513),
+        (Call::ToRead(384), Reply::Stamp(513), 514),
+    ] {
+        let left = leave_by(&rt, rt.alloc(), Call::WriteLock, leaves, Call::ReadLock)?;
+        assert!(rt; left == (Some(reply), stamp));
+    }
+    Ok(())
+}
+
+#[test]
+fn the_last_reader_who_leaves_wakes_a_writer(rt: HostRuntime) -> Result<(), Fail> {
+    for (leaves, reply) in [
+        (Call::UnlockRead(257), Reply::Done),
+        (Call::Unlock(257), Reply::Done),
+        (Call::TryUnlockRead, Reply::Yes),
+        (Call::ToOptimistic(257), Reply::Stamp(256)),
+    ] {
+        let left = leave_by(&rt, rt.alloc(), Call::ReadLock, leaves, Call::WriteLock)?;
+        assert!(rt; left == (Some(reply), 384));
+    }
     Ok(())
 }
 

@@ -1,13 +1,13 @@
 //! A record whose readers rely on its rule.
 ghost use Rattle.std.specs.Prelude.{◌≡◌, ◌<◌, slice_index};
 
+use crate::fixtures::both_end;
 use stamped_lock::{ContentRule, Layout, Limits, PutFault, RecordHandle, Spent, StampedRecord};
 use std::sync::atomic::{AtomicU64, Ordering};
 use std::sync::{Arc, Barrier, Wait};
 use std::test::Fail;
 use std::thread;
 use std::thread::join;
-use std::time::Duration;
 
 /// The first word, a bid, is below the second, an ask.
 struct BidBelowAsk;
@@ -108,13 +108,8 @@ fn two_who_put_at_once_come_back(rt: HostRuntime) -> Result<(), Fail> {
         let theirs = Arc::try_clone(&quoted)?;
         thread::spawn(&rt, move || quote_beside(&rt, &theirs))?;
     }
-    for _ in 0..5_000u64 {
-        if quoted.ended.load(Ordering::SeqCst) == 2 {
-            break;
-        }
-        thread::sleep(&rt, Duration::from_millis(1));
-    }
-    assert!(rt; quoted.ended.load(Ordering::SeqCst) == 2);
+    assert!(rt; both_end(&rt, &quoted.ended));
+    assert!(rt; quoted.met.load(Ordering::SeqCst) >= 10);
     Ok(())
 }
 

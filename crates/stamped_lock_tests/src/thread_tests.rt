@@ -1,8 +1,8 @@
 //! Threads that really share a lock, each by a handle.
-use crate::fixtures::{Ask, Row, made, number, right_rows};
+use crate::fixtures::{Ask, Row, both_end, made, number, right_rows};
 use stamped_lock::{Mismatch, StampedLock};
 use std::sync::atomic::{AtomicBool, AtomicU64, Ordering};
-use std::sync::{Barrier, Wait};
+use std::sync::{Arc, Barrier, Wait};
 use std::test::Fail;
 use std::thread;
 use std::thread::join;
@@ -60,6 +60,61 @@ fn threads_write_one_after_the_other_and_lose_exchanges_where_they_meet(
     let next = number(lock.enter().split().try_optimistic_read());
     assert!(rt; (sum.load(Ordering::SeqCst), next) == (20_000, 256 * 20_001));
     assert!(rt; a || b);
+    Ok(())
+}
+
+/// A lock that two threads read at once, and what they tell.
+#[derive(Drop)]
+struct Beside {
+    lock: StampedLock,
+    /// Where the threads meet before they read.
+    both: Barrier,
+    /// How many exchanges were lost.
+    lost: AtomicU64,
+    /// How many threads have come to their end.
+    ended: AtomicU64,
+}
+
+/// Reads and releases until ten exchanges were lost. Only `try_read_once` tells so; the calls that stand between
+/// lose as often.
+fn lose_exchanges<R: Wait>(rt: &R, beside: &Beside) {
+    let mut handle = beside.lock.enter();
+    beside.both.wait(rt);
+    for _ in 0..10_000_000u64 {
+        if let Some(stamp) = handle.try_read(rt) {
+            let _ = handle.unlock_read(rt, stamp);
+        }
+        if handle.try_read_once().is_err() {
+            beside.lost.fetch_add(1, Ordering::SeqCst);
+        }
+        let _ = handle.try_unlock_read_once();
+        if beside.lost.load(Ordering::SeqCst) >= 10 {
+            break;
+        }
+    }
+    beside.ended.fetch_add(1, Ordering::SeqCst);
+}
+
+/// Nobody joins the threads: where a call never comes back, the test ends nevertheless.
+#[test]
+fn calls_that_lose_exchanges_come_back(rt: HostRuntime) -> Result<(), Fail> {
+    let (lock, both) = (made(rt.alloc())?, Barrier::new(2));
+    let (lost, ended) = (AtomicU64::new(0), AtomicU64::new(0));
+    let beside = Arc::new(
+        rt.alloc(),
+        Beside {
+            lock,
+            both,
+            lost,
+            ended,
+        },
+    )?;
+    for _ in 0..2u64 {
+        let theirs = Arc::try_clone(&beside)?;
+        thread::spawn(&rt, move || lose_exchanges(&rt, &theirs))?;
+    }
+    assert!(rt; both_end(&rt, &beside.ended));
+    assert!(rt; beside.lost.load(Ordering::SeqCst) >= 10);
     Ok(())
 }
 
