@@ -60,7 +60,7 @@ LOOP, REQUIRES = re.compile(r"-(?:init|preserved|smaller)\b"), re.compile(r"-req
 LESS = ("", ", only by the invariant of a loop", ", only by what a call requires")
 # What the prover notes of a goal that isn't proved, and the line that `check` makes of it, with the function.
 NOTED = re.compile(r"^note: (src/[^:]+):(\d+):\d+: it is not proved .*\(`([^`]+)`\)(?:;.*)?$", re.M)
-NOTED_OF = re.compile(r"^noted (\S+): (\S+)$", re.M)
+NOTED_OF = re.compile(r"^noted (.+): (\S+)$", re.M)
 # What is wrong with the answer of a goal.
 ANSWER = re.compile(r": error: `([^`]+)`: ")
 # What a proof says that cites a name which the edit took away, or a declaration that was rejected for one.
@@ -229,9 +229,13 @@ def function_at(file, before):
 
 
 def named_at(folder, file, line):
-    """The function that stands at a line of a file below the folder."""
-    lines = text_of(f"{folder}/{file}").split("\n")
-    return function_at(file, "\n".join(lines[:line]) + "\n")
+    """The function that stands at a line of a file below the folder, if one does: what is derived stands at its type."""
+    text = text_of(f"{folder}/{file}")
+    begin = sum(len(it) + 1 for it in text.split("\n")[: line - 1])
+    end = text.find("\n", begin)
+    found = [it for it in FUNCTION.finditer(text) if it.start() <= end]
+    closed = re.compile(rf"^{found[-1][1]}}}$", re.M).search(text, found[-1].end()) if found else None
+    return function_at(file, text[: end + 1]) if closed and begin <= closed.start() else "no function"
 
 
 def type_name(of, parameters):
