@@ -3,3 +3,4 @@ pub mod Replies
 pub mod Made
 pub mod Sections
 pub mod RecordCalls
+pub mod InWords

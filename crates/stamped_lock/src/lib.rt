@@ -24,19 +24,27 @@
 #![tactic(auto)]
 
 mod answers;
+mod cell;
+mod cell_handle;
 mod handle;
 mod handle_once;
+mod in_words;
 mod lock;
 mod mismatch;
 mod record;
+mod record_calls;
 mod record_handle;
 mod sections;
 mod spent;
 mod stamp;
 mod unlock_error;
+mod update_error;
 mod write_error;
 
+pub use cell::{StampedCell, WordsOf};
+pub use cell_handle::CellHandle;
 pub use handle::LockHandle;
+pub use in_words::{InWord, InWords};
 pub use lock::StampedLock;
 pub use mismatch::Mismatch;
 pub use record::StampedRecord;
@@ -46,4 +54,5 @@ pub use stamp::Stamp;
 pub use stamp_core::{Layout, Limits, StampKind};
 pub use stamp_threads::{AnyContent, ContentRule, GetFault, LockError, Lost, PutFault};
 pub use unlock_error::UnlockError;
+pub use update_error::UpdateError;
 pub use write_error::WriteError;
