@@ -3,3 +3,4 @@ pub mod Retried
 pub mod Validating
 pub mod Sectioning
 pub mod Tries
+pub mod Timing

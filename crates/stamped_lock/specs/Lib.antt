@@ -4,3 +4,4 @@ pub mod Made
 pub mod Sections
 pub mod RecordCalls
 pub mod InWords
+pub mod Timed

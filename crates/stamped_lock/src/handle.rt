@@ -60,7 +60,7 @@ impl<'a> LockHandle<'a> {
     /// and makes nearly all calls. Where it lost, `RunningLock::call` goes on: it tries again until an
     /// exchange wins, or a word that was found answers the call.
     #[inline(always)]
-    fn once_or_call<R: Wait>(&mut self, rt: &R, call: Call) -> Reply
+    pub(crate) fn once_or_call<R: Wait>(&mut self, rt: &R, call: Call) -> Reply
         requires lock_call { IsTrue (is_lock_call call) }
         requires at_once { try_form call ≡ call }
         ensures made { Made call result self.old self.new }

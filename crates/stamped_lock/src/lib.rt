@@ -37,6 +37,7 @@ mod record_handle;
 mod sections;
 mod spent;
 mod stamp;
+mod timed;
 mod unlock_error;
 mod update_error;
 mod write_error;

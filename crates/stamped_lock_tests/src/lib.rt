@@ -18,4 +18,6 @@ mod stamp_tests;
 #[cfg(test)]
 mod thread_tests;
 #[cfg(test)]
+mod timed_tests;
+#[cfg(test)]
 mod update_tests;
