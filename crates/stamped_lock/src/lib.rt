@@ -20,7 +20,7 @@
 //!
 //! `write_with` and `read_with` acquire a mode, run a closure and release. `read_optimistically` is
 //! Java's idiom for a short read: an optimistic stamp, a closure, a validation; and where that
-//! fails the closure again, in read mode.
+//! fails the closure again, in read mode. `write_if` reads so, and writes where a test holds.
 #![tactic(auto)]
 
 mod answers;
@@ -41,6 +41,7 @@ mod timed;
 mod unlock_error;
 mod update_error;
 mod write_error;
+mod write_if;
 
 pub use cell::{StampedCell, WordsOf};
 pub use cell_handle::CellHandle;

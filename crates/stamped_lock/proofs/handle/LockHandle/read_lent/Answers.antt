@@ -3,21 +3,16 @@ use Rattle.stamp_core.specs.declared.call.Call.TheVariants.{Validate}
 use Rattle.stamp_core.specs.declared.reply.Reply.TheVariants.{Yes}
 use Rattle.stamped_lock.specs.Made.{Made}
 use Rattle.stamped_lock.proofs.Validating.{unwritten}
-use Rattle.stamped_lock.proofs.Sectioning.{returns_once, ReadSection-also}
-use Rattle.stamped_lock.proofs.handle.LockHandle.read_optimistically.Goals as goal
+use Rattle.stamped_lock.proofs.handle.LockHandle.read_lent.Goals as goal
 
 pub returns-in_default : goal.returns-in_default
-returns-in_default g c = inr (
-  c.try_optimistic_read.new.self,
-  inl (search rules),
-  ReadSection-also _ _ _ _ _ (returns_once g.F.Fn c.args.f) c.read_with.ensures,
-)
+returns-in_default g c = inr (c.try_optimistic_read.new.self, inl (search rules), c.read_with_lent.ensures)
 
 pub returns : goal.returns
 returns g c = inr (
   c.validate-valid.new.self,
   inr (c.in-Some.stamp, c.try_optimistic_read.new.self, search rules, search rules),
-  ReadSection-also _ _ _ _ _ (returns_once g.F.Fn c.args.f) c.read_with-2.ensures,
+  c.read_with_lent-2.ensures,
 )
 
 pub returns-then-valid : goal.returns-then-valid
