@@ -10,7 +10,7 @@ import glob
 import re
 import sys
 
-IMPL = re.compile(r"^impl(?:<[^>{]*>)? (?:[\w:<>]+ for )?(\w+)[^{]*\{$.*?^\}$", re.M | re.S)
+IMPL = re.compile(r"^impl(?:<(?:[^<>{]|<[^<>{]*>)*>)? (?:[\w:<>]+ for )?(\w+)[^{]*\{$.*?^\}$", re.M | re.S)
 # Of these no wrong body compiles: the only verdict that this one can refer to is the one that it answers.
 WITHOUT = {"stamp_picture: Picture::verdict"}
 FUNCTION = re.compile(r'^( *)(pub )?(?:pub\(\w+\) )?(?:const )?(?:extern "C" )?fn (\w+)', re.M)

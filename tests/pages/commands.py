@@ -70,7 +70,7 @@ def main():
         for page in PAGES:
             check_page(page, programs, room)
     check_quoted("docs/TOUR.md", "examples/first.json")
-    for example in ["five_calls", "point", "price_board", "observed_handles"]:
+    for example in ["five_calls", "point", "registry", "price_board", "observed_handles"]:
         check_quoted("docs/EXAMPLES.md", f"crates/{example}/stdout")
 
 

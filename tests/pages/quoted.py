@@ -11,7 +11,7 @@ import textwrap
 
 PAGES = {
     "README.md": ["counter"],
-    "docs/EXAMPLES.md": ["five_calls", "point", "price_board", "observed_handles", "recorded_run"],
+    "docs/EXAMPLES.md": ["five_calls", "point", "registry", "price_board", "observed_handles", "recorded_run"],
     "docs/JUDGING.md": ["observed_handles"],
     "docs/TOUR.md": ["stamp_machines_tests", "stamp_threads_tests"],
     "docs/USING.md": ["counter", "config"],

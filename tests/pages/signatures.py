@@ -63,10 +63,10 @@ def declarations(text, mark):
     text = re.sub(r"^\s*#!?\[.*\]\n", "", re.sub(r" *//.*", "", text), flags=re.M)
     functions = {found[1]: signature(text[found.start() + len(mark):])
                  for found in re.finditer(rf"^{mark}{FUNCTION}", text, re.M)}
-    for head, owner, body in re.findall(r"^(impl(?:<[^>]*>)? (\w+)[^{]*){\n(.*?)^}", text, re.M | re.S):
+    for head, owner, body in re.findall(r"^(impl(?:<(?:[^<>]|<[^<>]*>)*>)? (\w+)[^{]*){\n(.*?)^}", text, re.M | re.S):
         for found in re.finditer(rf"^    {mark}{FUNCTION}", body, re.M):
             functions[f"{owner}::{found[1]}"] = f"{flat(head)}: {signature(body[found.start() + 4 + len(mark):])}"
-    for owner, body in re.findall(rf"^{mark}trait (\w+) {{\n(.*?)^}}", text, re.M | re.S):
+    for owner, body in re.findall(rf"^{mark}trait (\w+)[^\n{{]* {{\n(.*?)^}}", text, re.M | re.S):
         for found in re.finditer(r"^    fn (\w+)", body, re.M):
             functions[f"{owner}::{found[1]}"] = f"trait {owner}: {signature(body[found.start() + 4:])}"
     types = {found[1]: type_of(text[found.start() + len(mark):], mark)

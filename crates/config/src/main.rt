@@ -1,54 +1,106 @@
-// A configuration of four numbers: one thread replaces it a thousand times, and three read it.
+// A configuration of three fields: two threads change it a thousand times each, and two read it.
 #![tactic(auto)]
 
-use stamped_lock::{AnyContent, RecordHandle, Spent, StampedRecord};
+ghost use Rattle.std.specs.Prelude.{◌≤◌, ◌∷◌, []};
+ghost use Rattle.stamped_lock.specs.InWords.{f64_word, IsF64};
+
+use stamped_lock::{CellHandle, InWord, InWords, Spent, StampedCell};
 use std::sync::Wait;
 use std::thread::join;
 
-/// Four numbers that belong together. The rule `AnyContent` allows all values.
-type Config = StampedRecord<4, AnyContent>;
+/// Two bounds, of which the lower is never above the upper, and the step between them.
+#[derive(Clone, Copy)]
+struct Config {
+    low: u64,
+    high: u64,
+    step: f64,
+    ghost ordered: { low ≤ high },
+}
 
-/// One thread's handle of them.
-type ConfigHandle<'a> = RecordHandle<'a, 4, AnyContent>;
+/// How it is written in three words, and read back.
+impl InWords<3> for Config {
+    ghost words = { λ c. c.low ∷ c.high ∷ f64_word c.step ∷ [] };
 
-/// Replaces the numbers a thousand times.
-fn replace<R: Wait>(rt: &R, mut config: ConfigHandle<'_>) -> Result<(), Spent> {
-    for n in 1..=1000_u64 {
-        config.put(rt, [n, n, n, n])?;
+    ghost is_value = { λ c. IsF64 c.step };
+
+    fn to_words(&self) -> [u64; 3] {
+        [self.low, self.high, self.step.to_word()]
+    }
+
+    fn from_words(row: &[u64; 3]) -> Config {
+        Config {
+            low: row[0],
+            high: row[1],
+            step: f64::from_word(row[2]),
+        }
+    }
+}
+
+/// Raises the upper bound by one, a thousand times.
+fn raise<R: Wait>(rt: &R, mut cell: CellHandle<'_, 3, Config>) -> Result<(), Spent> {
+    for _ in 0..1000 {
+        cell.update(rt, |c: &Config| -> Config {
+            Config {
+                low: c.low,
+                high: c.high.saturating_add(1),
+                step: c.step,
+            }
+        })?;
     }
     Ok(())
 }
 
-/// Whether each of a thousand gets returned numbers that were put together.
-fn read<R: Wait>(rt: &R, mut config: ConfigHandle<'_>) -> bool {
+/// Lowers the lower bound by one, a thousand times.
+fn lower<R: Wait>(rt: &R, mut cell: CellHandle<'_, 3, Config>) -> Result<(), Spent> {
     for _ in 0..1000 {
-        let [a, b, c, d] = config.get(rt);
-        if a != b || b != c || c != d {
-            return false;
-        }
+        cell.update(rt, |c: &Config| -> Config {
+            Config {
+                low: c.low.saturating_sub(1),
+                high: c.high,
+                step: c.step,
+            }
+        })?;
     }
-    true
+    Ok(())
+}
+
+/// The least distance between the bounds in a thousand reads: the difference can't wrap.
+fn least<R: Wait>(rt: &R, mut cell: CellHandle<'_, 3, Config>) -> u64 {
+    let mut least = u64::MAX;
+    for _ in 0..1000 {
+        let config = cell.get(rt);
+        least = least.min(config.high - config.low);
+    }
+    least
 }
 
 fn main(rt: HostRuntime) -> anyhow::Result<()> {
-    let config = Config::new(rt.alloc(), [0, 0, 0, 0])?;
-    let (replaced, (one, (two, three))) = join(
+    let first = Config {
+        low: 5000,
+        high: 5010,
+        step: 0.5,
+    };
+    let cell = StampedCell::new(rt.alloc(), first)?;
+    let ((raised, lowered), (one, two)) = join(
         &rt,
-        || replace(&rt, config.enter()),
         || {
             join(
                 &rt,
-                || read(&rt, config.enter()),
-                || join(
-                    &rt,
-                    || read(&rt, config.enter()),
-                    || read(&rt, config.enter()),
-                ),
+                || raise(&rt, cell.enter()),
+                || lower(&rt, cell.enter()),
+            )
+        },
+        || {
+            join(
+                &rt,
+                || least(&rt, cell.enter()),
+                || least(&rt, cell.enter()),
             )
         },
     );
-    replaced?;
-    let [first, _, _, last] = config.enter().get(&rt);
-    println!(rt; "{one} {two} {three}: {first} to {last}")?;
+    raised.and(lowered)?;
+    let last = cell.enter().get(&rt);
+    let apart = one >= 10 && two >= 10;
+    println!(rt; "{apart}: {} to {} by {}", last.low, last.high, last.step)?;
     Ok(())
 }

@@ -9,10 +9,14 @@ use native.Mathlib.Decide.{ℕ_discrete}
 use mathlib.Core.Option.{none, some}
 use lib.ListN.{get_elem?}
 use Rattle.atomic_table.specs.Table.{State, step, carried_after, Allows}
-use Rattle.stamp_core.specs.declared.call.Call.TheVariants.{Get}
-use Rattle.stamp_core.specs.declared.reply.Reply.TheVariants.{Content}
+use Rattle.stamp_core.specs.declared.call.Call.{Call}
+use Rattle.stamp_core.specs.declared.call.Call.TheVariants.{Get, PutIf}
+use Rattle.stamp_core.specs.declared.reply.Reply.{Reply}
+use Rattle.stamp_core.specs.declared.reply.Reply.TheVariants.{Content, No}
+use Rattle.stamp_core.specs.Content.{RecordReplies}
 use Rattle.stamp_threads.specs.declared.record_view.RecordShape.{RecordShape}
 use Rattle.stamp_threads.specs.declared.record_view.RecordEvent.{RecordEvent}
+use Rattle.stamp_threads.specs.declared.record_view.RecordEvent.TheVariants.{Called}
 use Rattle.stamp_threads.specs.declared.record_view.RecordPhase.{RecordPhase}
 use Rattle.stamp_threads.specs.declared.record_view.RecordPhase.TheVariants.{Idle, Loading}
 use Rattle.stamp_threads.specs.PassView.{entry, knowing, finding}
@@ -21,14 +25,15 @@ use Rattle.stamp_threads.specs.RecordWord.{word_with}
 use Rattle.stamp_threads.specs.RecordLog.{puts, puts_in, content_in, is_locked, is_call}
 use Rattle.stamp_threads.specs.RecordPass.{RecordPassView, Seated, IsConsistentWith, marks_ahead, first_of}
 use Rattle.stamp_threads.specs.RecordRule.{KnowsLoading, Knows, IsWriting, IsKept, calling}
-use Rattle.stamp_threads.specs.RecordRule.{starting_to_load, stopping, get_of, loading_one, loaded_one}
-use Rattle.stamp_threads.specs.RecordRule.{Confirmed, Overtaken, LoadedForGet, word_to_confirm, LoadForGetTells}
-use Rattle.stamp_threads.specs.RecordRule.{LoadWordTells, ConfirmTells}
+use Rattle.stamp_threads.specs.RecordRule.{starting_to_load, stopping, loading_one, loaded_one}
+use Rattle.stamp_threads.specs.RecordRule.{Confirmed, Saw, Overtaken, LoadedForGet, word_to_confirm, LoadForGetTells}
+use Rattle.stamp_threads.specs.RecordRule.{LoadWordTells, ConfirmTells, SeeTells, DenyTells}
 use Rattle.stamp_threads.proofs.Beginnings.{begins_all}
 use Rattle.stamp_threads.proofs.MadeBy.{grows_one, made_by-same}
 use Rattle.stamp_threads.proofs.RecordWords.{free_of, same_word}
 use Rattle.stamp_threads.proofs.RecordLogs.{locked_longer, marker_longer, content_longer}
-use Rattle.stamp_threads.proofs.RecordLogs.{legal_longer, marks_called, puts_get, puts_in_get}
+use Rattle.stamp_threads.proofs.RecordLogs.{legal_longer, marks_called, puts_longer, puts_in-append}
+use Rattle.stamp_threads.proofs.RecordLogs.{Reads, get_reads, no_reads}
 use Rattle.stamp_threads.proofs.RecordSteps.{Brings, OthersKnow, fits_here, leaves_now}
 use Rattle.stamp_threads.proofs.RecordSteps.{others_mark, one_after, one_consistent, only_views}
 use Rattle.stamp_threads.proofs.RecordSteps.{only_consistent, knowing_brings, same_knows}
@@ -80,40 +85,52 @@ module _ {enterable : Bool} (P : List ℕ → Type 0) (shape : RecordShape) (s :
       })
 
   -- the lock word is as it was, and the words are the content
-  confirms : length xs ≡ shape.width →
+  sees : length xs ≡ shape.width →
       get_or s.words 0 0 ≡ word_with shape.limits.layout puts_before false →
-      KeptBy enterable P shape s id (calling (finding v (get_or s.words 0 0)) r.log (get_of xs)) s.words ×
-      IsConsistentWith shape.width (calling (finding v (get_or s.words 0 0)) r.log (get_of xs)) ×
-      (xs ≡ content_in shape.width r.log) × P xs
-  confirms long same =
-      let w = calling (finding v (get_or s.words 0 0)) r.log (get_of xs) in
-      let log' = r.log ++ entry v.name (get_of xs) ∷ [] in
-      let f = fits_here P shape s r id v here in
+      (is_locked r.log ≡ false) × (xs ≡ content_in shape.width r.log) × P xs
+  sees long same =
       let h = what in
       let free = free_of shape.limits.layout (is_locked r.log) (puts r.log) puts_before
       (sym same ∙ r.word_is) in
       let whole : xs ≡ content_in shape.width r.log =
       ext_get_or 0 xs (content_in shape.width r.log) (long ∙ sym r.long)
       (h.stand free.0 free.1) in
-      let p = puts_get r.log v.name xs in
-      let l = locked_longer r.log v.name (get_of xs) in
-      let m = marker_longer r.log v.name (get_of xs) in
-      let c = content_longer shape.width r.log v.name Get (Content xs) in
-      let grows = grows_one v r.log (get_of xs) in
+      (free.0, whole, subst P (sym whole) r.rule)
+
+  -- and a call that puts nothing is made
+  confirms : length xs ≡ shape.width →
+      get_or s.words 0 0 ≡ word_with shape.limits.layout puts_before false →
+      (call : Call) (reply : Reply) → Reads xs call reply →
+      KeptBy enterable P shape s id (calling (finding v (get_or s.words 0 0)) r.log (Called call reply)) s.words ×
+      IsConsistentWith shape.width (calling (finding v (get_or s.words 0 0)) r.log (Called call reply))
+  confirms long same call reply about_xs =
+      let e = Called call reply in
+      let w = calling (finding v (get_or s.words 0 0)) r.log e in
+      let log' = r.log ++ entry v.name e ∷ [] in
+      let f = fits_here P shape s r id v here in
+      let t = sees long same in
+      let reads = subst (λ (content : List ℕ). Reads content call reply) t.1 about_xs in
+      let p : puts log' ≡ puts r.log =
+      (let h : puts log' ≡ puts r.log + 0 =
+      puts_longer r.log v.name e ∙ ap (λ (n : ℕ). puts r.log + n) reads.spends in omega (arith, h)) in
+      let l = locked_longer r.log v.name e ∙ reads.keeps (is_locked r.log) in
+      let m = marker_longer r.log v.name e in
+      let c = content_longer shape.width r.log v.name call reply ∙ reads.leaves in
+      let grows = grows_one v r.log e in
       let had = f.marks in
       let quiet = none_ahead in
       let brings : Brings P shape.width s.words log' w = record {
         known = begins_all log';
-        own = made_by-same is_call v.name r.log (get_of xs) ∙
-            ap (λ (z : List RecordEvent). z ++ get_of xs ∷ []) f.part.own;
-        marks = (let a = marks_called v.name r.log Get (Content xs) in
-            let b = puts_in_get v.own xs in omega arith);
+        own = made_by-same is_call v.name r.log e ∙
+            ap (λ (z : List RecordEvent). z ++ e ∷ []) f.part.own;
+        marks = (let a = marks_called v.name r.log call reply in
+            let b : puts_in (v.own ++ e ∷ []) ≡ puts_in v.own + 0 =
+            puts_in-append v.own e ∙ ap (λ (n : ℕ). puts_in v.own + n) reads.spends in omega arith);
         knows = tt;
       } in
       let others : OthersKnow P shape s r.log id s.words log' =
       λ i k u away st g. same_knows P shape.width s.words r.log log' u.name u.phase p l m c g in
-      let legal = legal_longer shape.width r.log v.name Get (Content xs) refl (ap Content whole)
-      r.legal in (
+      let legal = legal_longer shape.width r.log v.name call reply reads.ours reads.replies r.legal in (
         record {
           log = log';
           roots = r.roots;
@@ -123,17 +140,15 @@ module _ {enterable : Bool} (P : List ℕ → Type 0) (shape : RecordShape) (s :
           word_is = r.word_is ∙ sym (same_word shape.limits.layout (puts log') (puts r.log)
               (is_locked log') (is_locked r.log) p l);
           few = (let z = r.few in omega (arith, p));
-          fewer = λ e. absurd (true≢false (sym e ∙ (l ∙ free.0)));
+          fewer = λ e. absurd (true≢false (sym e ∙ (l ∙ t.0)));
           rests = λ e i b. r.rests (sym l ∙ e) i b ∙
               ap (λ (d : List ℕ). get_or d i 0) (sym c);
           long = ap length c ∙ r.long;
           rule = subst P (sym c) r.rule;
           passes = one_after P shape s r id v here w refl refl s.words log' grows brings others;
-          writer = λ e. absurd (true≢false (sym e ∙ (l ∙ free.0)));
+          writer = λ e. absurd (true≢false (sym e ∙ (l ∙ t.0)));
         },
         one_consistent P shape s r id v here w refl refl s.words log' grows brings others legal refl,
-        whole,
-        subst P (sym whole) r.rule,
       )
 
   stopping_brings : (word : ℕ) → Brings P shape.width s.words r.log (stopping (finding v word) r.log)
@@ -206,34 +221,95 @@ allows_load_word P shape slots id me puts_before k xs is loading long inside s r
     load_leaves P shape s id me (k + 1) w (λ m. m ≡ alone w)
     (loads P shape s r id v here puts_before xs loading k long inside) (λ i. (w ∷ [], (is i).1))
 
--- the second load of the lock word, by whether it is the word of the first
+-- the second load of the lock word, by whether it is the word of the first, where a call is made then
 confirm_at : {enterable : Bool} (P : List ℕ → Type 0) (shape : RecordShape)
+    (s : State (Unit {0}) (List RecordPassView))
+    (r : IsKept enterable P shape s) (id : ℕ) (me : Seated) (puts_before : ℕ) (xs : List ℕ) →
+    me ≡ alone (first_of me.0) → get_elem? s.views id ≡ some (first_of me.0 ∷ []) →
+    (first_of me.0).phase ≡ Loading puts_before xs → length xs ≡ shape.width →
+    (call : Call) (reply : Reply) → Reads xs call reply → (b : Bool) →
+    eqb (get_or s.words 0 0) (word_with shape.limits.layout puts_before false) ≡ b →
+    Leaves enterable P shape s id me 0 (get_or s.words 0 0) (λ m. MatchBool b
+    (Confirmed shape (first_of me.0) (get_or s.words 0 0) m P xs call reply)
+    (Overtaken shape (first_of me.0) (get_or s.words 0 0) m))
+confirm_at P shape s r id me puts_before xs is here loading long call reply reads true e =
+    let v : RecordPassView = first_of me.0 in
+    let w = calling (finding v (get_or s.words 0 0)) r.log (Called call reply) in
+    let seen = sees P shape s r id v here puts_before xs loading long (eqb-true _ _ e) in
+    let t = confirms P shape s r id v here puts_before xs loading long (eqb-true _ _ e) call reply reads in
+    load_leaves P shape s id me 0 w (λ m. Confirmed shape v (get_or s.words 0 0) m P xs call reply) t.0
+    (record {
+      log = r.log;
+      content = seen.1;
+      rule = seen.2;
+      left = leaves_now P shape s r id v here;
+      replies = subst (λ (content : List ℕ). RecordReplies content call reply) seen.1 reads.replies;
+      after = λ i. (w ∷ [], (is i).1);
+      consistent = t.1;
+    })
+confirm_at P shape s r id me puts_before xs is here loading long call reply reads false e =
+    let v : RecordPassView = first_of me.0 in
+    let word : ℕ = get_or s.words 0 0 in
+    load_knows P shape s r id me is here (loading_quiet P shape s r id v here puts_before xs loading)
+    (stopping (finding v word)) refl refl refl
+    (stopping_brings P shape s r id v here puts_before xs loading word)
+
+-- and where none is made
+see_at : {enterable : Bool} (P : List ℕ → Type 0) (shape : RecordShape)
     (s : State (Unit {0}) (List RecordPassView))
     (r : IsKept enterable P shape s) (id : ℕ) (me : Seated) (puts_before : ℕ) (xs : List ℕ) →
     me ≡ alone (first_of me.0) → get_elem? s.views id ≡ some (first_of me.0 ∷ []) →
     (first_of me.0).phase ≡ Loading puts_before xs → length xs ≡ shape.width → (b : Bool) →
     eqb (get_or s.words 0 0) (word_with shape.limits.layout puts_before false) ≡ b →
     Leaves enterable P shape s id me 0 (get_or s.words 0 0) (λ m. MatchBool b
-    (Confirmed shape (first_of me.0) (get_or s.words 0 0) m P xs)
+    (Saw shape (first_of me.0) (get_or s.words 0 0) m P xs)
     (Overtaken shape (first_of me.0) (get_or s.words 0 0) m))
-confirm_at P shape s r id me puts_before xs is here loading long true e =
+see_at P shape s r id me puts_before xs is here loading long true e =
     let v : RecordPassView = first_of me.0 in
-    let w = calling (finding v (get_or s.words 0 0)) r.log (get_of xs) in
-    let t = confirms P shape s r id v here puts_before xs loading long (eqb-true _ _ e) in
-    load_leaves P shape s id me 0 w (λ m. Confirmed shape v (get_or s.words 0 0) m P xs) t.0 (record {
+    let word : ℕ = get_or s.words 0 0 in
+    let w : RecordPassView = stopping (finding v word) r.log in
+    let t = sees P shape s r id v here puts_before xs loading long (eqb-true _ _ e) in
+    let quiet = loading_quiet P shape s r id v here puts_before xs loading in
+    let brings = stopping_brings P shape s r id v here puts_before xs loading word in
+    load_leaves P shape s id me 0 w (λ m. Saw shape v word m P xs)
+    (only_views P shape s r id v here quiet w refl refl brings) (record {
       log = r.log;
-      content = t.2;
-      rule = t.3;
+      content = t.1;
+      rule = t.2;
       left = leaves_now P shape s r id v here;
+      free = t.0;
       after = λ i. (w ∷ [], (is i).1);
-      consistent = t.1;
+      consistent = only_consistent P shape s r id v here quiet w refl refl brings refl;
     })
-confirm_at P shape s r id me puts_before xs is here loading long false e =
+see_at P shape s r id me puts_before xs is here loading long false e =
     let v : RecordPassView = first_of me.0 in
     let word : ℕ = get_or s.words 0 0 in
     load_knows P shape s r id me is here (loading_quiet P shape s r id v here puts_before xs loading)
     (stopping (finding v word)) refl refl refl
     (stopping_brings P shape s r id v here puts_before xs loading word)
+
+-- what the last load tells, by whether it finds the word of the first
+abbrev TellsBy : RecordShape → Seated → (ℕ → Seated → Type 0) → Bool → ℕ → Seated → Type 0
+TellsBy shape me Told b n m = MatchBool b (Told n m) (Overtaken shape (first_of me.0) n m)
+
+-- the word of the first is that of the phase
+by_phase : (enterable : Bool) (P : List ℕ → Type 0) (shape : RecordShape)
+    (s : State (Unit {0}) (List RecordPassView)) (id : ℕ) (me : Seated) (puts_before : ℕ) (xs : List ℕ) →
+    (first_of me.0).phase ≡ Loading puts_before xs → (Told : ℕ → Seated → Type 0) →
+    Leaves enterable P shape s id me 0 (get_or s.words 0 0) (TellsBy shape me Told
+    (eqb (get_or s.words 0 0) (word_with shape.limits.layout puts_before false)) (get_or s.words 0 0)) →
+    Leaves enterable P shape s id me 0 (get_or s.words 0 0) (TellsBy shape me Told
+    (eqb (get_or s.words 0 0) (word_to_confirm shape.limits.layout (first_of me.0).phase))
+    (get_or s.words 0 0))
+by_phase enterable P shape s id me puts_before xs loading Told t =
+    let n : ℕ = get_or s.words 0 0 in (
+      t.0,
+      t.1,
+      t.2,
+      t.3,
+      subst (λ (b : Bool). TellsBy shape me Told b n (t.0, carried_after me.1 t.1))
+          (ap (λ (z : RecordPhase). eqb n (word_to_confirm shape.limits.layout z)) (sym loading)) t.4,
+    )
 
 pub allows_confirm : {enterable : Bool} (P : List ℕ → Type 0) (shape : RecordShape) (slots id : ℕ) (me : Seated)
     (puts_before : ℕ)
@@ -241,20 +317,33 @@ pub allows_confirm : {enterable : Bool} (P : List ℕ → Type 0) (shape : Recor
     length xs ≡ shape.width →
     Allows (IsKept enterable P shape) slots id me 0 (λ n. n)
     (ConfirmTells P shape xs (step slots 0 0 0 none) me)
-allows_confirm P shape slots id me puts_before xs is loading long s r _ there _ =
-    let v : RecordPassView = first_of me.0 in
-    let here : get_elem? s.views id ≡ some (v ∷ []) =
-    there ∙ ap (λ (m : Seated). some m.0) is in
-    let n : ℕ = get_or s.words 0 0 in
-    let layout = shape.limits.layout in
-    let t = confirm_at P shape s r id me puts_before xs is here loading long
-    (eqb n (word_with layout puts_before false)) refl in
-    let same : eqb n (word_with layout puts_before false) ≡ eqb n (word_to_confirm layout v.phase) =
-    ap (λ (z : RecordPhase). eqb n (word_to_confirm layout z)) (sym loading) in (
-      t.0,
-      t.1,
-      t.2,
-      t.3,
-      subst (λ (b : Bool). MatchBool b (Confirmed shape v n (t.0, carried_after me.1 t.1) P xs)
-          (Overtaken shape v n (t.0, carried_after me.1 t.1))) same t.4,
-    )
+allows_confirm {enterable} P shape slots id me puts_before xs is loading long s r _ there _ =
+    by_phase enterable P shape s id me puts_before xs loading
+    (λ n m. Confirmed shape (first_of me.0) n m P xs Get (Content xs))
+    (confirm_at P shape s r id me puts_before xs is (there ∙ ap (λ (m : Seated). some m.0) is) loading long
+    Get (Content xs) (get_reads xs) _ refl)
+
+pub allows_see : {enterable : Bool} (P : List ℕ → Type 0) (shape : RecordShape) (slots id : ℕ) (me : Seated)
+    (puts_before : ℕ)
+    (xs : List ℕ) → me ≡ alone (first_of me.0) → (first_of me.0).phase ≡ Loading puts_before xs →
+    length xs ≡ shape.width →
+    Allows (IsKept enterable P shape) slots id me 0 (λ n. n)
+    (SeeTells P shape xs (step slots 0 0 0 none) me)
+allows_see {enterable} P shape slots id me puts_before xs is loading long s r _ there _ =
+    by_phase enterable P shape s id me puts_before xs loading
+    (λ n m. Saw shape (first_of me.0) n m P xs)
+    (see_at P shape s r id me puts_before xs is (there ∙ ap (λ (m : Seated). some m.0) is) loading long
+    _ refl)
+
+pub allows_deny : {enterable : Bool} (P : List ℕ → Type 0) (shape : RecordShape) (slots id : ℕ) (me : Seated)
+    (puts_before : ℕ)
+    (xs expected words : List ℕ) → me ≡ alone (first_of me.0) →
+    (first_of me.0).phase ≡ Loading puts_before xs →
+    length xs ≡ shape.width → xs ≢ expected →
+    Allows (IsKept enterable P shape) slots id me 0 (λ n. n)
+    (DenyTells P shape xs expected words (step slots 0 0 0 none) me)
+allows_deny {enterable} P shape slots id me puts_before xs expected words is loading long differ s r _ there _ =
+    by_phase enterable P shape s id me puts_before xs loading
+    (λ n m. Confirmed shape (first_of me.0) n m P xs (PutIf expected words) No)
+    (confirm_at P shape s r id me puts_before xs is (there ∙ ap (λ (m : Seated). some m.0) is) loading long
+    (PutIf expected words) No (no_reads xs expected words differ) _ refl)

@@ -1,5 +1,5 @@
 -- Each step of a put keeps the rule, and tells what it is to tell.
-use Rattle.std.proofs.Common.{◌≡◌, ◌≢◌, ℕ, ◌+◌, ◌<◌, ◌==◌, eqb, Bool, true, false, true≢false, List}
+use Rattle.std.proofs.Common.{◌≡◌, ◌≢◌, ℕ, ◌+◌, ◌<◌, ◌≤◌, ◌==◌, eqb, Bool, true, false, true≢false, List}
 use Rattle.std.proofs.Common.{MatchBool, [], ◌∷◌, ◌++◌, length, set, get_or, refl, ap, sym, ◌∙◌}
 use Rattle.std.proofs.Common.{subst, arith, length-set, get_or-set_same, get_or-set_other, le_refl}
 use Rattle.std.proofs.Common.{eq-eqb, append-nil, inl, inr}
@@ -10,29 +10,32 @@ use mathlib.Core.Option.{none, some}
 use lib.ListN.{get_elem?}
 use prog.Atomic.{either}
 use Rattle.atomic_table.specs.Table.{State, keeps, step, Allows}
-use Rattle.stamp_core.specs.declared.call.Call.TheVariants.{Put}
-use Rattle.stamp_core.specs.declared.reply.Reply.TheVariants.{Done}
+use Rattle.stamp_core.specs.declared.call.Call.{Call}
+use Rattle.stamp_core.specs.declared.call.Call.TheVariants.{Put, PutIf}
+use Rattle.stamp_core.specs.declared.reply.Reply.{Reply}
+use Rattle.stamp_core.specs.declared.reply.Reply.TheVariants.{Done, Yes}
 use Rattle.stamp_threads.specs.declared.record_view.RecordShape.{RecordShape}
 use Rattle.stamp_threads.specs.declared.record_view.RecordEvent.{RecordEvent}
-use Rattle.stamp_threads.specs.declared.record_view.RecordEvent.TheVariants.{Mark}
+use Rattle.stamp_threads.specs.declared.record_view.RecordEvent.TheVariants.{Mark, Called}
 use Rattle.stamp_threads.specs.declared.record_view.RecordPhase.{RecordPhase}
 use Rattle.stamp_threads.specs.declared.record_view.RecordPhase.TheVariants.{Idle, Writing}
 use Rattle.stamp_threads.specs.PassView.{entry, knowing, finding}
 use Rattle.stamp_threads.specs.Seats.{StandsAt, alone}
 use Rattle.stamp_threads.specs.RecordWord.{word_with, writer_unit}
-use Rattle.stamp_threads.specs.RecordLog.{puts, puts_in, is_locked, is_call}
+use Rattle.stamp_threads.specs.RecordLog.{puts, puts_in, content_in, is_locked, is_call}
 use Rattle.stamp_threads.specs.RecordPass.{RecordPassView, Seated, IsConsistentWith, marks_ahead, first_of}
 use Rattle.stamp_threads.specs.RecordRule.{KnowsWriting, Knows, IsWriting, IsKept}
-use Rattle.stamp_threads.specs.RecordRule.{acquiring, calling, put_of, LoadedForPut, Acquired}
+use Rattle.stamp_threads.specs.RecordRule.{acquiring, calling, LoadedForPut, Acquired, Released}
 use Rattle.stamp_threads.specs.RecordRule.{storing_one, stored_one, LoadForPutTells, AcquireTells}
-use Rattle.stamp_threads.specs.RecordRule.{StoreWordTells, ReleaseTells}
+use Rattle.stamp_threads.specs.RecordRule.{StoreWordTells, ReleaseTells, ReleaseOverTells}
 use Rattle.stamp_threads.proofs.Beginnings.{begins_all}
 use Rattle.stamp_threads.proofs.MadeBy.{grows_none, grows_one, made_by-same}
 use Rattle.stamp_threads.proofs.RecordWords.{free_of, same_word, held_is, released_is}
 use Rattle.stamp_threads.proofs.RecordLogs.{locked_longer, marker_longer, content_marked}
 use Rattle.stamp_threads.proofs.RecordLogs.{content_longer, legal_marked, legal_longer}
-use Rattle.stamp_threads.proofs.RecordLogs.{marks_marked, marks_called, puts_marked, puts_put}
-use Rattle.stamp_threads.proofs.RecordLogs.{puts_in_put}
+use Rattle.stamp_threads.proofs.RecordLogs.{marks_marked, marks_called, puts_marked, puts_longer}
+use Rattle.stamp_threads.proofs.RecordLogs.{puts_in-append, content_same, Writes, put_writes}
+use Rattle.stamp_threads.proofs.RecordLogs.{over_writes}
 use Rattle.stamp_threads.proofs.RecordSteps.{Brings, OthersKnow, fits_here, leaves_now, not_other}
 use Rattle.stamp_threads.proofs.RecordSteps.{one_after, one_consistent, one_stands}
 use Rattle.stamp_threads.proofs.RecordSteps.{knowing_brings, load_knows}
@@ -183,35 +186,41 @@ module _ {enterable : Bool} (P : List ℕ → Type 0) (shape : RecordShape) (s :
   -- the words are the record's
   releases : (puts_before free : ℕ) (xs : List ℕ) → v.phase ≡ Writing puts_before xs shape.width →
       free ≡ word_with shape.limits.layout (puts_before + 1) false →
-      (held : ℕ) →
-      KeptBy enterable P shape s id (calling (finding v held) r.log (put_of xs)) (set s.words 0 free) ×
-      IsConsistentWith shape.width (calling (finding v held) r.log (put_of xs))
-  releases puts_before free xs writing is held =
-      let w = calling (finding v held) r.log (put_of xs) in
-      let log' = r.log ++ entry v.name (put_of xs) ∷ [] in
+      (held : ℕ) (call : Call) (reply : Reply) → Writes (content_in shape.width r.log) xs call reply →
+      KeptBy enterable P shape s id (calling (finding v held) r.log (Called call reply)) (set s.words 0 free) ×
+      IsConsistentWith shape.width (calling (finding v held) r.log (Called call reply)) ×
+      (puts (r.log ++ entry v.name (Called call reply) ∷ []) ≤ shape.limits.versions)
+  releases puts_before free xs writing is held call reply writes =
+      let e = Called call reply in
+      let w = calling (finding v held) r.log e in
+      let log' = r.log ++ entry v.name e ∷ [] in
       let table_words' : List ℕ = set s.words 0 free in
       let f = fits_here P shape s r id v here in
       let k = what puts_before shape.width xs writing in
       let z = r.wide in
-      let more = puts_put r.log v.name xs in
-      let now = locked_longer r.log v.name (put_of xs) in
-      let holds = content_longer shape.width r.log v.name (Put xs) Done in
-      let grows = grows_one v r.log (put_of xs) in
+      let more : puts log' ≡ puts r.log + 1 =
+      puts_longer r.log v.name e ∙ ap (λ (n : ℕ). puts r.log + n) writes.spends in
+      let now = locked_longer r.log v.name e ∙ writes.frees (is_locked r.log) in
+      let holds = content_longer shape.width r.log v.name call reply ∙ writes.leaves in
+      let grows = grows_one v r.log e in
       let ahead : marks_ahead v.phase ≡ 1 = ap marks_ahead writing in
       let had = f.marks in
       let brings : Brings P shape.width table_words' log' w = record {
         known = begins_all log';
-        own = made_by-same is_call v.name r.log (put_of xs) ∙
-            ap (λ (l : List RecordEvent). l ++ put_of xs ∷ []) f.part.own;
-        marks = (let m = marks_called v.name r.log (Put xs) Done in
-            let p = puts_in_put v.own xs in omega arith);
+        own = made_by-same is_call v.name r.log e ∙
+            ap (λ (l : List RecordEvent). l ++ e ∷ []) f.part.own;
+        marks = (let m = marks_called v.name r.log call reply in
+            let p : puts_in (v.own ++ e ∷ []) ≡ puts_in v.own + 1 =
+            puts_in-append v.own e ∙ ap (λ (n : ℕ). puts_in v.own + n) writes.spends in omega arith);
         knows = tt;
       } in
       let others : OthersKnow P shape s r.log id table_words' log' =
       λ i j u away st h. quiet_knows P shape.width s.words table_words' r.log log' u.name u.phase
       (omega (arith, more)) (inr (omega (arith, more)))
       (alone_writes puts_before shape.width xs writing i j u away st h) h in
-      let legal = legal_longer shape.width r.log v.name (Put xs) Done refl refl r.legal in (
+      let few : puts log' ≤ shape.limits.versions =
+      (let l = r.fewer k.locked in omega (arith, more)) in
+      let legal = legal_longer shape.width r.log v.name call reply writes.ours writes.replies r.legal in (
         record {
           log = log';
           roots = r.roots;
@@ -221,7 +230,7 @@ module _ {enterable : Bool} (P : List ℕ → Type 0) (shape : RecordShape) (s :
           word_is = get_or-set_same s.words 0 free 0 (omega arith) ∙
               (is ∙ sym (same_word shape.limits.layout (puts log') (puts_before + 1) (is_locked log')
               false (more ∙ ap (λ (y : ℕ). y + 1) k.puts_are) now));
-          few = (let l = r.fewer k.locked in omega (arith, more));
+          few = few;
           fewer = λ e. absurd (true≢false (sym e ∙ now));
           rests = λ _ i l. get_or-set_other s.words 0 (i + 1) free 0 (λ e. omega arith) ∙
               (k.stand i l ∙ ap (λ (c : List ℕ). get_or c i 0) (sym holds));
@@ -231,6 +240,7 @@ module _ {enterable : Bool} (P : List ℕ → Type 0) (shape : RecordShape) (s :
           writer = λ e. absurd (true≢false (sym e ∙ now));
         },
         one_consistent P shape s r id v here w refl refl table_words' log' grows brings others legal refl,
+        few,
       )
 
 -- a load that a put begins with
@@ -315,20 +325,20 @@ allows_store_word P shape slots id me puts_before stored x xs is writing inside 
       λ i. (stored_one v ∷ [], (is i).1),
     )
 
--- the exchange that releases
-pub allows_release : (enterable : Bool) (P : List ℕ → Type 0) (shape : RecordShape) (slots id : ℕ) (me : Seated)
-    (puts_before held free : ℕ)
-    (xs : List ℕ) → me ≡ alone (first_of me.0) →
+-- the exchange that releases, by the call that it makes
+release_at : (enterable : Bool) (P : List ℕ → Type 0) (shape : RecordShape)
+    (s : State (Unit {0}) (List RecordPassView)) (r : IsKept enterable P shape s) (id : ℕ) (me : Seated)
+    (puts_before held free : ℕ) (xs : List ℕ) → me ≡ alone (first_of me.0) →
+    get_elem? s.views id ≡ some (first_of me.0 ∷ []) →
     (first_of me.0).phase ≡ Writing puts_before xs shape.width →
     held ≡ word_with shape.limits.layout puts_before true →
     free ≡ held + writer_unit shape.limits.layout →
-    Allows (IsKept enterable P shape) slots id me 0 (λ m. either (m == held) free m)
-    (ReleaseTells shape xs (step slots 0 held free none) me)
-allows_release enterable P shape slots id me puts_before held free xs is writing down up s r _ there _ =
+    (call : Call) (reply : Reply) → Writes (content_in shape.width r.log) xs call reply →
+    Leaves enterable P shape s id me 0 (either (eqb (get_or s.words 0 0) held) free (get_or s.words 0 0))
+    (λ m. Released shape (first_of me.0) held m call reply)
+release_at enterable P shape s r id me puts_before held free xs is here writing down up call reply writes =
     let v : RecordPassView = first_of me.0 in
-    let here : get_elem? s.views id ≡ some (v ∷ []) =
-    there ∙ ap (λ (m : Seated). some m.0) is in
-    let w = calling (finding v held) r.log (put_of xs) in
+    let w = calling (finding v held) r.log (Called call reply) in
     let k = what P shape s r id v here puts_before shape.width xs writing in
     let same : get_or s.words 0 0 ≡ held =
     r.word_is ∙ (same_word shape.limits.layout (puts r.log) puts_before (is_locked r.log) true
@@ -336,7 +346,7 @@ allows_release enterable P shape slots id me puts_before held free xs is writing
     let up' : free ≡ word_with shape.limits.layout (puts_before + 1) false =
     up ∙ (ap (λ (y : ℕ). y + writer_unit shape.limits.layout) down ∙
     sym (released_is shape.limits.layout puts_before)) in
-    let t = releases P shape s r id v here puts_before free xs writing up' held in (
+    let t = releases P shape s r id v here puts_before free xs writing up' held call reply writes in (
       w ∷ [],
       keeps,
       tt,
@@ -346,8 +356,45 @@ allows_release enterable P shape slots id me puts_before held free xs is writing
         log = r.log;
         begins = (fits_here P shape s r id v here).part.known;
         word_is = sym same ∙ r.word_is;
+        replies = writes.replies;
         after = λ i. (w ∷ [], (is i).1);
-        few = (let l = r.fewer k.locked in let p = puts_put r.log v.name xs in omega arith);
+        few = t.2;
         consistent = t.1;
       },
     )
+
+pub allows_release : (enterable : Bool) (P : List ℕ → Type 0) (shape : RecordShape) (slots id : ℕ) (me : Seated)
+    (puts_before held free : ℕ)
+    (xs : List ℕ) → me ≡ alone (first_of me.0) →
+    (first_of me.0).phase ≡ Writing puts_before xs shape.width →
+    held ≡ word_with shape.limits.layout puts_before true →
+    free ≡ held + writer_unit shape.limits.layout →
+    Allows (IsKept enterable P shape) slots id me 0 (λ m. either (m == held) free m)
+    (ReleaseTells shape xs (step slots 0 held free none) me)
+allows_release enterable P shape slots id me puts_before held free xs is writing down up s r _ there _ =
+    release_at enterable P shape s r id me puts_before held free xs is
+    (there ∙ ap (λ (m : Seated). some m.0) is) writing down up (Put xs) Done
+    (put_writes (content_in shape.width r.log) xs)
+
+-- nothing was put since the pass got write mode, so the record's content is the one that the pass knows
+pub allows_release_over : (enterable : Bool) (P : List ℕ → Type 0) (shape : RecordShape) (slots id : ℕ)
+    (me : Seated) (puts_before held free : ℕ)
+    (xs : List ℕ) → me ≡ alone (first_of me.0) →
+    (first_of me.0).phase ≡ Writing puts_before xs shape.width →
+    held ≡ word_with shape.limits.layout puts_before true →
+    free ≡ held + writer_unit shape.limits.layout →
+    puts (first_of me.0).known ≡ puts_before →
+    Allows (IsKept enterable P shape) slots id me 0 (λ m. either (m == held) free m)
+    (ReleaseOverTells shape xs (step slots 0 held free none) me)
+allows_release_over enterable P shape slots id me puts_before held free xs is writing down up at s r _ there _ =
+    let v : RecordPassView = first_of me.0 in
+    let here : get_elem? s.views id ≡ some (v ∷ []) =
+    there ∙ ap (λ (m : Seated). some m.0) is in
+    let k = what P shape s r id v here puts_before shape.width xs writing in
+    let same : content_in shape.width r.log ≡ content_in shape.width v.known =
+    content_same shape.width v.known r.log (fits_here P shape s r id v here).part.known
+    (k.puts_are ∙ sym at) in
+    let old = content_in shape.width v.known in
+    release_at enterable P shape s r id me puts_before held free xs is here writing down up
+    (PutIf old xs) Yes
+    (subst (λ (c : List ℕ). Writes c xs (PutIf old xs) Yes) (sym same) (over_writes old xs))

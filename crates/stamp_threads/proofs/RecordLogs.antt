@@ -1,14 +1,18 @@
 -- Histories of a running record that grow by an event.
-use Rattle.std.proofs.Common.{◌≡◌, ℕ, ◌+◌, false, List, [], ◌∷◌, ◌++◌, length}
+use Rattle.std.proofs.Common.{◌≡◌, ◌≢◌, ℕ, ◌+◌, Bool, true, false, if◌then◌else◌, List, [], ◌∷◌, ◌++◌, length}
 use Rattle.std.proofs.Common.{map, refl, ap, sym, ◌∙◌, subst, length-append, append-nil, arith}
 use Rattle.std.proofs.Common.{append_assoc}
 use Rattle.std.proofs.lemmas.List.{map-append}
+use lib.Pointwise.{bytes_decides}
+use mathlib.Core.List.{IsPrefix}
 use Rattle.stamp_core.specs.Limits.{Bounds}
 use Rattle.stamp_core.specs.Call.{is_lock_call}
-use Rattle.stamp_core.specs.Content.{zeros, content_next, RecordReplies}
-use Rattle.stamp_core.specs.History.{History, IsReply, IsLegal, content_after, events_of}
+use Rattle.stamp_core.specs.Content.{zeros, content_next, same_words, RecordReplies}
+use Rattle.stamp_core.specs.History.{History, IsReply, IsLegal, content_from, content_after, events_of}
 use Rattle.stamp_core.specs.declared.call.Call.{Call}
+use Rattle.stamp_core.specs.declared.call.Call.TheVariants.{Get, Put, PutIf}
 use Rattle.stamp_core.specs.declared.reply.Reply.{Reply}
+use Rattle.stamp_core.specs.declared.reply.Reply.TheVariants.{Yes, No, Done, Content, Stamp, Mismatch, Count}
 use Rattle.stamp_core.proofs.Linearizing.{content_from-append, legal_more}
 use Rattle.stamp_threads.specs.declared.pass_view.LogEntry.{LogEntry}
 use Rattle.stamp_threads.specs.declared.record_view.RecordEvent.{RecordEvent}
@@ -18,8 +22,7 @@ use Rattle.stamp_threads.specs.RecordLog.{RecordLog, calls_in, history_in, conte
 use Rattle.stamp_threads.specs.RecordLog.{AreRecordCalls, IsLegalLog, put_in, puts_in, puts}
 use Rattle.stamp_threads.specs.RecordLog.{leaving, locked_then, is_locked, marker_then, marker_in}
 use Rattle.stamp_threads.specs.RecordLog.{is_mark, marks_of}
-use Rattle.stamp_threads.specs.RecordRule.{put_of, get_of}
-use Rattle.stamp_threads.proofs.MadeBy.{made_by-same}
+use Rattle.stamp_threads.proofs.MadeBy.{made_by-same, other_name}
 
 leaving-append : {C : Type 0} (f : C → LogEntry RecordEvent → C) (c : C) (xs ys : RecordLog) →
     leaving f c (xs ++ ys) ≡ leaving f (leaving f c xs) ys
@@ -121,23 +124,92 @@ puts_marked log name =
     let h : puts (log ++ entry name Mark ∷ []) ≡ puts log + 0 = puts_longer log name Mark in
     omega (arith, h)
 
-pub puts_put : (log : RecordLog) (name words : List ℕ) →
-    puts (log ++ entry name (put_of words) ∷ []) ≡ puts log + 1
-puts_put log name words = puts_longer log name (put_of words)
+-- a call that puts nothing leaves the content
+content_kept : (content : List ℕ) (call : Call) (reply : Reply) → put_in (Called call reply) ≡ 0 →
+    content_next content call reply ≡ content
+content_kept content (Put words) _ h = absurd (omega (arith, h))
+content_kept content (PutIf expected words) Yes h = absurd (omega (arith, h))
+content_kept content (PutIf expected words) No h = refl
+content_kept content (PutIf expected words) Done h = refl
+content_kept content (PutIf expected words) Mismatch h = refl
+content_kept content (PutIf expected words) (Stamp s) h = refl
+content_kept content (PutIf expected words) (Count n) h = refl
+content_kept content (PutIf expected words) (Content w) h = refl
+content_kept content _ _ h = refl
 
-pub puts_get : (log : RecordLog) (name words : List ℕ) →
-    puts (log ++ entry name (get_of words) ∷ []) ≡ puts log
-puts_get log name words =
-    let h : puts (log ++ entry name (get_of words) ∷ []) ≡ puts log + 0 =
-    puts_longer log name (get_of words) in
-    omega (arith, h)
+event_kept : (content : List ℕ) (e : RecordEvent) (rest : History) → put_in e ≡ 0 →
+    content_from content (calls_in e ++ rest) ≡ content_from content rest
+event_kept content Mark rest h = refl
+event_kept content (Called call reply) rest h =
+    ap (λ (c : List ℕ). content_from c rest) (content_kept content call reply h)
 
-pub puts_in_put : (es : List RecordEvent) (words : List ℕ) →
-    puts_in (es ++ put_of words ∷ []) ≡ puts_in es + 1
-puts_in_put es words = puts_in-append es (put_of words)
+content_still : (content : List ℕ) (log : RecordLog) → puts log ≡ 0 →
+    content_from content (history_in log) ≡ content
+content_still content [] h = refl
+content_still content (x ∷ log) h =
+    let first : put_in x.made ≡ 0 = omega (arith, h) in
+    let more : puts log ≡ 0 = omega (arith, h) in
+    event_kept content x.made (history_in log) first ∙ content_still content log more
 
-pub puts_in_get : (es : List RecordEvent) (words : List ℕ) →
-    puts_in (es ++ get_of words ∷ []) ≡ puts_in es
-puts_in_get es words =
-    let h : puts_in (es ++ get_of words ∷ []) ≡ puts_in es + 0 = puts_in-append es (get_of words) in
-    omega (arith, h)
+puts-append : (xs ys : RecordLog) → puts (xs ++ ys) ≡ puts xs + puts ys
+puts-append [] ys = omega arith
+puts-append (x ∷ xs) ys = let h = puts-append xs ys in omega (arith, h)
+
+-- while nothing is put the content stays
+pub content_same : (width : ℕ) (xs ys : RecordLog) → IsPrefix xs ys → puts ys ≡ puts xs →
+    content_in width ys ≡ content_in width xs
+content_same width xs ys begins same =
+    let rest = begins.0 in
+    let none : puts rest ≡ 0 =
+    (let a = puts-append xs rest in let b = ap puts begins.1 in omega (arith, a, b, same)) in
+    ap (content_in width) (sym begins.1) ∙
+    (ap (content_after width) (history-append xs rest) ∙
+    (content_from-append (zeros width) (history_in xs) (history_in rest) ∙
+    content_still (content_in width xs) rest none))
+
+pub same_words_refl : (words : List ℕ) → same_words words words ≡ true
+same_words_refl words = (bytes_decides words words).1 refl
+
+-- a call that puts these words over this content
+pub record Writes (content words : List ℕ) (call : Call) (reply : Reply) : Type 0 where
+  pub ours : is_lock_call call ≡ false
+  pub replies : RecordReplies content call reply
+  pub leaves : content_next content call reply ≡ words
+  pub spends : put_in (Called call reply) ≡ 1
+  pub frees : (locked : Bool) → locked_then locked (Called call reply) ≡ false
+
+pub put_writes : (content words : List ℕ) → Writes content words (Put words) Done
+put_writes content words =
+    record { ours = refl; replies = refl; leaves = refl; spends = refl; frees = λ _. refl }
+
+pub over_writes : (content words : List ℕ) → Writes content words (PutIf content words) Yes
+over_writes content words = record {
+  ours = refl;
+  replies = sym (ap (λ (b : Bool). if b then Yes else No) (same_words_refl content));
+  leaves = refl;
+  spends = refl;
+  frees = λ _. refl;
+}
+
+-- a call that puts nothing
+pub record Reads (content : List ℕ) (call : Call) (reply : Reply) : Type 0 where
+  pub ours : is_lock_call call ≡ false
+  pub replies : RecordReplies content call reply
+  pub leaves : content_next content call reply ≡ content
+  pub spends : put_in (Called call reply) ≡ 0
+  pub keeps : (locked : Bool) → locked_then locked (Called call reply) ≡ locked
+
+pub get_reads : (content : List ℕ) → Reads content Get (Content content)
+get_reads content =
+    record { ours = refl; replies = refl; leaves = refl; spends = refl; keeps = λ _. refl }
+
+pub no_reads : (content expected words : List ℕ) → content ≢ expected →
+    Reads content (PutIf expected words) No
+no_reads content expected words differ = record {
+  ours = refl;
+  replies = sym (ap (λ (b : Bool). if b then Yes else No)
+      (other_name (same_words content expected) content expected refl differ));
+  leaves = refl;
+  spends = refl;
+  keeps = λ _. refl;
+}

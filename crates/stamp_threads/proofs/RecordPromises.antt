@@ -1,28 +1,32 @@
 -- What a pass learns by the steps of a call of a record, put together.
 use Rattle.std.proofs.Common.{◌≡◌, ◌≢◌, ℕ, ◌+◌, ◌<◌, ◌≤◌, ◌%◌, ◌^◌, eqb, Bool, true, false}
-use Rattle.std.proofs.Common.{if◌then◌else◌, MatchBool, List, [], refl, ap, sym, ◌∙◌, subst}
+use Rattle.std.proofs.Common.{if◌then◌else◌, MatchBool, List, [], refl, ap, sym, ◌∙◌, subst, length, true≢false}
 use Rattle.std.proofs.Common.{◌∷◌, ◌++◌, append_assoc, arith, eq-eqb, ne_eqb}
-use Rattle.stamp_core.specs.declared.call.Call.TheVariants.{Get, Put}
-use Rattle.stamp_core.specs.declared.reply.Reply.TheVariants.{Content, Done}
+use Rattle.stamp_core.specs.declared.call.Call.{Call}
+use Rattle.stamp_core.specs.declared.call.Call.TheVariants.{Get, Put, PutIf}
+use Rattle.stamp_core.specs.declared.reply.Reply.{Reply}
+use Rattle.stamp_core.specs.declared.reply.Reply.TheVariants.{Content, Done, Yes, No}
 use Rattle.stamp_threads.specs.declared.record_view.RecordPhase.{RecordPhase}
 use Rattle.stamp_core.specs.Limits.{AreInRange}
 use Rattle.stamp_threads.specs.declared.record_view.RecordShape.{RecordShape}
 use Rattle.stamp_threads.specs.declared.record_view.RecordPhase.TheVariants.{Idle, Loading, Writing}
-use Rattle.stamp_threads.specs.declared.record_view.RecordEvent.TheVariants.{Mark}
+use Rattle.stamp_threads.specs.declared.record_view.RecordEvent.TheVariants.{Mark, Called}
 use Rattle.stamp_threads.specs.PassView.{entry, knowing, finding, HasFound}
 use Rattle.stamp_threads.specs.Seats.{alone, both}
 use Rattle.stamp_threads.specs.RecordWord.{version_unit, writer_unit, word_with}
-use Rattle.stamp_threads.specs.RecordLog.{RecordLog, puts, is_locked}
+use Rattle.stamp_threads.specs.RecordLog.{RecordLog, put_in, puts, is_locked, content_in}
 use Rattle.stamp_threads.specs.RecordPass.{RecordPassView, Seated, LeavesWord, first_of, second_of}
 use Rattle.stamp_threads.specs.RecordRule.{with_phase, starting_to_load, acquiring, LoadedForPut}
 use Rattle.stamp_threads.specs.RecordRule.{Acquired, LoadedForGet, Released}
-use Rattle.stamp_threads.specs.RecordRule.{Confirmed, Overtaken, word_to_confirm, Met}
+use Rattle.stamp_threads.specs.RecordRule.{Confirmed, Saw, Overtaken, word_to_confirm, Met}
 use Rattle.stamp_threads.specs.RecordCall.{MadeOnRecord, KnowsWord, WasBusy, WasLost, WasSpent}
-use Rattle.stamp_threads.specs.RecordCall.{RecordPassesMet}
+use Rattle.stamp_threads.specs.RecordCall.{words_found, last_found}
+use Rattle.stamp_threads.specs.RecordCall.{RecordPassesMet, HasSeen, StandsAtWord, NoneLeft, WasOvertaken}
 use Rattle.stamp_threads.proofs.Beginnings.{begins_further, begins_more}
 use Rattle.stamp_threads.proofs.SamePass.{no_call_by}
-use Rattle.stamp_threads.proofs.RecordLogs.{puts_get}
+use Rattle.stamp_threads.proofs.RecordLogs.{puts_longer, puts_marked, content_marked, content_same}
 use Rattle.stamp_threads.proofs.RecordWords.{held_test, writes_in, puts_of, held_is, same_word, word_small, word_large}
+use Rattle.stamp_threads.proofs.RecordWords.{free_of}
 
 -- two seats after a meeting
 pub have_met : (shape : RecordShape) (v u : RecordPassView) (me : Seated)
@@ -229,26 +233,34 @@ module _ (shape : RecordShape) (v : RecordPassView) (loaded : ℕ) where
         (loads (puts t.log) (ap (λ (m : Seated). (first_of m.0).phase) opens) ∙
         ap (λ (m : Seated). alone (with_phase (first_of m.0) (Loading (puts t.log) words))) opens)
 
-    abbrev Learned : ℕ → Seated → RecordPassView → Type 0
-    Learned found me3 u = MatchBool (eqb found (word_to_confirm shape.limits.layout u.phase))
-        (Confirmed shape u found me3 P words) (Overtaken shape u found me3)
+    -- where the last load finds the word again, it tells this
+    module _ (Told : RecordPassView → ℕ → Seated → Type 0) where
+      abbrev Learned : ℕ → Seated → RecordPassView → Type 0
+      Learned found me3 u = MatchBool (eqb found (word_to_confirm shape.limits.layout u.phase))
+          (Told u found me3) (Overtaken shape u found me3)
 
-    abbrev LearnedBy : ℕ → Seated → Bool → Type 0
-    LearnedBy found me3 b = MatchBool b (Confirmed shape reads found me3 P words)
-        (Overtaken shape reads found me3)
+      abbrev LearnedBy : ℕ → Seated → Bool → Type 0
+      LearnedBy found me3 b = MatchBool b (Told reads found me3) (Overtaken shape reads found me3)
 
-    learned_by : (found : ℕ) (me3 : Seated) (b : Bool) → eqb found loaded ≡ b →
-        Learned found me3 (first_of me2.0) → LearnedBy found me3 b
-    learned_by found me3 b is learned =
-        subst (LearnedBy found me3)
-        (ap (λ (n : ℕ). eqb found n) (sym (free_word shape v loaded t.log t.left free_now)) ∙ is)
-        (subst (Learned found me3) reads_is learned)
+      learned_by : (found : ℕ) (me3 : Seated) (b : Bool) → eqb found loaded ≡ b →
+          Learned found me3 (first_of me2.0) → LearnedBy found me3 b
+      learned_by found me3 b is learned =
+          subst (LearnedBy found me3)
+          (ap (λ (n : ℕ). eqb found n) (sym (free_word shape v loaded t.log t.left free_now)) ∙ is)
+          (subst (Learned found me3) reads_is learned)
 
-    get_lost : (found : ℕ) (me3 : Seated) → Learned found me3 (first_of me2.0) → found ≢ loaded →
+    abbrev TellsGot : RecordPassView → ℕ → Seated → Type 0
+    TellsGot u found me3 = Confirmed shape u found me3 P words Get (Content words)
+
+    abbrev TellsSeen : RecordPassView → ℕ → Seated → Type 0
+    TellsSeen u found me3 = Saw shape u found me3 P words
+
+    get_lost : (Told : RecordPassView → ℕ → Seated → Type 0) (found : ℕ) (me3 : Seated) →
+        Learned Told found me3 (first_of me2.0) → found ≢ loaded →
         WasLost shape v loaded found (first_of me3.0)
-    get_lost found me3 learned differ =
+    get_lost Told found me3 learned differ =
         let o : Overtaken shape reads found me3 =
-        learned_by found me3 false (ne_eqb found loaded differ) learned in
+        learned_by Told found me3 false (ne_eqb found loaded differ) learned in
         subst (λ (m : Seated). WasLost shape v loaded found (first_of m.0)) (sym o.after)
         (lost_after t.log (Loading (puts t.log) words) found _ t.left free_now differ (record {
           left = o.left;
@@ -258,43 +270,80 @@ module _ (shape : RecordShape) (v : RecordPassView) (loaded : ℕ) where
           consistent = o.consistent;
         }) refl)
 
-    get_made : (found : ℕ) (me3 : Seated) → Learned found me3 (first_of me2.0) → found ≡ loaded →
-        MadeOnRecord shape Get (Content words) v (first_of me3.0)
-    get_made found me3 learned same =
-        let o : Confirmed shape reads found me3 P words =
-        learned_by found me3 true (eq-eqb found loaded same) learned in
-        subst (λ (m : Seated). MadeOnRecord shape Get (Content words) v (first_of m.0)) (sym o.after)
-        (record {
-          log = o.log;
-          first = t.log;
-          at_first = t.left;
-          longer = o.left.begins;
-          left = sym same ∙ o.left.word_is;
-          replies = ap Content o.content;
-          known = refl;
-          own = refl;
-          same = record { name = refl; splits = refl };
-          idle = refl;
-          few = (let p = puts_get o.log v.name words in let l = o.left.few in omega arith);
-          consistent = o.consistent;
-          word = loaded;
-          has_found = append_assoc v.found (loaded ∷ []) (found ∷ []) ∙
-              ap (λ (n : ℕ). v.found ++ loaded ∷ n ∷ []) same;
-        })
+    -- a call that puts nothing is made
+    module _ (call : Call) (reply : Reply)
+        (two : words_found shape.limits.layout call reply loaded ≡ loaded ∷ loaded ∷ [])
+        (last : last_found shape.limits.layout call reply loaded ≡ loaded)
+        (none : put_in (Called call reply) ≡ 0) where
+      abbrev TellsMade : RecordPassView → ℕ → Seated → Type 0
+      TellsMade u found me3 = Confirmed shape u found me3 P words call reply
 
-    get_rule : (found : ℕ) (me3 : Seated) → Learned found me3 (first_of me2.0) → found ≡ loaded →
+      made : (found : ℕ) (me3 : Seated) → Learned TellsMade found me3 (first_of me2.0) → found ≡ loaded →
+          MadeOnRecord shape call reply v (first_of me3.0)
+      made found me3 learned same =
+          let o : TellsMade reads found me3 =
+          learned_by TellsMade found me3 true (eq-eqb found loaded same) learned in
+          subst (λ (m : Seated). MadeOnRecord shape call reply v (first_of m.0)) (sym o.after)
+          (record {
+            log = o.log;
+            first = t.log;
+            at_first = t.left;
+            longer = o.left.begins;
+            left = last ∙ (sym same ∙ o.left.word_is);
+            replies = o.replies;
+            known = refl;
+            own = refl;
+            same = record { name = refl; splits = refl };
+            idle = refl;
+            few = (let p = puts_longer o.log v.name (Called call reply) in
+                let l = o.left.few in omega (arith, p, none));
+            consistent = o.consistent;
+            word = loaded;
+            has_found = append_assoc v.found (loaded ∷ []) (found ∷ []) ∙
+                (ap (λ (n : ℕ). v.found ++ loaded ∷ n ∷ []) same ∙
+                ap (λ (ns : List ℕ). v.found ++ ns) (sym two));
+          })
+
+    get_rule : (found : ℕ) (me3 : Seated) → Learned TellsGot found me3 (first_of me2.0) → found ≡ loaded →
         P words
     get_rule found me3 learned same =
-        let o : Confirmed shape reads found me3 P words =
-        learned_by found me3 true (eq-eqb found loaded same) learned in
+        let o : TellsGot reads found me3 =
+        learned_by TellsGot found me3 true (eq-eqb found loaded same) learned in
         o.rule
+
+    has_seen : (found : ℕ) (me3 : Seated) → Learned TellsSeen found me3 (first_of me2.0) → found ≡ loaded →
+        length words ≡ shape.width → HasSeen P shape loaded words v (first_of me3.0)
+    has_seen found me3 learned same long =
+        let o : TellsSeen reads found me3 =
+        learned_by TellsSeen found me3 true (eq-eqb found loaded same) learned in
+        subst (λ (m : Seated). HasSeen P shape loaded words v (first_of m.0)) (sym o.after)
+        (record {
+          has_found = append_assoc v.found (loaded ∷ []) (found ∷ []) ∙
+              ap (λ (n : ℕ). v.found ++ loaded ∷ n ∷ []) same;
+          knows = record {
+            left = record {
+              begins = begins_further v.known t.log o.log t.left.begins o.left.begins;
+              legal = o.left.legal;
+              word_is = sym same ∙ o.left.word_is;
+              few = o.left.few;
+            };
+            others = λ l. absurd (true≢false (sym l ∙ o.free));
+            no_call = no_call_by _ _ refl refl refl;
+            idle = refl;
+            consistent = o.consistent;
+          };
+          free = o.free;
+          content = o.content;
+          long = long;
+          rule = o.rule;
+        })
 
   put_made : (me me2 me3 me4 : Seated) (words : List ℕ) (found held : ℕ)
       (t : LoadedForPut shape v loaded me) (got : Acquired shape (first_of me.0) found me2 words) →
       found ≡ loaded →
       me3 ≡ alone (with_phase (first_of me2.0) (Writing (puts got.log) words shape.width)) →
       held ≡ loaded + writer_unit shape.limits.layout →
-      Released shape (first_of me3.0) held me4 words →
+      Released shape (first_of me3.0) held me4 (Put words) Done →
       MadeOnRecord shape (Put words) Done v (first_of me4.0)
   put_made me me2 me3 me4 words found held t got hit stored up learned =
       let u : RecordPassView = knowing (finding v loaded) t.log in
@@ -306,8 +355,8 @@ module _ (shape : RecordShape) (v : RecordPassView) (loaded : ℕ) where
       let x_is : first_of me3.0 ≡ x = ap (λ (m : Seated). first_of m.0) stored ∙
       ap (λ (m : Seated). with_phase (first_of m.0) (Writing (puts got.log) words shape.width))
       a.after in
-      let o : Released shape x held me4 words =
-      subst (λ (y : RecordPassView). Released shape y held me4 words) x_is learned in
+      let o : Released shape x held me4 (Put words) Done =
+      subst (λ (y : RecordPassView). Released shape y held me4 (Put words) Done) x_is learned in
       let mark = entry v.name Mark in
       subst (λ (m : Seated). MadeOnRecord shape (Put words) Done v (first_of m.0)) (sym o.after) (record {
         word = loaded;
@@ -385,7 +434,7 @@ module _ (key shape : RecordShape) (same : key ≡ shape) (v : RecordPassView) (
       found ≡ loaded →
       me3 ≡ alone (with_phase (first_of me2.0) (Writing (puts got.log) words key.width)) →
       held ≡ loaded + writer_unit shape.limits.layout →
-      Released key (first_of me3.0) held me4 words →
+      Released key (first_of me3.0) held me4 (Put words) Done →
       MadeOnRecord shape (Put words) Done v (first_of me4.0)
   put_made_of me me2 me3 me4 words found held t got hit stored up learned =
       subst (λ (z : RecordShape). held ≡ loaded + writer_unit z.limits.layout →
@@ -405,24 +454,191 @@ module _ (key shape : RecordShape) (same : key ≡ shape) (v : RecordPassView) (
       (me3 : Seated)
       (learned : MatchBool
       (eqb found (word_to_confirm key.limits.layout (first_of me2.0).phase))
-      (Confirmed key (first_of me2.0) found me3 P words)
+      (Confirmed key (first_of me2.0) found me3 P words Get (Content words))
       (Overtaken key (first_of me2.0) found me3)) where
     pub get_lost_of : found ≢ loaded → WasLost shape v loaded found (first_of me3.0)
     get_lost_of differ =
         subst (λ (z : RecordShape). HeldTest z loaded false →
         WasLost z v loaded found (first_of me3.0)) same
-        (λ f. get_lost key v loaded P me me2 words t f loads found me3 learned differ) test
+        (λ f. get_lost key v loaded P me me2 words t f loads
+        (λ u n m. Confirmed key u n m P words Get (Content words)) found me3 learned differ) test
 
     pub get_made_of : found ≡ loaded → MadeOnRecord shape Get (Content words) v (first_of me3.0)
     get_made_of hit =
         subst (λ (z : RecordShape). HeldTest z loaded false →
         MadeOnRecord z Get (Content words) v (first_of me3.0)) same
-        (λ f. get_made key v loaded P me me2 words t f loads found me3 learned hit) test
+        (λ f. made key v loaded P me me2 words t f loads Get (Content words) refl refl refl found me3 learned
+        hit) test
 
     pub get_rule_of : found ≡ loaded → P words
     get_rule_of hit =
         subst (λ (z : RecordShape). HeldTest z loaded false → P words) same
         (λ f. get_rule key v loaded P me me2 words t f loads found me3 learned hit) test
+
+  module _ (P : List ℕ → Type 0) (me me2 : Seated) (words : List ℕ) (t : LoadedForGet key v loaded me)
+      (test : HeldTest shape loaded false)
+      (loads : (puts_before : ℕ) → (first_of me.0).phase ≡ Loading puts_before [] →
+      me2 ≡ alone (with_phase (first_of me.0) (Loading puts_before words))) (found : ℕ)
+      (me3 : Seated)
+      (learned : MatchBool
+      (eqb found (word_to_confirm key.limits.layout (first_of me2.0).phase))
+      (Saw key (first_of me2.0) found me3 P words)
+      (Overtaken key (first_of me2.0) found me3)) where
+    pub see_lost_of : found ≢ loaded → WasLost shape v loaded found (first_of me3.0)
+    see_lost_of differ =
+        subst (λ (z : RecordShape). HeldTest z loaded false →
+        WasLost z v loaded found (first_of me3.0)) same
+        (λ f. get_lost key v loaded P me me2 words t f loads
+        (λ u n m. Saw key u n m P words) found me3 learned differ) test
+
+    pub has_seen_of : found ≡ loaded → length words ≡ shape.width →
+        HasSeen P shape loaded words v (first_of me3.0)
+    has_seen_of hit =
+        subst (λ (z : RecordShape). HeldTest z loaded false → length words ≡ z.width →
+        HasSeen P z loaded words v (first_of me3.0)) same
+        (λ f long. has_seen key v loaded P me me2 words t f loads found me3 learned hit long) test
+
+-- a put_if of other words than the record's
+module _ (key shape : RecordShape) (same : key ≡ shape) (v : RecordPassView) (loaded : ℕ)
+    (P : List ℕ → Type 0) (me me2 : Seated) (words expected wanted : List ℕ)
+    (t : LoadedForGet key v loaded me) (test : HeldTest shape loaded false)
+    (loads : (puts_before : ℕ) → (first_of me.0).phase ≡ Loading puts_before [] →
+    me2 ≡ alone (with_phase (first_of me.0) (Loading puts_before words))) (found : ℕ) (me3 : Seated)
+    (learned : MatchBool (eqb found (word_to_confirm key.limits.layout (first_of me2.0).phase))
+    (Confirmed key (first_of me2.0) found me3 P words (PutIf expected wanted) No)
+    (Overtaken key (first_of me2.0) found me3)) where
+  pub deny_lost_of : found ≢ loaded → WasLost shape v loaded found (first_of me3.0)
+  deny_lost_of differ =
+      subst (λ (z : RecordShape). HeldTest z loaded false → WasLost z v loaded found (first_of me3.0)) same
+      (λ f. get_lost key v loaded P me me2 words t f loads
+      (λ u n m. Confirmed key u n m P words (PutIf expected wanted) No) found me3 learned differ) test
+
+  pub denied_of : found ≡ loaded → MadeOnRecord shape (PutIf expected wanted) No v (first_of me3.0)
+  denied_of hit =
+      subst (λ (z : RecordShape). HeldTest z loaded false →
+      MadeOnRecord z (PutIf expected wanted) No v (first_of me3.0)) same
+      (λ f. made key v loaded P me me2 words t f loads (PutIf expected wanted) No refl refl refl found me3
+      learned hit) test
+
+-- words are put over those of the history that the pass knows
+module _ (shape : RecordShape) (v : RecordPassView) (word : ℕ) (at : StandsAtWord shape word v) where
+  pub stands_free : word ≡ word_with shape.limits.layout (puts v.known) false
+  stands_free = at.word_is ∙
+      same_word shape.limits.layout (puts v.known) (puts v.known) (is_locked v.known) false refl at.free
+
+  pub stands_large : version_unit shape.limits.layout ≤ word
+  stands_large = word_large shape.limits.layout (is_locked v.known) word (puts v.known) at.word_is
+
+  pub stands_small : AreInRange shape.limits → word < 2 ^ 63
+  stands_small range =
+      word_small shape.limits (is_locked v.known) word (puts v.known) range at.word_is at.few
+
+  pub stands_held_small : AreInRange shape.limits → word + writer_unit shape.limits.layout < 2 ^ 63
+  stands_held_small range = word_small shape.limits true _ (puts v.known) range
+      (ap (λ (n : ℕ). n + writer_unit shape.limits.layout) stands_free ∙
+      sym (held_is shape.limits.layout (puts v.known))) at.few
+
+  stands_puts : writes_in shape.limits.layout word ≡ puts v.known
+  stands_puts = puts_of shape.limits.layout (is_locked v.known) word (puts v.known) at.word_is at.free
+
+  pub goes_over : writes_in shape.limits.layout word < shape.limits.versions →
+      puts v.known < shape.limits.versions
+  goes_over less = (let p = stands_puts in omega arith)
+
+  pub none_left : shape.limits.versions ≤ writes_in shape.limits.layout word → NoneLeft shape word v v
+  none_left more =
+      let p = stands_puts in
+      let few = at.few in
+      let all : puts v.known ≡ shape.limits.versions = omega arith in
+      record {
+        same = refl;
+        all = all;
+        last = stands_free ∙ ap (λ (n : ℕ). word_with shape.limits.layout n false) all;
+      }
+
+  pub overtaken : (found : ℕ) (me2 : Seated) → LoadedForPut shape v found me2 → v.phase ≡ Idle → found ≢ word →
+      WasOvertaken shape v word found (first_of me2.0)
+  overtaken found me2 learned idle differ =
+      subst (λ (m : Seated). WasOvertaken shape v word found (first_of m.0)) (sym learned.after) (record {
+        differ = λ e. differ (sym e);
+        has_found = refl;
+        knows = record {
+          left = learned.left;
+          others = learned.others;
+          no_call = no_call_by _ _ refl refl refl;
+          idle = idle;
+          consistent = learned.consistent;
+        };
+      })
+
+  -- the exchange found the word, so nothing was put since
+  module _ (found : ℕ) (me2 : Seated) (words : List ℕ) (got : Acquired shape v found me2 words)
+      (hit : found ≡ word) where
+    unchanged : (is_locked got.log ≡ false) × (puts got.log ≡ puts v.known)
+    unchanged = free_of shape.limits.layout (is_locked got.log) (puts got.log) (puts v.known)
+        (sym stands_free ∙ (sym hit ∙ got.left.word_is))
+
+    pub held_word : word + writer_unit shape.limits.layout ≡
+        word_with shape.limits.layout (puts got.log) true
+    held_word = ap (λ (n : ℕ). n + writer_unit shape.limits.layout)
+        (stands_free ∙ ap (λ (n : ℕ). word_with shape.limits.layout n false) (sym unchanged.1)) ∙
+        sym (held_is shape.limits.layout (puts got.log))
+
+    abbrev writer : RecordPassView
+    writer = with_phase (acquiring (finding v found) got.log words)
+        (Writing (puts got.log) words shape.width)
+
+    module _ (me3 : Seated)
+        (stored : me3 ≡ alone (with_phase (first_of me2.0) (Writing (puts got.log) words shape.width)))
+      where
+        writer_is : first_of me3.0 ≡ writer
+        writer_is = ap (λ (m : Seated). first_of m.0) stored ∙
+            ap (λ (m : Seated). with_phase (first_of m.0) (Writing (puts got.log) words shape.width))
+            got.after
+
+        pub writer_puts : puts (first_of me3.0).known ≡ puts got.log
+        writer_puts = ap (λ (u : RecordPassView). puts u.known) writer_is ∙ puts_marked got.log v.name
+
+        content_is : content_in shape.width (first_of me3.0).known ≡ content_in shape.width v.known
+        content_is = ap (λ (u : RecordPassView). content_in shape.width u.known) writer_is ∙
+            (content_marked shape.width got.log v.name ∙
+            content_same shape.width v.known got.log got.left.begins unchanged.1)
+
+        pub replaced : (held : ℕ) (me4 : Seated) → held ≡ word + writer_unit shape.limits.layout →
+            Released shape (first_of me3.0) held me4
+            (PutIf (content_in shape.width (first_of me3.0).known) words) Yes →
+            MadeOnRecord shape (PutIf (content_in shape.width v.known) words) Yes v (first_of me4.0)
+        replaced held me4 up learned =
+            let old = content_in shape.width v.known in
+            let o : Released shape writer held me4 (PutIf old words) Yes =
+            subst (λ (y : RecordPassView). Released shape y held me4 (PutIf old words) Yes) writer_is
+            (subst (λ (c : List ℕ). Released shape (first_of me3.0) held me4 (PutIf c words) Yes) content_is
+            learned) in
+            let mark = entry v.name Mark in
+            subst (λ (m : Seated). MadeOnRecord shape (PutIf old words) Yes v (first_of m.0)) (sym o.after)
+            (record {
+              word = word;
+              has_found = append_assoc v.found (found ∷ []) (held ∷ []) ∙
+                  (λ i. v.found ++ hit i ∷ up i ∷ []);
+              first = got.log;
+              at_first = record {
+                begins = got.left.begins;
+                legal = got.left.legal;
+                word_is = sym hit ∙ got.left.word_is;
+                few = got.left.few;
+              };
+              log = o.log;
+              longer = begins_further got.log (got.log ++ mark ∷ []) o.log (begins_more got.log (mark ∷ []))
+                  o.begins;
+              left = sym up ∙ o.word_is;
+              replies = o.replies;
+              known = refl;
+              own = refl;
+              same = record { name = refl; splits = refl };
+              idle = refl;
+              few = o.few;
+              consistent = o.consistent;
+            })
 
 -- the same where the code has a copy of the table's key
 pub acquired_word_of : (key shape : RecordShape) → key ≡ shape → (v : RecordPassView)

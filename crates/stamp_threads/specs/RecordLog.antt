@@ -5,7 +5,8 @@ use Rattle.stamp_core.specs.Limits.{Bounds}
 use Rattle.stamp_core.specs.Call.{is_lock_call}
 use Rattle.stamp_core.specs.History.{History, IsLegal, content_after}
 use Rattle.stamp_core.specs.declared.layout.Layout.{Layout}
-use Rattle.stamp_core.specs.declared.call.Call.TheVariants.{Put}
+use Rattle.stamp_core.specs.declared.call.Call.TheVariants.{Put, PutIf}
+use Rattle.stamp_core.specs.declared.reply.Reply.TheVariants.{Yes}
 use Rattle.stamp_threads.specs.declared.pass_view.LogEntry.{LogEntry}
 use Rattle.stamp_threads.specs.declared.record_view.RecordEvent.{RecordEvent}
 use Rattle.stamp_threads.specs.declared.record_view.RecordEvent.TheVariants.{Mark, Called}
@@ -37,9 +38,10 @@ pub record IsLegalLog (width : ℕ) (log : RecordLog) : Type 0 where
   pub calls : AreRecordCalls (history_in log)
   pub legal : (limits : Bounds) → IsLegal limits width (history_in log)
 
--- how many of the events are puts
+-- how many of the events are puts; a put_if that was answered yes is one
 abbrev pub put_in : RecordEvent → ℕ
 put_in (Called (Put words) reply) = 1
+put_in (Called (PutIf expected words) Yes) = 1
 put_in _ = 0
 
 abbrev pub puts_in : List RecordEvent → ℕ
@@ -57,6 +59,7 @@ leaving f c (e ∷ log) = leaving f (f c e) log
 abbrev pub locked_then : Bool → RecordEvent → Bool
 locked_then locked Mark = true
 locked_then locked (Called (Put words) reply) = false
+locked_then locked (Called (PutIf expected words) Yes) = false
 locked_then locked _ = locked
 
 -- a mark stands after all puts: somebody has write mode

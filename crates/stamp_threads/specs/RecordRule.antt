@@ -4,9 +4,12 @@ use Rattle.std.specs.Prelude.{Bool, false, List, [], ◌∷◌, ◌++◌, length
 use mathlib.Core.List.{IsPrefix}
 use Rattle.atomic_table.specs.Table.{State, Step}
 use Rattle.stamp_core.specs.Limits.{Bounds}
+use Rattle.stamp_core.specs.Content.{RecordReplies}
 use Rattle.stamp_core.specs.declared.layout.Layout.{Layout}
-use Rattle.stamp_core.specs.declared.call.Call.TheVariants.{Get, Put}
-use Rattle.stamp_core.specs.declared.reply.Reply.TheVariants.{Done, Content}
+use Rattle.stamp_core.specs.declared.call.Call.{Call}
+use Rattle.stamp_core.specs.declared.reply.Reply.{Reply}
+use Rattle.stamp_core.specs.declared.call.Call.TheVariants.{Get, Put, PutIf}
+use Rattle.stamp_core.specs.declared.reply.Reply.TheVariants.{Done, Content, Yes, No}
 use Rattle.stamp_threads.specs.declared.record_view.RecordShape.{RecordShape}
 use Rattle.stamp_threads.specs.declared.record_view.RecordEvent.{RecordEvent}
 use Rattle.stamp_threads.specs.declared.record_view.RecordEvent.TheVariants.{Mark, Called}
@@ -133,13 +136,15 @@ module _ (shape : RecordShape) (v : RecordPassView) (found : ℕ) (me : Seated) 
     pub left : LeavesWord shape v found log
     pub after : me ≡ alone (acquiring (finding v found) log words)
 
-  pub record Released (words : List ℕ) : Type 0 where
+  -- write mode is released, and the call is made by which it was held
+  pub record Released (call : Call) (reply : Reply) : Type 0 where
     pub log : RecordLog
     pub begins : IsPrefix v.known log
     pub word_is : found ≡ word_after shape.limits.layout log
-    pub after : me ≡ alone (calling (finding v found) log (put_of words))
-    pub few : puts (log ++ entry v.name (put_of words) ∷ []) ≤ shape.limits.versions
-    pub consistent : IsConsistentWith shape.width (calling (finding v found) log (put_of words))
+    pub replies : RecordReplies (content_in shape.width log) call reply
+    pub after : me ≡ alone (calling (finding v found) log (Called call reply))
+    pub few : puts (log ++ entry v.name (Called call reply) ∷ []) ≤ shape.limits.versions
+    pub consistent : IsConsistentWith shape.width (calling (finding v found) log (Called call reply))
 
   -- the first load of a get: where nobody has write mode the pass begins to load the words
   pub record LoadedForGet : Type 0 where
@@ -150,14 +155,25 @@ module _ (shape : RecordShape) (v : RecordPassView) (found : ℕ) (me : Seated) 
     pub others : is_locked log ≡ true → marker_in log ≢ v.name
     pub consistent : IsConsistentWith shape.width (knowing (finding v found) log)
 
-  -- the second load of the lock word, where it is the word of the first
-  pub record Confirmed (P : List ℕ → Type 0) (words : List ℕ) : Type 0 where
+  -- the second load of the lock word, where it is the word of the first: the call is made
+  pub record Confirmed (P : List ℕ → Type 0) (words : List ℕ) (call : Call) (reply : Reply) : Type 0 where
     pub log : RecordLog
     pub content : words ≡ content_in shape.width log
     pub rule : P words
     pub left : LeavesWord shape v found log
-    pub after : me ≡ alone (calling (finding v found) log (get_of words))
-    pub consistent : IsConsistentWith shape.width (calling (finding v found) log (get_of words))
+    pub replies : RecordReplies (content_in shape.width log) call reply
+    pub after : me ≡ alone (calling (finding v found) log (Called call reply))
+    pub consistent : IsConsistentWith shape.width (calling (finding v found) log (Called call reply))
+
+  -- or none is made
+  pub record Saw (P : List ℕ → Type 0) (words : List ℕ) : Type 0 where
+    pub log : RecordLog
+    pub content : words ≡ content_in shape.width log
+    pub rule : P words
+    pub left : LeavesWord shape v found log
+    pub free : is_locked log ≡ false
+    pub after : me ≡ alone (stopping (finding v found) log)
+    pub consistent : IsConsistentWith shape.width (stopping (finding v found) log)
 
   -- and where it is another
   abbrev pub Overtaken : Type 0
@@ -213,7 +229,12 @@ abbrev pub StoreWordTells : Tells
 StoreWordTells st m found n = n ≡ alone (stored_one (first_of m.0))
 
 abbrev pub ReleaseTells : RecordShape → List ℕ → Tells
-ReleaseTells shape words st m found n = Released shape (first_of m.0) st.first n words
+ReleaseTells shape words st m found n = Released shape (first_of m.0) st.first n (Put words) Done
+
+-- the content that the words are put over is the one that the pass knows
+abbrev pub ReleaseOverTells : RecordShape → List ℕ → Tells
+ReleaseOverTells shape words st m found n = Released shape (first_of m.0) st.first n
+    (PutIf (content_in shape.width (first_of m.0).known) words) Yes
 
 abbrev pub LoadForGetTells : RecordShape → Tells
 LoadForGetTells shape st m found n = LoadedForGet shape (first_of m.0) found n
@@ -224,7 +245,18 @@ LoadWordTells st m found n = n ≡ alone (loaded_one (first_of m.0) found)
 abbrev pub ConfirmTells : (List ℕ → Type 0) → RecordShape → List ℕ → Tells
 ConfirmTells P shape words st m found n =
     MatchBool (found == word_to_confirm shape.limits.layout (first_of m.0).phase)
-    (Confirmed shape (first_of m.0) found n P words) (Overtaken shape (first_of m.0) found n)
+    (Confirmed shape (first_of m.0) found n P words Get (Content words)) (Overtaken shape (first_of m.0) found n)
+
+abbrev pub SeeTells : (List ℕ → Type 0) → RecordShape → List ℕ → Tells
+SeeTells P shape words st m found n =
+    MatchBool (found == word_to_confirm shape.limits.layout (first_of m.0).phase)
+    (Saw shape (first_of m.0) found n P words) (Overtaken shape (first_of m.0) found n)
+
+abbrev pub DenyTells : (List ℕ → Type 0) → RecordShape → List ℕ → List ℕ → List ℕ → Tells
+DenyTells P shape loaded expected words st m found n =
+    MatchBool (found == word_to_confirm shape.limits.layout (first_of m.0).phase)
+    (Confirmed shape (first_of m.0) found n P loaded (PutIf expected words) No)
+    (Overtaken shape (first_of m.0) found n)
 
 abbrev pub MeetTells : RecordShape → Tells
 MeetTells shape st m found n = Met shape (first_of m.0) (second_of m.0) n

@@ -1,10 +1,11 @@
 //! Why a put or a get was refused.
+ghost use Rattle.std.specs.Prelude.{◌≡◌};
+ghost use Rattle.stamp_threads.specs.RecordCall.{fault_of};
 
 use std::error::Error;
 use std::fmt;
 
-/// Why words were not put. The put got no write mode and changed no word, and its pass has made no
-/// call more.
+/// Why words were not put. The call changed no word, and its pass has made no call more.
 #[derive(Clone, Copy, PartialEq, Eq, Debug, Drop)]
 pub enum PutFault {
     /// 1: somebody else had write mode. The lock word was this one. Try again later.
@@ -42,6 +43,17 @@ impl fmt::Display for PutFault {
 }
 
 impl Error for PutFault {}
+
+impl From<GetFault> for PutFault {
+    ghost from_gives = { λ fault e. e ≡ fault_of fault };
+
+    fn from(fault: GetFault) -> PutFault {
+        match fault {
+            GetFault::Busy(word) => PutFault::Busy(word),
+            GetFault::Lost { loaded, found } => PutFault::Lost { loaded, found },
+        }
+    }
+}
 
 /// Why the words were not read. The get changed nothing, and its pass has made no call more. The
 /// caller's words, where it gave some, may be any.

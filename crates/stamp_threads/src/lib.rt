@@ -15,6 +15,7 @@ mod patience;
 mod record_get;
 mod record_pass;
 mod record_rule;
+mod record_see;
 mod record_steps;
 mod record_view;
 mod record_word;

@@ -58,6 +58,35 @@ impl WordsStep for Brand {
     ghost words = { [] };
 }
 
+/// The shape of the record, the words that a put_if has loaded, and what it is asked: the words that it
+/// expects, and those that it would put.
+pub trait DenyingStep {
+    ghost use Rattle.std.specs.Prelude.{ℕ, List};
+    ghost use Rattle.stamp_threads.specs.declared.record_view.RecordShape.{RecordShape};
+
+    ghost shape: { RecordShape };
+
+    ghost loaded: { List ℕ };
+
+    ghost expected: { List ℕ };
+
+    ghost words: { List ℕ };
+}
+
+impl DenyingStep for Brand {
+    ghost use Rattle.std.specs.Prelude.{[]};
+    ghost use Rattle.stamp_core.specs.Limits.{bounds};
+    ghost use Rattle.stamp_core.specs.declared.layout.Layout.TheVariants.{One};
+
+    ghost shape = { record { limits = bounds One 1 0; width = 0 } };
+
+    ghost loaded = { [] };
+
+    ghost expected = { [] };
+
+    ghost words = { [] };
+}
+
 /// The load that a put begins with.
 pub struct LoadForPutStep<C> {
     of: PhantomData<C>,
@@ -100,6 +129,17 @@ impl<C: WordsStep> Play<(), RecordPasses> for ReleaseStep<C> {
     ghost then = { ReleaseTells C.shape C.words };
 }
 
+/// The exchange that releases write mode, of words that were put over those that the pass had seen.
+pub struct ReleaseOverStep<C> {
+    of: PhantomData<C>,
+}
+
+impl<C: WordsStep> Play<(), RecordPasses> for ReleaseOverStep<C> {
+    ghost use Rattle.stamp_threads.specs.RecordRule.{ReleaseOverTells};
+
+    ghost then = { ReleaseOverTells C.shape C.words };
+}
+
 /// The first load of a get.
 pub struct LoadForGetStep<C> {
     of: PhantomData<C>,
@@ -129,6 +169,28 @@ impl<C: WordsStep, P: ContentRule> Play<(), RecordPasses> for ConfirmStep<C, P> 
     ghost use Rattle.stamp_threads.specs.RecordRule.{ConfirmTells};
 
     ghost then = { ConfirmTells P.holds C.shape C.words };
+}
+
+/// As `ConfirmStep`, where no call is made by it.
+pub struct SeeStep<C, P> {
+    of: PhantomData<(C, P)>,
+}
+
+impl<C: WordsStep, P: ContentRule> Play<(), RecordPasses> for SeeStep<C, P> {
+    ghost use Rattle.stamp_threads.specs.RecordRule.{SeeTells};
+
+    ghost then = { SeeTells P.holds C.shape C.words };
+}
+
+/// As `ConfirmStep`, for a put_if that expects other words.
+pub struct DenyStep<C, P> {
+    of: PhantomData<(C, P)>,
+}
+
+impl<C: DenyingStep, P: ContentRule> Play<(), RecordPasses> for DenyStep<C, P> {
+    ghost use Rattle.stamp_threads.specs.RecordRule.{DenyTells};
+
+    ghost then = { DenyTells P.holds C.shape C.loaded C.expected C.words };
 }
 
 /// A load that makes a seat.

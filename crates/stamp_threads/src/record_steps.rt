@@ -1,22 +1,26 @@
 //! The steps on a record's words, by the seats of their table.
-ghost use Rattle.std.specs.Prelude.{◌≡◌, ◌+◌, ◌<◌, ◌≤◌, ◌==◌, MatchBool, true, false, length};
+ghost use Rattle.std.specs.Prelude.{◌≡◌, ◌≢◌, ◌+◌, ◌<◌, ◌≤◌, ◌==◌, MatchBool, true, false, length};
 ghost use Rattle.std.specs.Prelude.{slice_index, ℕ, List, []};
 ghost use Rattle.stamp_threads.specs.declared.record_view.RecordPhase.TheVariants.{Idle, Writing};
 ghost use Rattle.stamp_threads.specs.declared.record_view.RecordPhase.TheVariants.{Loading};
 ghost use Rattle.stamp_threads.specs.PassView.{after_split, split_off};
 ghost use Rattle.stamp_threads.specs.Seats.{alone, both, StandsAlone};
+ghost use Rattle.stamp_core.specs.declared.call.Call.TheVariants.{Get, Put, PutIf};
+ghost use Rattle.stamp_core.specs.declared.reply.Reply.TheVariants.{Done, Content, Yes, No};
+ghost use Rattle.stamp_threads.specs.RecordLog.{content_in, puts};
 ghost use Rattle.stamp_threads.specs.RecordWord.{word_with, writer_unit};
 ghost use Rattle.stamp_threads.specs.RecordPass.{first_of, second_of, HasEntered};
 ghost use Rattle.stamp_threads.specs.RecordPass.{IsAtSeat, AreAtSeat, AreIdle};
 ghost use Rattle.stamp_threads.specs.RecordRule.{LoadedForPut, Acquired, Released, stored_one};
-ghost use Rattle.stamp_threads.specs.RecordRule.{LoadedForGet, loaded_one, Confirmed, Overtaken};
+ghost use Rattle.stamp_threads.specs.RecordRule.{LoadedForGet, loaded_one, Confirmed, Saw, Overtaken};
 ghost use Rattle.stamp_threads.specs.RecordRule.{word_to_confirm};
 ghost use Rattle.stamp_threads.specs.RecordRule.{Met, with_phase};
 
 use crate::lock_rule::{PartSeatsStep, ShareSeatStep, SplitStep};
 use crate::record_rule::{
-    AcquireStep, ConfirmStep, ContentRule, EnterRecordStep, LoadForGetStep, LoadForPutStep,
-    LoadWordStep, MeetRecordStep, RecordRule, ReleaseStep, StoreWordStep, WordsStep,
+    AcquireStep, ConfirmStep, ContentRule, DenyStep, DenyingStep, EnterRecordStep, LoadForGetStep,
+    LoadForPutStep, LoadWordStep, MeetRecordStep, RecordRule, ReleaseOverStep, ReleaseStep,
+    SeeStep, StoreWordStep, WordsStep,
 };
 use crate::record_view::{RecordKey, RecordPasses};
 use atomic_table::{Seat, Shared as SharedTable};
@@ -123,11 +127,36 @@ pub fn release<C: WordsStep, P: ContentRule>(
         × (free ≡ held + writer_unit key.limits.layout) }
     ensures table { seat.new.table_id ≡ seat.old.table_id }
     ensures learned { let v = first_of seat.old.me.0 in
-        Released table.now.key.shape v held seat.new.me words.now }
+        Released table.now.key.shape v held seat.new.me (Put words.now) Done }
 {
     // The words stand in the contract alone.
     let _ = words;
     table.compare_exchange::<ReleaseStep<C>>(seat, 0, held, free);
+}
+
+/// Releases write mode, by an exchange, where the words were put over those of the history that the
+/// pass knows.
+#[inline(always)]
+pub fn release_over<C: WordsStep, P: ContentRule>(
+    table: &RecordTable<P>,
+    seat: &mut RecordSeat,
+    words: &[u64],
+    held: u64,
+    free: u64,
+)
+    requires step { (C.shape ≡ table.now.key.shape) × (C.words ≡ words.now) }
+    requires seat { IsAtSeat table.now.table_id table.now.key.shape seat.old.table_id seat.old.me }
+    requires writing { let key = table.now.key.shape in let v = first_of seat.old.me.0 in
+        (puts_before : ℕ) × (v.phase ≡ Writing puts_before words.now key.width)
+        × (held ≡ word_with key.limits.layout puts_before true)
+        × (free ≡ held + writer_unit key.limits.layout) × (puts v.known ≡ puts_before) }
+    ensures table { seat.new.table_id ≡ seat.old.table_id }
+    ensures learned { let v = first_of seat.old.me.0 in let key = table.now.key.shape in
+        Released key v held seat.new.me (PutIf (content_in key.width v.known) words.now) Yes }
+{
+    // The words stand in the contract alone.
+    let _ = words;
+    table.compare_exchange::<ReleaseOverStep<C>>(seat, 0, held, free);
 }
 
 /// The load that a get begins with: of the lock word. Where nobody has write mode, the pass begins
@@ -191,11 +220,63 @@ pub fn confirm<C: WordsStep, P: ContentRule>(
     ensures table { seat.new.table_id ≡ seat.old.table_id }
     ensures learned { let key = table.now.key.shape in let v = first_of seat.old.me.0 in
         MatchBool (result == word_to_confirm key.limits.layout v.phase)
-        (Confirmed key v result seat.new.me P.holds words.now) (Overtaken key v result seat.new.me) }
+        (Confirmed key v result seat.new.me P.holds words.now Get (Content words.now))
+        (Overtaken key v result seat.new.me) }
 {
     // The words stand in the contract alone.
     let _ = words;
     table.load::<ConfirmStep<C, P>>(seat, 0)
+}
+
+/// As `confirm`, but no call is made by it.
+#[inline(always)]
+pub fn see<C: WordsStep, P: ContentRule>(
+    table: &RecordTable<P>,
+    seat: &mut RecordSeat,
+    words: &[u64],
+) -> u64
+    requires step { (C.shape ≡ table.now.key.shape) × (C.words ≡ words.now) }
+    requires seat { IsAtSeat table.now.table_id table.now.key.shape seat.old.table_id seat.old.me }
+    requires loading { (puts_before : ℕ)
+        × ((first_of seat.old.me.0).phase ≡ Loading puts_before words.now)
+        × (length words.now ≡ table.now.key.shape.width) }
+    ensures table { seat.new.table_id ≡ seat.old.table_id }
+    ensures learned { let key = table.now.key.shape in let v = first_of seat.old.me.0 in
+        MatchBool (result == word_to_confirm key.limits.layout v.phase)
+        (Saw key v result seat.new.me P.holds words.now) (Overtaken key v result seat.new.me) }
+{
+    // The words stand in the contract alone.
+    let _ = words;
+    table.load::<SeeStep<C, P>>(seat, 0)
+}
+
+/// As `confirm`, for a put_if: these words are not those that it expects.
+#[inline(always)]
+pub fn deny<C: DenyingStep, P: ContentRule>(
+    table: &RecordTable<P>,
+    seat: &mut RecordSeat,
+    loaded: &[u64],
+    expected: &[u64],
+    words: &[u64],
+) -> u64
+    requires step { (C.shape ≡ table.now.key.shape) × (C.loaded ≡ loaded.now)
+        × (C.expected ≡ expected.now) × (C.words ≡ words.now) }
+    requires seat { IsAtSeat table.now.table_id table.now.key.shape seat.old.table_id seat.old.me }
+    requires loading { (puts_before : ℕ)
+        × ((first_of seat.old.me.0).phase ≡ Loading puts_before loaded.now)
+        × (length loaded.now ≡ table.now.key.shape.width) }
+    requires other { loaded.now ≢ expected.now }
+    ensures table { seat.new.table_id ≡ seat.old.table_id }
+    ensures learned { let key = table.now.key.shape in let v = first_of seat.old.me.0 in
+        MatchBool (result == word_to_confirm key.limits.layout v.phase)
+        (Confirmed key v result seat.new.me P.holds loaded.now (PutIf expected.now words.now) No)
+        (Overtaken key v result seat.new.me) }
+{
+    // The words stand in the contract alone.
+    let _ = loaded;
+    let _ = expected;
+    let _ = words;
+    table.load::<DenyStep<C, P>>(seat, 0)
 }
 
 /// A new seat, made by a load: its pass has the next root.

@@ -214,6 +214,13 @@ impl RunningLock {
         unreachable!()
     }
 
+    /// The lock's limits, its layout among them.
+    pub fn limits(&self) -> Limits
+        ensures { result ≡ self.now.limits }
+    {
+        self.limits
+    }
+
     /// A pass for a thread that has none, of an enterable lock. It knows a history of the lock, and
     /// has made no call. It makes one load and takes no memory.
     pub fn enter(&self) -> Pass

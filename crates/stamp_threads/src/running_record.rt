@@ -1,12 +1,14 @@
 //! The record that threads share.
 ghost use Rattle.std.specs.Prelude.{◌≡◌, ◌+◌, ◌≤◌, ◌-◌, ◌∷◌, [], IfOk, IfErr, Some, None, length, take};
 ghost use Rattle.std.specs.Prelude.{true, false};
-ghost use Rattle.stamp_core.specs.declared.call.Call.TheVariants.{Put};
-ghost use Rattle.stamp_core.specs.declared.reply.Reply.TheVariants.{Done};
+ghost use Rattle.stamp_core.specs.declared.call.Call.TheVariants.{Put, PutIf};
+ghost use Rattle.stamp_core.specs.declared.reply.Reply.TheVariants.{Done, Yes};
+ghost use Rattle.stamp_threads.specs.RecordLog.{content_in};
 ghost use Rattle.stamp_threads.specs.PassView.{after_split, split_off};
 ghost use Rattle.stamp_threads.specs.RecordPass.{HasEntered, IsConsistentWith};
 ghost use Rattle.stamp_threads.specs.RecordCall.{MadeOnRecord, PutRefused};
 ghost use Rattle.stamp_threads.specs.RecordCall.{WasGot, GetRefused, GotOrRefused, RecordPassesMet};
+ghost use Rattle.stamp_threads.specs.RecordCall.{HasSeen, StandsAtWord, ReplaceRefused, UpdateRefused, PutIfMade};
 ghost use Rattle.stamp_threads.specs.RecordRule.{opening_pass, IsKept, IsNew, MayBegin};
 ghost use Rattle.atomic_table.specs.Table.{opening};
 
@@ -14,7 +16,8 @@ use crate::faults::{GetFault, PutFault};
 use crate::record_get::get_words;
 use crate::record_pass::RecordPass;
 use crate::record_rule::{AnyContent, ContentRule, RecordRule};
-use crate::record_steps::{self, acquire, load_for_put, release, store_all};
+use crate::record_see::{see_or_deny, see_words};
+use crate::record_steps::{self, acquire, load_for_put, release, release_over, store_all};
 use crate::record_view::{RecordKey, RecordPasses, RecordShape};
 use crate::record_word::{opening_word, word_after_one_put};
 use crate::running_lock::LockError;
@@ -267,6 +270,101 @@ impl<P: ContentRule> RuledRecord<P> {
             Layout::One => get_words(&self.table.shared, shape, &mut pass.seat, into),
             Layout::Two => get_words(&self.table.shared, shape, &mut pass.seat, into),
         }
+    }
+
+    /// Gets the words as `get_into` does, but makes no call: it is for `replace_once`, and gives the lock
+    /// word at which the words stood. It refuses as `get_once` does; the words may be any then.
+    #[inline(always)]
+    pub fn see_once(&self, pass: &mut RecordPass, into: &mut [u64]) -> Result<u64, GetFault>
+        requires table { pass.old.table ≡ self.now.table }
+        requires width { length into.old ≡ self.now.shape.width }
+        ensures table { pass.new.table ≡ self.now.table }
+        ensures width { length into.new ≡ length into.old }
+        ensures ok { let v = pass.old.view in let w = pass.new.view in
+            IfOk result (λ word. HasSeen P.holds self.now.shape word into.new v w) }
+        ensures err { let v = pass.old.view in let w = pass.new.view in
+            IfErr result (λ fault. GetRefused self.now.shape v fault w) }
+    {
+        see_words(&self.table.shared, self.shape, &mut pass.seat, into)
+    }
+
+    /// Puts the words over those of the history that the pass knows, if nothing was put since: that
+    /// history left this lock word and isn't locked, as after `see_once`. It is the call
+    /// `PutIf(old, words)` with `Yes`, by one exchange, a store a word and one exchange that releases. It
+    /// waits for nobody. Refuses as 3 `Spent` where no version is left, by no access, and as 2 `Lost` where
+    /// the exchange found another lock word; it got no write mode and changed no word then.
+    #[inline(always)]
+    pub fn replace_once(
+        &self,
+        pass: &mut RecordPass,
+        word: u64,
+        words: Words,
+    ) -> Result<(), PutFault>
+        requires table { pass.old.table ≡ self.now.table }
+        requires width { length words ≡ self.now.shape.width }
+        requires rule { P.holds words }
+        requires stands { StandsAtWord self.now.shape word pass.old.view }
+        ensures table { pass.new.table ≡ self.now.table }
+        ensures ok { let shape = self.now.shape in let v = pass.old.view in let w = pass.new.view in
+            IfOk result (λ _. MadeOnRecord shape (PutIf (content_in shape.width v.known) words) Yes v w) }
+        ensures err { let v = pass.old.view in let w = pass.new.view in
+            IfErr result (λ fault. ReplaceRefused self.now.shape word v fault w) }
+    {
+        let table = &self.table.shared;
+        let layout = self.shape.limits.layout();
+        let new_words = words.as_slice();
+        if layout.writes_of(word) >= self.shape.limits.versions() {
+            return Err(PutFault::Spent(word));
+        }
+        let held = word + layout.writer_unit();
+        let found = acquire::<Brand, P>(table, &mut pass.seat, new_words, word, held);
+        if found != word {
+            return Err(PutFault::Lost {
+                loaded: word,
+                found,
+            });
+        }
+        store_all(table, &mut pass.seat, new_words);
+        let free = layout.released(held);
+        release_over::<Brand, P>(table, &mut pass.seat, new_words, held, free);
+        Ok(())
+    }
+
+    /// Puts the second words if the record holds the first, and says whether it did: the call
+    /// `PutIf(expected, words)`, with `Yes` or `No`. Only where they keep to the rule need the others do. It
+    /// waits for nobody. Refuses as 1 `Busy` where the first load found somebody in write mode, as 2 `Lost`
+    /// where a later access found another word, and as 3 `Spent` where it found the expected words and
+    /// no version left; it changed no word then.
+    pub fn put_if_once(
+        &self,
+        pass: &mut RecordPass,
+        expected: Words,
+        words: Words,
+    ) -> Result<bool, PutFault>
+        requires table { pass.old.table ≡ self.now.table }
+        requires width { (length expected ≡ self.now.shape.width) × (length words ≡ self.now.shape.width) }
+        requires rule { P.holds expected → P.holds words }
+        ensures table { pass.new.table ≡ self.now.table }
+        ensures ok { let v = pass.old.view in let w = pass.new.view in
+            IfOk result (λ yes. PutIfMade P.holds self.now.shape expected words yes v w) }
+        ensures err { let v = pass.old.view in let w = pass.new.view in
+            IfErr result (λ fault. UpdateRefused P.holds self.now.shape v fault w) }
+    {
+        let width = self.shape.width;
+        let mut row = [0u64; 16];
+        let seen = see_or_deny(
+            &self.table.shared,
+            self.shape,
+            &mut pass.seat,
+            expected.as_slice(),
+            words.as_slice(),
+            &mut row[..width],
+        )?;
+        let Some(word) = seen else {
+            return Ok(false);
+        };
+        self.replace_once(pass, word, words)?;
+        Ok(true)
     }
 
     /// A pass for a thread that has none, of an enterable record: it has made no call. It makes one

@@ -14,6 +14,8 @@ mod record_tests;
 #[cfg(test)]
 mod record_thread_tests;
 #[cfg(test)]
+mod record_update_tests;
+#[cfg(test)]
 mod return_tests;
 #[cfg(test)]
 mod shared_tests;

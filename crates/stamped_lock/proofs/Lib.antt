@@ -1,5 +1,5 @@
 pub mod NeverLosing
 pub mod Retried
 pub mod Validating
-pub mod Sectioning
 pub mod Tries
+pub mod Timing

@@ -3,3 +3,5 @@ pub mod Replies
 pub mod Made
 pub mod Sections
 pub mod RecordCalls
+pub mod InWords
+pub mod Timed

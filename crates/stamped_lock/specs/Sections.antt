@@ -1,5 +1,6 @@
 -- What is known of a closure that ran in a section, and of the calls around it.
-use Rattle.std.specs.Prelude.{◌≡◌, ◌⊎◌, ◌<◌, ℕ, Result, Ok, Err, IsOkAnd}
+use Rattle.std.specs.Prelude.{◌≡◌, ◌⊎◌, ◌<◌, ℕ, Bool, true, false, Option, Some, None, Result, Ok, Err}
+use Rattle.std.specs.Prelude.{IsOkAnd}
 use mathlib.Core.List.{IsPrefix}
 use Rattle.stamp_core.specs.LockEvent.{write_count}
 use Rattle.stamp_core.specs.declared.call.Call.{Call}
@@ -65,3 +66,18 @@ abbrev pub OptimisticSection : {T : Type 0} → (T → LockHandleView → Type 0
     LockHandleView → LockHandleView → Type 0
 OptimisticSection Ran r h h' = IsOkAnd r (λ t. ReadUnwritten (Ran t) h h') ⊎
     ((m : LockHandleView) × NotValid h m × ReadSection Ran r m h')
+
+-- a closure ran where a test held: none where it didn't
+abbrev pub RanIf : {T : Type 0} → (Bool → LockHandleView → Type 0) → (T → LockHandleView → Type 0) →
+    Option T → LockHandleView → Type 0
+RanIf Tested Ran None m = Tested false m
+RanIf Tested Ran (Some t) m = Tested true m × Ran t m
+
+-- a section in write mode in which a closure ran where a test held, after an optimistic section in which the
+-- test held; or only that one, which says what comes
+abbrev pub WriteIfSection : {T : Type 0} → (Bool → LockHandleView → Type 0) → (T → LockHandleView → Type 0) →
+    Result (Option T) WriteError → LockHandleView → LockHandleView → Type 0
+WriteIfSection Tested Ran r h h' =
+    ((r ≡ Ok None) × OptimisticSection Tested (Ok false) h h') ⊎
+    (((r ≡ Err write.Mismatch) × ((e : Mismatch) × OptimisticSection Tested (Err e) h h')) ⊎
+    ((m : LockHandleView) × OptimisticSection Tested (Ok true) h m × WriteSection (RanIf Tested Ran) r m h'))

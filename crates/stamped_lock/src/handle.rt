@@ -1,6 +1,8 @@
 //! The handles of a lock.
 ghost use Rattle.std.specs.Prelude.{◌≡◌, IfOk, IsTrue, Some};
 ghost use Rattle.stamp_core.specs.Call.{is_lock_call};
+ghost use Rattle.stamp_core.specs.Layout.{units_of};
+ghost use Rattle.stamp_core.specs.StampKind.{HasKind};
 ghost use Rattle.stamp_core.specs.declared.call.Call.TheVariants.{TryWrite, TryRead, WriteLock};
 ghost use Rattle.stamp_core.specs.declared.call.Call.TheVariants.{ReadLock, Optimistic, Validate};
 ghost use Rattle.stamp_core.specs.declared.call.Call.TheVariants.{UnlockWrite, UnlockRead, Unlock};
@@ -18,7 +20,7 @@ ghost use Rattle.stamped_lock.specs.Replies.{stamped, tested, released, NeverLos
 use crate::answers::{count_in, some_stamp_in, stamp_unless_zero, test_in, was_released};
 use crate::mismatch::Mismatch;
 use crate::stamp::Stamp;
-use stamp_core::{Call, Reply};
+use stamp_core::{Call, Reply, StampKind};
 use stamp_threads::{Lost, Pass, RunningLock};
 use std::marker::Model;
 use std::sync::Wait;
@@ -58,7 +60,7 @@ impl<'a> LockHandle<'a> {
     /// and makes nearly all calls. Where it lost, `RunningLock::call` goes on: it tries again until an
     /// exchange wins, or a word that was found answers the call.
     #[inline(always)]
-    fn once_or_call<R: Wait>(&mut self, rt: &R, call: Call) -> Reply
+    pub(crate) fn once_or_call<R: Wait>(&mut self, rt: &R, call: Call) -> Reply
         requires lock_call { IsTrue (is_lock_call call) }
         requires at_once { try_form call ≡ call }
         ensures made { Made call result self.old self.new }
@@ -250,6 +252,15 @@ impl<'a> LockHandle<'a> {
         ensures { Made ReadCount (Count result) self.old self.new }
     {
         count_in(self.once_surely(Call::ReadCount))
+    }
+
+    /// What the stamp is a stamp of, by its number: a write acquisition, a read hold or an optimistic read
+    /// of a lock of this layout, or neither (`isWriteLockStamp`, `isReadLockStamp`,
+    /// `isOptimisticReadStamp`). No access: it may have been released since.
+    pub fn kind(&self, stamp: Stamp) -> StampKind
+        ensures { HasKind (units_of self.now.running.limits.layout) stamp result }
+    {
+        stamp.kind_in(self.running.limits().layout())
     }
 
     /// One more handle of the same lock, which knows as much as this one and has made no call.

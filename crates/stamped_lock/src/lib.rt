@@ -20,23 +20,33 @@
 //!
 //! `write_with` and `read_with` acquire a mode, run a closure and release. `read_optimistically` is
 //! Java's idiom for a short read: an optimistic stamp, a closure, a validation; and where that
-//! fails the closure again, in read mode.
+//! fails the closure again, in read mode. `write_if` reads so, and writes where a test holds.
 #![tactic(auto)]
 
 mod answers;
+mod cell;
+mod cell_handle;
 mod handle;
 mod handle_once;
+mod in_words;
 mod lock;
 mod mismatch;
 mod record;
+mod record_calls;
 mod record_handle;
 mod sections;
 mod spent;
 mod stamp;
+mod timed;
 mod unlock_error;
+mod update_error;
 mod write_error;
+mod write_if;
 
+pub use cell::{StampedCell, WordsOf};
+pub use cell_handle::CellHandle;
 pub use handle::LockHandle;
+pub use in_words::{InWord, InWords};
 pub use lock::StampedLock;
 pub use mismatch::Mismatch;
 pub use record::StampedRecord;
@@ -46,4 +56,5 @@ pub use stamp::Stamp;
 pub use stamp_core::{Layout, Limits, StampKind};
 pub use stamp_threads::{AnyContent, ContentRule, GetFault, LockError, Lost, PutFault};
 pub use unlock_error::UnlockError;
+pub use update_error::UpdateError;
 pub use write_error::WriteError;

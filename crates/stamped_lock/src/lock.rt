@@ -46,6 +46,13 @@ impl StampedLock {
         Ok(StampedLock { running })
     }
 
+    /// Its limits: the layout, the most readers at a time, and the most write acquisitions in all.
+    pub fn limits(&self) -> Limits
+        ensures { result ≡ self.now.limits }
+    {
+        self.running.limits()
+    }
+
     /// A handle, for one thread at a time. It has made no call. It takes one load and no memory.
     pub fn enter(&self) -> LockHandle<'_>
         ensures running { result.running ≡ self.now }

@@ -1,7 +1,8 @@
 //! The record.
-ghost use Rattle.std.specs.Prelude.{◌≡◌, ◌≤◌, IfOk};
+ghost use Rattle.std.specs.Prelude.{◌≡◌, ◌≤◌, IfOk, true};
 ghost use Rattle.stamp_core.specs.Limits.{widest};
 ghost use Rattle.stamp_threads.specs.RecordPass.{HasEntered};
+ghost use Rattle.stamped_lock.specs.RecordCalls.{HasWidth};
 
 use crate::record_handle::RecordHandle;
 use stamp_core::{Layout, Limits, Words};
@@ -68,5 +69,14 @@ impl<const N: usize, P: ContentRule> StampedRecord<N, P> {
         ensures entered { HasEntered self.now.shape result.pass }
     {
         RecordHandle::new(&self.running, self.running.enter())
+    }
+
+    /// The record that it stands on.
+    pub(crate) fn running(&self) -> &RuledRecord<P>
+        ensures running { result.now ≡ self.now }
+        ensures width { HasWidth N self.now.shape }
+        ensures enterable { self.now.enterable ≡ true }
+    {
+        &self.running
     }
 }

@@ -64,14 +64,41 @@ impl<'a> LockHandle<'a> {
         requires { F.IsAlwaysCallable f }
         ensures { OptimisticSection (λ t m. FnReturnsAt F.Fn f m t) result self.old self.new }
     {
+        self.read_lent(rt, &f)
+    }
+
+    /// `read_optimistically`, by a closure that is lent.
+    pub(crate) fn read_lent<T: Drop, R: Wait, F: Fn(&LockHandle<'a>) -> T>(
+        &mut self,
+        rt: &R,
+        f: &F,
+    ) -> Result<T, Mismatch>
+        requires { F.IsAlwaysCallable f.now }
+        ensures { OptimisticSection (λ t m. FnReturnsAt F.Fn f.now m t) result self.old self.new }
+    {
         let Some(stamp) = self.try_optimistic_read() else {
-            return self.read_with(rt, f);
+            return self.read_with_lent(rt, f);
         };
         let answer = f(self);
         let valid = self.validate(stamp);
         if valid {
             return Ok(answer);
         }
-        self.read_with(rt, f)
+        self.read_with_lent(rt, f)
+    }
+
+    /// `read_with`, by a closure that is lent.
+    fn read_with_lent<T: Drop, R: Wait, F: Fn(&LockHandle<'a>) -> T>(
+        &mut self,
+        rt: &R,
+        f: &F,
+    ) -> Result<T, Mismatch>
+        requires { F.IsAlwaysCallable f.now }
+        ensures { ReadSection (λ t m. FnReturnsAt F.Fn f.now m t) result self.old self.new }
+    {
+        let held = self.read(rt);
+        let answer = f(self);
+        self.unlock_read(rt, held)?;
+        Ok(answer)
     }
 }

@@ -1,4 +1,8 @@
 //! Why a section in write mode has no answer.
+ghost use Rattle.std.specs.Prelude.{◌≡◌};
+ghost use Rattle.stamped_lock.specs.declared.write_error.WriteError.TheVariants as variant;
+
+use crate::mismatch::Mismatch;
 use std::error::Error;
 use std::fmt;
 
@@ -21,3 +25,11 @@ impl fmt::Display for WriteError {
 }
 
 impl Error for WriteError {}
+
+impl From<Mismatch> for WriteError {
+    ghost from_gives = { λ _ e. e ≡ variant.Mismatch };
+
+    fn from(_mismatch: Mismatch) -> WriteError {
+        WriteError::Mismatch
+    }
+}

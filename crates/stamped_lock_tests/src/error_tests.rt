@@ -1,5 +1,5 @@
 //! What the errors say.
-use stamped_lock::{Lost, Mismatch, Spent, UnlockError, WriteError};
+use stamped_lock::{Lost, Mismatch, Spent, UnlockError, UpdateError, WriteError};
 use std::error::Error;
 use std::test::Fail;
 
@@ -15,21 +15,32 @@ fn each_error_says_what_happened(rt: HostRuntime) -> Result<(), Fail> {
         found: 384,
     });
     let said = format!(in rt.alloc();
-        "{}\n{}\n{}\n{}\n{}\n{}",
+        "{}\n{}\n{}\n{}\n{}\n{}\n{}\n{}",
         Mismatch,
         UnlockError::Mismatch,
         lost,
         WriteError::Spent,
         WriteError::Mismatch,
-        Spent
+        Spent,
+        UpdateError::Declined(7u64),
+        UpdateError::<u64>::Spent
     )?;
     let want = "the stamp matches no held mode that the call releases\n\
         the stamp matches no held mode that the call releases\n\
         another thread changed the lock: try again\n\
         the lock has no version left to write\n\
         the lock was released before its section ended\n\
+        no version is left to put words\n\
+        the update declined the value\n\
         no version is left to put words";
     assert!(rt; said.as_str() == want);
-    assert!(rt; are_errors(&Mismatch, &lost, &WriteError::Spent, &Spent));
+    assert!(rt;
+        are_errors(
+            &Mismatch,
+            &lost,
+            &WriteError::Spent,
+            &UpdateError::Declined(7u64)
+        )
+    );
     Ok(())
 }

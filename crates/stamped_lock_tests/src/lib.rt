@@ -2,6 +2,8 @@
 #![tactic(auto)]
 
 #[cfg(test)]
+mod cell_tests;
+#[cfg(test)]
 mod error_tests;
 #[cfg(test)]
 mod fixtures;
@@ -15,3 +17,7 @@ mod section_tests;
 mod stamp_tests;
 #[cfg(test)]
 mod thread_tests;
+#[cfg(test)]
+mod timed_tests;
+#[cfg(test)]
+mod update_tests;

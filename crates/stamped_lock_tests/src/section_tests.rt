@@ -55,3 +55,45 @@ fn a_read_section_answers_its_closure_if_nobody_released_it(rt: HostRuntime) -> 
     }
     Ok(())
 }
+
+/// Writes three times as much if there are fewer than ten: what there was before.
+fn triple_if_few<R: Wait>(
+    rt: &R,
+    lock: &StampedLock,
+    sum: &AtomicU64,
+    asked: &AtomicU64,
+) -> Result<Option<u64>, WriteError> {
+    lock.enter().write_if(
+        rt,
+        |_| {
+            asked.fetch_add(1, Ordering::SeqCst);
+            sum.load(Ordering::SeqCst) < 10
+        },
+        |_| {
+            let old = sum.load(Ordering::SeqCst);
+            sum.store(old.wrapping_mul(3), Ordering::SeqCst);
+            old
+        },
+    )
+}
+
+/// There are two versions, so the third section is refused; a test that is false needs none.
+#[test]
+fn a_section_runs_where_its_test_holds(rt: HostRuntime) -> Result<(), Fail> {
+    let lock = made_with(rt.alloc(), (Layout::One, 127, 2))?;
+    let (sum, asked) = (AtomicU64::new(1), AtomicU64::new(0));
+    for (begun, want, asks) in [
+        (1, Ok(Some(1)), 2),
+        (11, Ok(None), 1),
+        (4, Ok(Some(4)), 2),
+        (12, Ok(None), 1),
+        (2, Err(WriteError::Spent), 1),
+    ] {
+        sum.store(begun, Ordering::SeqCst);
+        asked.store(0, Ordering::SeqCst);
+        assert!(rt; triple_if_few(&rt, &lock, &sum, &asked) == want);
+        assert!(rt; asked.load(Ordering::SeqCst) == asks);
+    }
+    assert!(rt; !lock.enter().is_write_locked());
+    Ok(())
+}

@@ -1,0 +1,50 @@
+use Rattle.std.proofs.Common.{ap, sym, ◌∙◌, rules}
+use Rattle.stamp_threads.specs.declared.record_view.RecordShape.{RecordShape}
+use Rattle.stamp_threads.specs.Seats.{alone}
+use Rattle.stamp_threads.specs.RecordLog.{puts}
+use Rattle.stamp_threads.specs.RecordPass.{first_of, Seated}
+use Rattle.stamp_threads.proofs.RecordPromises.{get_goes_on, get_busy_of, see_lost_of, has_seen_of}
+use Rattle.stamp_threads.proofs.record_see.see_words.Goals as goal
+
+pub load_all-requires-clause-loading : goal.load_all-requires-clause-loading
+load_all-requires-clause-loading g c =
+    let t = rw c.requires.shape.0 at c.load_for_get-loaded.ensures.learned in
+    let test = sym (rw c.layout.ensures.layout at c.has_writer.ensures) ∙ c.if-has_writer.false in
+    (puts t.log, get_goes_on _ _ _ _ t test)
+
+pub see-found-requires-clause-loading : goal.see-found-requires-clause-loading
+see-found-requires-clause-loading g c =
+    let t = rw c.requires.shape.0 at c.load_for_get-loaded.ensures.learned in
+    let test = sym (rw c.layout.ensures.layout at c.has_writer.ensures) ∙ c.if-has_writer.false in
+    let phase = get_goes_on _ _ _ _ t test in (
+      puts t.log,
+      ap (λ (m : Seated). (first_of m.0).phase) (c.load_all.ensures.learned (puts t.log) phase),
+      c.load_all.ensures.long ∙
+          (c.requires.long ∙ sym (ap (λ (z : RecordShape). z.width) c.requires.shape.0)),
+    )
+
+pub see-found-requires-clause-seat : goal.see-found-requires-clause-seat
+see-found-requires-clause-seat g c =
+    let t = rw c.requires.shape.0 at c.load_for_get-loaded.ensures.learned in
+    let test = sym (rw c.layout.ensures.layout at c.has_writer.ensures) ∙ c.if-has_writer.false in
+    let phase = get_goes_on _ _ _ _ t test in
+    let is = c.load_all.ensures.learned (puts t.log) phase in
+    (search rules, search rules, is ∙ sym (ap (λ (m : Seated). alone (first_of m.0)) is))
+
+pub returns-then-has_writer-clause-err : goal.returns-then-has_writer-clause-err
+returns-then-has_writer-clause-err g c =
+    let test = sym (rw c.layout.ensures.layout at c.has_writer.ensures) ∙ c.if-has_writer.true in
+    get_busy_of _ _ c.requires.shape.0 _ _ _ c.load_for_get-loaded.ensures.learned c.requires.idle test
+
+pub returns-then-found-loaded-clause-err : goal.returns-then-found-loaded-clause-err
+returns-then-found-loaded-clause-err g c =
+    let test = sym (rw c.layout.ensures.layout at c.has_writer.ensures) ∙ c.if-has_writer.false in
+    see_lost_of _ _ c.requires.shape.0 _ _ _ _ _ _ c.load_for_get-loaded.ensures.learned test
+    c.load_all.ensures.learned _ _ c.see-found.ensures.learned c.if-found-loaded.true
+
+pub returns-clause-ok : goal.returns-clause-ok
+returns-clause-ok g c =
+    let test = sym (rw c.layout.ensures.layout at c.has_writer.ensures) ∙ c.if-has_writer.false in
+    has_seen_of _ _ c.requires.shape.0 _ _ _ _ _ _ c.load_for_get-loaded.ensures.learned test
+    c.load_all.ensures.learned _ _ c.see-found.ensures.learned c.if-found-loaded.false
+    (c.load_all.ensures.long ∙ c.requires.long)

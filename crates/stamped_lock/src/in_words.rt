@@ -1,0 +1,152 @@
+//! Types whose values are written in words.
+ghost use Rattle.std.specs.Prelude.{◌≡◌, ◌∷◌, []};
+ghost use Rattle.stamped_lock.specs.InWords.{i64_word, i64_of, f64_word, f64_of, bool_word, bool_of};
+
+use std::num::{f64_from_bits_with_nan, f64_to_bits_with_nan};
+
+/// A type whose values are written in `N` words, and come back from them the same. A struct of your
+/// own says how in its `words` and two functions. A fact of the struct, or `is_value`, is true of each
+/// value that is read.
+pub trait InWords<const N: usize>: Copy {
+    ghost use Rattle.std.specs.Prelude.{◌≡◌, ℕ, List};
+
+    // The words of a value.
+    ghost words: { Self → List ℕ };
+
+    // What is true of each value of the type, as that a number is one of its type.
+    ghost is_value: { Self → Type 0 } = { λ _. Unit {0} };
+
+    /// The words of the value.
+    fn to_words(&self) -> [u64; N]
+        ensures words { result ≡ words self.now }
+        ensures is_value { is_value self.now };
+
+    /// The value that these are the words of.
+    fn from_words(row: &[u64; N]) -> Self
+        requires { (value : Self) × is_value value × (row.now ≡ words value) }
+        ensures { (value : Self) → is_value value → row.now ≡ words value → result ≡ value };
+}
+
+/// A type whose values are written in one word, and come back from it the same.
+pub trait InWord: Copy {
+    ghost use Rattle.std.specs.Prelude.{◌≡◌, ℕ};
+
+    // The word of a value.
+    ghost word: { Self → ℕ };
+
+    // The value of a word.
+    ghost value: { ℕ → Self };
+
+    /// The word of the value.
+    fn to_word(&self) -> u64
+        ensures word { result ≡ word self.now }
+        ensures back { value result ≡ self.now };
+
+    /// The value that this is the word of.
+    fn from_word(number: u64) -> Self
+        ensures { result ≡ value number };
+}
+
+impl InWord for u64 {
+    ghost word = { λ n. n };
+
+    ghost value = { λ n. n };
+
+    fn to_word(&self) -> u64 {
+        *self
+    }
+
+    fn from_word(number: u64) -> u64 {
+        number
+    }
+}
+
+impl InWord for i64 {
+    ghost word = { i64_word };
+
+    ghost value = { i64_of };
+
+    fn to_word(&self) -> u64 {
+        self.cast_unsigned()
+    }
+
+    fn from_word(number: u64) -> i64 {
+        number.cast_signed()
+    }
+}
+
+impl InWord for bool {
+    ghost word = { bool_word };
+
+    ghost value = { bool_of };
+
+    fn to_word(&self) -> u64 {
+        u64::from(*self)
+    }
+
+    fn from_word(number: u64) -> bool {
+        number != 0
+    }
+}
+
+/// The bits of a number; each NaN has the same.
+fn bits_of(x: f64) -> u64
+    ensures bits { result ≡ f64_word x }
+    ensures back { f64_of result ≡ x }
+{
+    f64_to_bits_with_nan(x)
+}
+
+impl InWord for f64 {
+    ghost word = { f64_word };
+
+    ghost value = { f64_of };
+
+    fn to_word(&self) -> u64 {
+        bits_of(*self)
+    }
+
+    fn from_word(number: u64) -> f64 {
+        f64_from_bits_with_nan(number)
+    }
+}
+
+impl<T: InWord> InWords<1> for T {
+    ghost words = { λ x. T.word x ∷ [] };
+
+    ghost is_value = { λ x. T.value (T.word x) ≡ x };
+
+    fn to_words(&self) -> [u64; 1] {
+        [self.to_word()]
+    }
+
+    fn from_words(row: &[u64; 1]) -> T {
+        T::from_word(row[0])
+    }
+}
+
+impl<A: InWord, B: InWord> InWords<2> for (A, B) {
+    ghost words = { λ pair. A.word pair.0 ∷ B.word pair.1 ∷ [] };
+
+    ghost is_value = { λ pair. (A.value (A.word pair.0) ≡ pair.0) × (B.value (B.word pair.1) ≡ pair.1) };
+
+    fn to_words(&self) -> [u64; 2] {
+        [self.0.to_word(), self.1.to_word()]
+    }
+
+    fn from_words(row: &[u64; 2]) -> (A, B) {
+        (A::from_word(row[0]), B::from_word(row[1]))
+    }
+}
+
+impl<const N: usize> InWords<N> for [u64; N] {
+    ghost words = { λ row. row };
+
+    fn to_words(&self) -> [u64; N] {
+        *self
+    }
+
+    fn from_words(row: &[u64; N]) -> [u64; N] {
+        *row
+    }
+}

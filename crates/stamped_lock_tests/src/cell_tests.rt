@@ -1,0 +1,158 @@
+//! Values of types of one's own that threads share.
+ghost use Rattle.std.specs.Prelude.{◌≡◌, ◌≤◌, ◌≤ℤ◌, ◌∷◌, []};
+ghost use Rattle.stamped_lock.specs.InWords.{i64_word, f64_word, bool_word, IsI64, IsF64};
+
+use stamped_lock::{CellHandle, InWord, InWords, Layout, Limits, Spent, StampedCell, UpdateError};
+use std::sync::Wait;
+use std::test::Fail;
+use std::thread::join;
+
+/// A range of numbers, how far it may go, and whether it may still grow.
+#[derive(Clone, Copy, PartialEq, Debug)]
+struct Range {
+    low: i64,
+    high: i64,
+    step: f64,
+    grows: bool,
+    ghost ordered: { low ≤ℤ high },
+}
+
+impl InWords<4> for Range {
+    ghost words = { λ r. i64_word r.low ∷ i64_word r.high ∷ f64_word r.step ∷ bool_word r.grows ∷ [] };
+
+    ghost is_value = { λ r. IsI64 r.low × IsI64 r.high × IsF64 r.step };
+
+    fn to_words(&self) -> [u64; 4] {
+        [
+            self.low.to_word(),
+            self.high.to_word(),
+            self.step.to_word(),
+            self.grows.to_word(),
+        ]
+    }
+
+    fn from_words(row: &[u64; 4]) -> Range {
+        Range {
+            low: i64::from_word(row[0]),
+            high: i64::from_word(row[1]),
+            step: f64::from_word(row[2]),
+            grows: bool::from_word(row[3]),
+        }
+    }
+}
+
+type RangeCell = StampedCell<4, Range>;
+
+type RangeHandle<'a> = CellHandle<'a, 4, Range>;
+
+fn of_bounds(low: i64, high: i64, step: f64, grows: bool) -> Range
+    requires { low ≤ℤ high }
+    ensures { (result.low ≡ low) × (result.high ≡ high) × (result.step ≡ step) × (result.grows ≡ grows) }
+{
+    Range {
+        low,
+        high,
+        step,
+        grows,
+    }
+}
+
+/// Grows by one at both ends, a thousand times.
+fn grow<R: Wait>(rt: &R, mut cell: RangeHandle<'_>) -> Result<(), Spent> {
+    for _ in 0..1_000u64 {
+        cell.update(rt, |r: &Range| -> Range {
+            of_bounds(
+                r.low.saturating_sub(1),
+                r.high.saturating_add(1),
+                r.step,
+                r.grows,
+            )
+        })?;
+    }
+    Ok(())
+}
+
+/// Whether each of a thousand values is as far below zero as above.
+fn is_even<R: Wait>(rt: &R, mut cell: RangeHandle<'_>) -> bool {
+    for _ in 0..1_000u64 {
+        let value = cell.get(rt);
+        if value.low.saturating_add(value.high) != 0 {
+            return false;
+        }
+    }
+    true
+}
+
+#[test]
+fn two_threads_grow_a_range_that_a_third_reads(rt: HostRuntime) -> Result<(), Fail> {
+    let Ok(cell) = RangeCell::new(rt.alloc(), of_bounds(-1, 1, 0.5, true)) else {
+        return Err(Fail::from("no memory for the cell"));
+    };
+    let (even, (one, two)) = join(
+        &rt,
+        || is_even(&rt, cell.enter()),
+        || join(&rt, || grow(&rt, cell.enter()), || grow(&rt, cell.enter())),
+    );
+    assert!(rt; even && one.is_ok() && two.is_ok());
+    assert!(rt; cell.enter().get(&rt) == of_bounds(-2_001, 2_001, 0.5, true));
+    Ok(())
+}
+
+/// Stops growing, where it still grows.
+fn stop<R: Wait>(rt: &R, cell: &mut RangeHandle<'_>) -> Result<Range, UpdateError<Range>> {
+    cell.try_update(rt, |r: &Range| -> Option<Range> {
+        if r.grows {
+            Some(of_bounds(r.low, r.high, r.step, false))
+        } else {
+            None
+        }
+    })
+}
+
+#[test]
+fn a_cell_gives_what_was_put(rt: HostRuntime) -> Result<(), Fail> {
+    let limits = Limits::in_layout(Layout::Two, 1, 4)?;
+    let (first, second) = (
+        of_bounds(-7, 9, -0.25, true),
+        of_bounds(i64::MIN, i64::MAX, 1e300, true),
+    );
+    let Ok(cell) = RangeCell::with_limits(rt.alloc(), limits, first) else {
+        return Err(Fail::from("no memory for the cell"));
+    };
+    let mut handle = cell.enter();
+    assert!(rt; handle.get(&rt) == first);
+    assert!(rt; handle.put(&rt, second).is_ok());
+    assert!(rt; handle.put_if(&rt, first, first) == Ok(false));
+    assert!(rt; handle.put_if(&rt, second, first) == Ok(true));
+    assert!(rt; stop(&rt, &mut handle) == Ok(first));
+    let stopped = of_bounds(-7, 9, -0.25, false);
+    assert!(rt; stop(&rt, &mut handle) == Err(UpdateError::Declined(stopped)));
+    assert!(rt; handle.put(&rt, first).is_err());
+    assert!(rt; handle.split().get(&rt) == stopped);
+    Ok(())
+}
+
+/// Whether a cell of this value gives it back.
+fn comes_back<const N: usize, T: InWords<N> + PartialEq, R: Wait + AllocGlobal>(
+    rt: &R,
+    value: T,
+) -> Option<bool>
+    requires { (1 ≤ N) × (N ≤ 16) }
+{
+    let cell = StampedCell::new(rt.alloc(), value).ok()?;
+    Some(cell.enter().get(rt) == value)
+}
+
+#[test]
+fn numbers_pairs_and_arrays_come_back(rt: HostRuntime) -> Result<(), Fail> {
+    let rt = &rt;
+    assert!(rt; comes_back::<1, u64, _>(rt, u64::MAX) == Some(true));
+    assert!(rt; comes_back::<1, i64, _>(rt, i64::MIN) == Some(true));
+    assert!(rt; comes_back::<1, bool, _>(rt, true) == Some(true));
+    assert!(rt; comes_back::<1, bool, _>(rt, false) == Some(true));
+    assert!(rt; comes_back::<1, f64, _>(rt, -0.5) == Some(true));
+    assert!(rt; comes_back::<2, (i64, f64), _>(rt, (-3, 2.5)) == Some(true));
+    assert!(rt; comes_back::<2, (u64, bool), _>(rt, (7, true)) == Some(true));
+    assert!(rt; comes_back::<3, [u64; 3], _>(rt, [1, 2, 3]) == Some(true));
+    Ok(())
+}

@@ -1,0 +1,70 @@
+//! Calls that are tried until a time is over.
+use crate::fixtures::made;
+use stamped_lock::{LockHandle, Mismatch};
+use std::sync::Wait;
+use std::test::Fail;
+use std::thread;
+use std::thread::join;
+use std::time::{Clock, Duration, Instant};
+
+/// Longer than any test takes.
+fn long() -> Duration {
+    Duration::from_secs(30)
+}
+
+fn short() -> Duration {
+    Duration::from_millis(20)
+}
+
+#[test]
+fn a_call_gives_up_when_its_time_is_over(rt: HostRuntime) -> Result<(), Fail> {
+    let lock = made(rt.alloc())?;
+    let (mut holder, mut other) = (lock.enter(), lock.enter());
+    let stamp = holder.try_write(&rt).ok_or("no stamp")?;
+    let start = Instant::now(&rt)?;
+    assert!(rt; other.try_write_for(&rt, short())?.is_none());
+    assert!(rt; start.elapsed(&rt)? >= short());
+    assert!(rt; other.try_read_for(&rt, Duration::from_millis(0))?.is_none());
+    assert!(rt; holder.unlock_write(stamp).is_ok());
+    assert!(rt; other.try_read_for(&rt, Duration::from_millis(0))?.is_some());
+    assert!(rt;
+        other
+            .try_write_for(&rt, Duration::from_millis(0))?
+            .is_none()
+    );
+    Ok(())
+}
+
+/// Holds write mode for a while.
+fn hold<R: Wait + Clock>(rt: &R, mut lock: LockHandle<'_>) -> Result<(), Mismatch> {
+    let Some(stamp) = lock.write(rt) else {
+        return Ok(());
+    };
+    thread::sleep(rt, short());
+    lock.unlock_write(stamp)
+}
+
+/// Whether both modes are acquired in time, and released.
+fn comes_in<R: Wait + Clock>(rt: &R, mut lock: LockHandle<'_>) -> bool {
+    let Ok(Some(read)) = lock.try_read_for(rt, long()) else {
+        return false;
+    };
+    let released = lock.unlock_read(rt, read).is_ok();
+    let Ok(Some(write)) = lock.try_write_for(rt, long()) else {
+        return false;
+    };
+    released && lock.unlock_write(write).is_ok()
+}
+
+#[test]
+fn a_call_comes_in_before_its_time_is_over(rt: HostRuntime) -> Result<(), Fail> {
+    let lock = made(rt.alloc())?;
+    let start = Instant::now(&rt)?;
+    let (held, came_in) = join(
+        &rt,
+        || hold(&rt, lock.enter()),
+        || comes_in(&rt, lock.enter()),
+    );
+    assert!(rt; held.is_ok() && came_in && start.elapsed(&rt)? < long());
+    Ok(())
+}
