@@ -27,7 +27,7 @@ impl InWords<3> for Config {
         [self.low, self.high, self.step.to_word()]
     }
 
-    fn from_words(row: &[u64; 3]) -> Config {
+    fn from_words(row: &[u64]) -> Config {
         Config {
             low: row[0],
             high: row[1],

@@ -1,6 +1,8 @@
 -- The rule of a record's words, and what each step on them tells.
 use Rattle.std.specs.Prelude.{◌≡◌, ◌≢◌, ℕ, ◌+◌, ◌<◌, ◌≤◌, ◌==◌, MatchBool, if◌then◌else◌, true}
-use Rattle.std.specs.Prelude.{Bool, false, List, [], ◌∷◌, ◌++◌, length, slice_index, Option, Some, None}
+use Rattle.std.specs.Prelude.{Bool, false, List, [], ◌∷◌, ◌++◌, length, slice_index, drop, Option, Some, None, Vec}
+use Rattle.std.specs.declared.alloc.Global.{Global}
+use Rattle.std.specs.declared.snapshot.Snapshot.{Snapshot}
 use mathlib.Core.List.{IsPrefix}
 use Rattle.atomic_table.specs.Table.{State, Step}
 use Rattle.stamp_core.specs.Limits.{Bounds}
@@ -271,6 +273,11 @@ abbrev pub opening_log : Option (List ℕ) → RecordLog
 opening_log None = []
 opening_log (Some words) =
     entry first_pass.name Mark ∷ entry first_pass.name (put_of words) ∷ []
+
+-- what was put of a table's first words, the lock word before it
+abbrev pub first_put : Option (Snapshot (Vec ℕ Global)) → Option (List ℕ)
+first_put None = None
+first_put (Some row) = Some (drop 1 row.value.items)
 
 abbrev pub opening_pass : Option (List ℕ) → RecordPassView
 opening_pass None = first_pass

@@ -22,6 +22,7 @@ mod record_word;
 mod running_lock;
 mod running_record;
 mod shared;
+mod wide_record;
 
 pub use book::Book;
 pub use book_error::BookError;
@@ -35,3 +36,4 @@ pub use record_view::{RecordEvent, RecordPhase, RecordShape};
 pub use running_lock::{LockError, RunningLock};
 pub use running_record::{RuledRecord, RunningRecord};
 pub use shared::Shared;
+pub use wide_record::WideRecord;

@@ -18,7 +18,7 @@ pub fn get_words<P: ContentRule>(
     seat: &mut RecordSeat,
     into: &mut [u64],
 ) -> Result<(), GetFault>
-    requires shape { (table.now.key.shape ≡ shape) × (shape.width ≤ 16) }
+    requires shape { (table.now.key.shape ≡ shape) × (shape.width ≤ 4096) }
     requires long { length into.old ≡ shape.width }
     requires seat { IsAtSeat table.now.table_id shape seat.old.table_id seat.old.me }
     requires idle { (first_of seat.old.me.0).phase ≡ Idle }

@@ -29,11 +29,11 @@ pub struct RecordRule<P> {
 
 impl<P: ContentRule> TableRule<(), RecordPasses, RecordKey> for RecordRule<P> {
     ghost use Rattle.std.specs.Prelude.{[], ◌∷◌};
-    ghost use Rattle.stamp_threads.specs.RecordRule.{IsKept, opening_pass};
+    ghost use Rattle.stamp_threads.specs.RecordRule.{IsKept, opening_pass, first_put};
 
     ghost holds = { λ key. IsKept key.enterable P.holds key.shape };
 
-    ghost first = { λ key. opening_pass key.first ∷ [] };
+    ghost first = { λ key. opening_pass (first_put key.first) ∷ [] };
 }
 
 /// The shape of the record, and the words that a step puts or has loaded: what the step's contract

@@ -19,7 +19,7 @@ pub fn see_words<P: ContentRule>(
     seat: &mut RecordSeat,
     into: &mut [u64],
 ) -> Result<u64, GetFault>
-    requires shape { (table.now.key.shape ≡ shape) × (shape.width ≤ 16) }
+    requires shape { (table.now.key.shape ≡ shape) × (shape.width ≤ 4096) }
     requires long { length into.old ≡ shape.width }
     requires seat { IsAtSeat table.now.table_id shape seat.old.table_id seat.old.me }
     requires idle { (first_of seat.old.me.0).phase ≡ Idle }
@@ -59,7 +59,7 @@ pub fn see_or_deny<P: ContentRule>(
     words: &[u64],
     into: &mut [u64],
 ) -> Result<Option<u64>, GetFault>
-    requires shape { (table.now.key.shape ≡ shape) × (shape.width ≤ 16) }
+    requires shape { (table.now.key.shape ≡ shape) × (shape.width ≤ 4096) }
     requires long { length into.old ≡ shape.width }
     requires seat { IsAtSeat table.now.table_id shape seat.old.table_id seat.old.me }
     requires idle { (first_of seat.old.me.0).phase ≡ Idle }

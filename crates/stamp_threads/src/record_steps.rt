@@ -83,7 +83,7 @@ pub fn store_word<P: ContentRule>(
     word: u64,
 )
     requires seat { IsAtSeat table.now.table_id table.now.key.shape seat.old.table_id seat.old.me }
-    requires inside { (index < table.now.key.shape.width) × (table.now.key.shape.width ≤ 16) }
+    requires inside { (index < table.now.key.shape.width) × (table.now.key.shape.width ≤ 4096) }
     requires writing { (puts_before : ℕ) × (words : List ℕ)
         × ((first_of seat.old.me.0).phase ≡ Writing puts_before words index)
         × (word ≡ slice_index words index) }
@@ -97,7 +97,7 @@ pub fn store_word<P: ContentRule>(
 #[inline(always)]
 pub fn store_all<P: ContentRule>(table: &RecordTable<P>, seat: &mut RecordSeat, words: &[u64])
     requires seat { IsAtSeat table.now.table_id table.now.key.shape seat.old.table_id seat.old.me }
-    requires long { (length words.now ≡ table.now.key.shape.width) × (table.now.key.shape.width ≤ 16) }
+    requires long { (length words.now ≡ table.now.key.shape.width) × (table.now.key.shape.width ≤ 4096) }
     requires writing { (puts_before : ℕ)
         × ((first_of seat.old.me.0).phase ≡ Writing puts_before words.now 0) }
     ensures table { seat.new.table_id ≡ seat.old.table_id }
@@ -179,7 +179,7 @@ pub fn load_for_get<C: WordsStep, P: ContentRule>(
 #[inline(always)]
 pub fn load_word<P: ContentRule>(table: &RecordTable<P>, seat: &mut RecordSeat, index: usize) -> u64
     requires seat { IsAtSeat table.now.table_id table.now.key.shape seat.old.table_id seat.old.me }
-    requires inside { (index < table.now.key.shape.width) × (table.now.key.shape.width ≤ 16) }
+    requires inside { (index < table.now.key.shape.width) × (table.now.key.shape.width ≤ 4096) }
     requires loading { (puts_before : ℕ) × (words : List ℕ)
         × ((first_of seat.old.me.0).phase ≡ Loading puts_before words) × (length words ≡ index) }
     ensures table { seat.new.table_id ≡ seat.old.table_id }
@@ -192,7 +192,7 @@ pub fn load_word<P: ContentRule>(table: &RecordTable<P>, seat: &mut RecordSeat, 
 #[inline(always)]
 pub fn load_all<P: ContentRule>(table: &RecordTable<P>, seat: &mut RecordSeat, into: &mut [u64])
     requires seat { IsAtSeat table.now.table_id table.now.key.shape seat.old.table_id seat.old.me }
-    requires long { (length into.old ≡ table.now.key.shape.width) × (table.now.key.shape.width ≤ 16) }
+    requires long { (length into.old ≡ table.now.key.shape.width) × (table.now.key.shape.width ≤ 4096) }
     requires loading { (puts_before : ℕ) × ((first_of seat.old.me.0).phase ≡ Loading puts_before []) }
     ensures table { seat.new.table_id ≡ seat.old.table_id }
     ensures long { length into.new ≡ length into.old }

@@ -1,8 +1,9 @@
 //! What a pass of a record knows. But for the shape, no value of these types is made: they stand in
 //! contracts and proofs alone.
 use crate::pass_view::PassView;
-use stamp_core::{Call, Limits, Reply, Words};
+use stamp_core::{Call, Limits, Reply};
 use std::collections::LinkedList;
+use std::snapshot::Snapshot;
 
 /// The limits of a record's lock word, of which the readers don't matter, and its width in words. It
 /// is not the `Shape` of `stamp_machines`, whose limits are those of the lock that stands beside the
@@ -11,18 +12,19 @@ use std::collections::LinkedList;
 pub struct RecordShape {
     /// The limits: their layout and their versions count.
     pub limits: Limits,
-    /// How many words there are, 1 to 16.
+    /// How many words there are, 1 to 4,096.
     pub width: usize,
 }
 
 /// What the rule of a record reads: its shape, the content that its first pass put, if it did, and
 /// whether passes may enter.
-#[derive(Clone, Copy)]
+#[derive(Drop)]
 pub struct RecordKey {
     /// The record's shape.
     pub shape: RecordShape,
-    /// What its first pass put when it was made; none for a record that begins with zeros.
-    pub first: Option<Words>,
+    /// The lock word and the words behind it where its first pass put these when it was made; none for a
+    /// record that begins with zeros.
+    pub first: Option<Snapshot<Vec<u64>>>,
     /// Whether passes may enter by a shared reference.
     pub enterable: bool,
 }

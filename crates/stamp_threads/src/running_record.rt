@@ -1,5 +1,5 @@
 //! The record that threads share.
-ghost use Rattle.std.specs.Prelude.{◌≡◌, ◌+◌, ◌≤◌, ◌-◌, ◌∷◌, [], IfOk, IfErr, Some, None, length, take};
+ghost use Rattle.std.specs.Prelude.{◌≡◌, ◌+◌, ◌≤◌, ◌-◌, [], ◌∷◌, IfOk, IfErr, Some, None, length, take};
 ghost use Rattle.std.specs.Prelude.{true, false};
 ghost use Rattle.stamp_core.specs.declared.call.Call.TheVariants.{Put, PutIf};
 ghost use Rattle.stamp_core.specs.declared.reply.Reply.TheVariants.{Done, Yes};
@@ -9,74 +9,36 @@ ghost use Rattle.stamp_threads.specs.RecordPass.{HasEntered, IsConsistentWith};
 ghost use Rattle.stamp_threads.specs.RecordCall.{MadeOnRecord, PutRefused};
 ghost use Rattle.stamp_threads.specs.RecordCall.{WasGot, GetRefused, GotOrRefused, RecordPassesMet};
 ghost use Rattle.stamp_threads.specs.RecordCall.{HasSeen, StandsAtWord, ReplaceRefused, UpdateRefused, PutIfMade};
-ghost use Rattle.stamp_threads.specs.RecordRule.{opening_pass, IsKept, IsNew, MayBegin};
-ghost use Rattle.atomic_table.specs.Table.{opening};
+ghost use Rattle.stamp_threads.specs.RecordRule.{IsNew, MayBegin};
 
 use crate::faults::{GetFault, PutFault};
-use crate::record_get::get_words;
 use crate::record_pass::RecordPass;
-use crate::record_rule::{AnyContent, ContentRule, RecordRule};
-use crate::record_see::{see_or_deny, see_words};
-use crate::record_steps::{self, acquire, load_for_put, release, release_over, store_all};
-use crate::record_view::{RecordKey, RecordPasses, RecordShape};
-use crate::record_word::{opening_word, word_after_one_put};
+use crate::record_rule::{AnyContent, ContentRule};
+use crate::record_see::see_or_deny;
+use crate::record_word::opening_word;
 use crate::running_lock::LockError;
-use atomic_table::Table;
-use stamp_core::{Layout, Limits, Words};
+use crate::wide_record::WideRecord;
+use stamp_core::{Limits, Words};
 use std::alloc::Global;
-use std::marker::{Brand, Model};
+use std::marker::Model;
 
 /// A record of 1 to 16 words that threads share by reference, each with a pass of its own. The
 /// words stand under a lock word of their own, and a get that is Ok gives words that stood
 /// together.
 #[derive(Drop)]
 pub struct RuledRecord<P: ContentRule> {
-    pub(crate) table: Table<(), RecordPasses, RecordKey, RecordRule<P>, Global>,
-    pub(crate) shape: RecordShape,
+    wide: WideRecord<P>,
 }
 
 impl<P: ContentRule> Model for RuledRecord<P> {
-    ghost use Rattle.std.specs.Prelude.{◌≡◌, ◌+◌, ◌≤◌};
+    ghost use Rattle.std.specs.Prelude.{◌≤◌};
     ghost use Rattle.stamp_threads.specs.RecordPass.{RecordView};
 
     ghost Value = { RecordView };
 
-    ghost view = { λ r. record {
-      table = r.table.shared.table_id;
-      shape = r.shape;
-      enterable = r.table.shared.key.enterable;
-    } };
+    ghost view = { λ r. r.wide };
 
-    ghost invariant = { λ r. (r.table.shared.key.shape ≡ r.shape)
-        × (r.table.shared.table_id.words ≡ r.shape.width + 1)
-        × (1 ≤ r.shape.width) × (r.shape.width ≤ 16) };
-}
-
-fn key_of(limits: Limits, width: usize, first: Option<Words>, enterable: bool) -> RecordKey
-    ensures { result ≡ record {
-      shape = record { limits = limits; width = width };
-      first = first;
-      enterable = enterable;
-    } }
-{
-    RecordKey {
-        shape: RecordShape { limits, width },
-        first,
-        enterable,
-    }
-}
-
-/// The words of a table: the lock word, and these.
-fn table_words(lock_word: u64, words: &[u64]) -> [u64; 17]
-    requires { length words.now ≤ 16 }
-    ensures { take (length words.now + 1) result ≡ lock_word ∷ words.now }
-{
-    let mut row = [0u64; 17];
-    row[0] = lock_word;
-    for i in 0..words.len() {
-        row[i + 1] = words[i];
-    }
-    row
+    ghost invariant = { λ r. (1 ≤ r.wide.shape.width) × (r.wide.shape.width ≤ 16) };
 }
 
 impl RuledRecord<AnyContent> {
@@ -93,7 +55,8 @@ impl RuledRecord<AnyContent> {
     {
         let mut row = [0u64; 17];
         row[0] = opening_word(limits.layout());
-        Self::of_table(alloc, limits, &row[..width + 1], None, false)
+        let (wide, pass) = WideRecord::of_table(alloc, limits, &row[..width + 1], None, false)?;
+        Ok((RuledRecord { wide }, pass))
     }
 }
 
@@ -109,7 +72,8 @@ impl<P: ContentRule> RuledRecord<P> {
         requires { MayBegin P.holds limits first }
         ensures { IfOk result (λ r. IsNew limits (length first) false (Some first) r.0 r.1) }
     {
-        Self::of_put(alloc, limits, first, false)
+        let (wide, pass) = WideRecord::holding(alloc, limits, first.as_slice())?;
+        Ok((RuledRecord { wide }, pass))
     }
 
     /// As `holding`, of a record that threads may also `enter`.
@@ -121,50 +85,8 @@ impl<P: ContentRule> RuledRecord<P> {
         requires { MayBegin P.holds limits first }
         ensures { IfOk result (λ r. IsNew limits (length first) true (Some first) r.0 r.1) }
     {
-        Self::of_put(alloc, limits, first, true)
-    }
-
-    /// A record of which these words were put.
-    fn of_put(
-        alloc: Global,
-        limits: Limits,
-        first: Words,
-        enterable: bool,
-    ) -> Result<(RuledRecord<P>, RecordPass), LockError>
-        requires { MayBegin P.holds limits first }
-        ensures { IfOk result (λ r. IsNew limits (length first) enterable (Some first) r.0 r.1) }
-    {
-        let width = first.len();
-        let row = table_words(word_after_one_put(limits.layout()), first.as_slice());
-        Self::of_table(alloc, limits, &row[..width + 1], Some(first), enterable)
-    }
-
-    /// A record of a table of these words: the lock word, and the record's.
-    fn of_table(
-        alloc: Global,
-        limits: Limits,
-        words: &[u64],
-        first: Option<Words>,
-        enterable: bool,
-    ) -> Result<(RuledRecord<P>, RecordPass), LockError>
-        requires width { (2 ≤ length words.now) × (length words.now ≤ 17) }
-        requires kept { IsKept enterable P.holds
-            (record { limits = limits; width = length words.now - 1 })
-            (opening words.now [] (opening_pass first ∷ [])) }
-        requires consistent { IsConsistentWith (length words.now - 1) (opening_pass first) }
-        ensures { IfOk result (λ r. IsNew limits (length words.now - 1) enterable first r.0 r.1) }
-    {
-        let key = key_of(limits, words.len() - 1, first, enterable);
-        match Table::of_words(alloc, words, &key) {
-            Ok((table, seat)) => {
-                let shape = RecordShape {
-                    limits,
-                    width: words.len() - 1,
-                };
-                Ok((RuledRecord { table, shape }, RecordPass { seat }))
-            }
-            Err(_) => Err(LockError::Unmade),
-        }
+        let (wide, pass) = WideRecord::holding_enterable(alloc, limits, first.as_slice())?;
+        Ok((RuledRecord { wide }, pass))
     }
 
     /// Puts the words, as many as the record's width, which keep to the rule: by one load, one exchange,
@@ -182,26 +104,7 @@ impl<P: ContentRule> RuledRecord<P> {
         ensures err { let v = pass.old.view in let w = pass.new.view in
             IfErr result (λ fault. PutRefused self.now.shape v fault w) }
     {
-        let table = &self.table.shared;
-        let layout = self.shape.limits.layout();
-        let words = words.as_slice();
-        // `Brand` stands for what a step's contract speaks of: this shape and these words.
-        let loaded = load_for_put::<Brand, P>(table, &mut pass.seat);
-        if layout.has_writer(loaded) {
-            return Err(PutFault::Busy(loaded));
-        }
-        if layout.writes_of(loaded) >= self.shape.limits.versions() {
-            return Err(PutFault::Spent(loaded));
-        }
-        let held = loaded + layout.writer_unit();
-        let found = acquire::<Brand, P>(table, &mut pass.seat, words, loaded, held);
-        if found != loaded {
-            return Err(PutFault::Lost { loaded, found });
-        }
-        store_all(table, &mut pass.seat, words);
-        let free = layout.released(held);
-        release::<Brand, P>(table, &mut pass.seat, words, held, free);
-        Ok(())
+        self.wide.put_from_once(pass, words.as_slice())
     }
 
     /// Gets the words, which stood together: by one load, a load a word and one load. It waits for
@@ -213,7 +116,7 @@ impl<P: ContentRule> RuledRecord<P> {
         ensures table { pass.new.table ≡ self.now.table }
         ensures got { GotOrRefused P.holds self.now.shape result pass.old.view pass.new.view }
     {
-        match self.shape.width {
+        match self.wide.width() {
             1 => self.get_fixed::<1>(pass),
             2 => self.get_fixed::<2>(pass),
             16 => self.get_fixed::<16>(pass),
@@ -245,7 +148,7 @@ impl<P: ContentRule> RuledRecord<P> {
         ensures table { pass.new.table ≡ self.now.table }
         ensures got { GotOrRefused P.holds self.now.shape result pass.old.view pass.new.view }
     {
-        let width = self.shape.width;
+        let width = self.wide.width();
         let mut row = [0u64; 16];
         self.get_into(pass, &mut row[..width])?;
         Ok(Words::of_row(row, width))
@@ -264,12 +167,7 @@ impl<P: ContentRule> RuledRecord<P> {
         ensures err { let v = pass.old.view in let w = pass.new.view in
             IfErr result (λ fault. GetRefused self.now.shape v fault w) }
     {
-        let shape = self.shape;
-        // In each of the equal arms the compiler knows the layout, so that its masks are constants.
-        match shape.limits.layout() {
-            Layout::One => get_words(&self.table.shared, shape, &mut pass.seat, into),
-            Layout::Two => get_words(&self.table.shared, shape, &mut pass.seat, into),
-        }
+        self.wide.get_into(pass, into)
     }
 
     /// Gets the words as `get_into` does, but makes no call: it is for `replace_once`, and gives the lock
@@ -285,7 +183,7 @@ impl<P: ContentRule> RuledRecord<P> {
         ensures err { let v = pass.old.view in let w = pass.new.view in
             IfErr result (λ fault. GetRefused self.now.shape v fault w) }
     {
-        see_words(&self.table.shared, self.shape, &mut pass.seat, into)
+        self.wide.see_once(pass, into)
     }
 
     /// Puts the words over those of the history that the pass knows, if nothing was put since: that
@@ -310,24 +208,7 @@ impl<P: ContentRule> RuledRecord<P> {
         ensures err { let v = pass.old.view in let w = pass.new.view in
             IfErr result (λ fault. ReplaceRefused self.now.shape word v fault w) }
     {
-        let table = &self.table.shared;
-        let layout = self.shape.limits.layout();
-        let new_words = words.as_slice();
-        if layout.writes_of(word) >= self.shape.limits.versions() {
-            return Err(PutFault::Spent(word));
-        }
-        let held = word + layout.writer_unit();
-        let found = acquire::<Brand, P>(table, &mut pass.seat, new_words, word, held);
-        if found != word {
-            return Err(PutFault::Lost {
-                loaded: word,
-                found,
-            });
-        }
-        store_all(table, &mut pass.seat, new_words);
-        let free = layout.released(held);
-        release_over::<Brand, P>(table, &mut pass.seat, new_words, held, free);
-        Ok(())
+        self.wide.replace_from_once(pass, word, words.as_slice())
     }
 
     /// Puts the second words if the record holds the first, and says whether it did: the call
@@ -350,11 +231,11 @@ impl<P: ContentRule> RuledRecord<P> {
         ensures err { let v = pass.old.view in let w = pass.new.view in
             IfErr result (λ fault. UpdateRefused P.holds self.now.shape v fault w) }
     {
-        let width = self.shape.width;
+        let width = self.wide.width();
         let mut row = [0u64; 16];
         let seen = see_or_deny(
-            &self.table.shared,
-            self.shape,
+            &self.wide.table.shared,
+            self.wide.shape,
             &mut pass.seat,
             expected.as_slice(),
             words.as_slice(),
@@ -374,9 +255,7 @@ impl<P: ContentRule> RuledRecord<P> {
         ensures table { result.table ≡ self.now.table }
         ensures entered { HasEntered self.now.shape result.view }
     {
-        RecordPass {
-            seat: record_steps::enter::<Brand, P>(&self.table.shared),
-        }
+        self.wide.enter()
     }
 
     /// A new pass, which knows as much as this one and has made no call. It makes one load and takes
@@ -389,13 +268,12 @@ impl<P: ContentRule> RuledRecord<P> {
         ensures all_consistent { let width = self.now.shape.width in
             IsConsistentWith width pass.new.view × IsConsistentWith width result.view }
     {
-        let seat = record_steps::split(&self.table.shared, &mut pass.seat);
-        RecordPass { seat }
+        self.wide.split_off(pass)
     }
 
     /// The pass given, and a new one, which knows as much and has made no call. It makes one load and
     /// takes no memory.
-    pub fn split(&self, mut pass: RecordPass) -> (RecordPass, RecordPass)
+    pub fn split(&self, pass: RecordPass) -> (RecordPass, RecordPass)
         requires { pass.table ≡ self.now.table }
         ensures table { (result.0.table ≡ self.now.table) × (result.1.table ≡ self.now.table) }
         ensures given { result.0.view ≡ after_split pass.view }
@@ -403,23 +281,17 @@ impl<P: ContentRule> RuledRecord<P> {
         ensures all_consistent { let width = self.now.shape.width in
             IsConsistentWith width result.0.view × IsConsistentWith width result.1.view }
     {
-        let new = self.split_off(&mut pass);
-        (pass, new)
+        self.wide.split(pass)
     }
 
     /// Both passes, each of which then knows what either knew. It makes three loads.
-    pub fn meet(&self, mut first: RecordPass, second: RecordPass) -> (RecordPass, RecordPass)
+    pub fn meet(&self, first: RecordPass, second: RecordPass) -> (RecordPass, RecordPass)
         requires { (first.table ≡ self.now.table) × (second.table ≡ self.now.table) }
         ensures table { (result.0.table ≡ self.now.table) × (result.1.table ≡ self.now.table) }
         ensures met { let width = self.now.shape.width in
             RecordPassesMet width first.view second.view result.0.view result.1.view }
     {
-        let RecordPass { seat } = second;
-        let table = &self.table.shared;
-        record_steps::share_seat(table, &mut first.seat, seat);
-        record_steps::load_both::<Brand, P>(table, &mut first.seat);
-        let seat = record_steps::part_seats(table, &mut first.seat);
-        (first, RecordPass { seat })
+        self.wide.meet(first, second)
     }
 }
 

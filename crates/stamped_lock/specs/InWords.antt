@@ -1,5 +1,5 @@
 -- Values in words.
-use Rattle.std.specs.Prelude.{◌≡◌, ◌==◌, ℕ, ℤ, Bool, List, not, to_bits, from_bits}
+use Rattle.std.specs.Prelude.{◌≡◌, ◌==◌, ℕ, ℤ, Bool, List, map, not, to_bits, from_bits}
 use Rattle.std.specs.Int.{w64, cast_unsigned, cast_signed, from_bool}
 use Rattle.std.specs.Float.{binary64}
 use lib.Ieee.{Float}
@@ -7,6 +7,10 @@ use lib.Ieee.{Float}
 -- these are the words of a value
 abbrev pub AreWordsOf : {T : Type 0} → (T → Type 0) → (T → List ℕ) → List ℕ → Type 0
 AreWordsOf {T} IsValue words row = (value : T) × IsValue value × (row ≡ words value)
+
+-- each of these values comes back from its word
+abbrev pub ComeBack : {T : Type 0} → (ℕ → T) → (T → ℕ) → List T → Type 0
+ComeBack value word values = map value (map word values) ≡ values
 
 -- the word of a number or of a truth value, and what a word is read as
 abbrev pub i64_word : ℤ → ℕ

@@ -55,7 +55,7 @@ impl<'a, const N: usize, T: InWords<N>> CellHandle<'a, N, T> {
         ensures value { T.is_value result }
         ensures made { MadeAtLast Get (Content (T.words result)) self.old self.new }
     {
-        let row = record_calls::get(rt, self.running, &mut self.pass);
+        let row: [u64; N] = record_calls::get(rt, self.running, &mut self.pass);
         T::from_words(&row)
     }
 

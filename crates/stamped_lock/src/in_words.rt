@@ -1,6 +1,7 @@
 //! Types whose values are written in words.
-ghost use Rattle.std.specs.Prelude.{◌≡◌, ◌∷◌, []};
+ghost use Rattle.std.specs.Prelude.{◌≡◌, ◌∷◌, [], map, length};
 ghost use Rattle.stamped_lock.specs.InWords.{i64_word, i64_of, f64_word, f64_of, bool_word, bool_of};
+ghost use Rattle.stamped_lock.specs.InWords.{ComeBack};
 
 use std::num::{f64_from_bits_with_nan, f64_to_bits_with_nan};
 
@@ -8,7 +9,7 @@ use std::num::{f64_from_bits_with_nan, f64_to_bits_with_nan};
 /// own says how in its `words` and two functions. A fact of the struct, or `is_value`, is true of each
 /// value that is read.
 pub trait InWords<const N: usize>: Copy {
-    ghost use Rattle.std.specs.Prelude.{◌≡◌, ℕ, List};
+    ghost use Rattle.std.specs.Prelude.{◌≡◌, ℕ, List, length};
 
     // The words of a value.
     ghost words: { Self → List ℕ };
@@ -22,8 +23,9 @@ pub trait InWords<const N: usize>: Copy {
         ensures is_value { is_value self.now };
 
     /// The value that these are the words of.
-    fn from_words(row: &[u64; N]) -> Self
-        requires { (value : Self) × is_value value × (row.now ≡ words value) }
+    fn from_words(row: &[u64]) -> Self
+        requires long { length row.now ≡ N }
+        requires words { (value : Self) × is_value value × (row.now ≡ words value) }
         ensures { (value : Self) → is_value value → row.now ≡ words value → result ≡ value };
 }
 
@@ -120,7 +122,7 @@ impl<T: InWord> InWords<1> for T {
         [self.to_word()]
     }
 
-    fn from_words(row: &[u64; 1]) -> T {
+    fn from_words(row: &[u64]) -> T {
         T::from_word(row[0])
     }
 }
@@ -134,7 +136,7 @@ impl<A: InWord, B: InWord> InWords<2> for (A, B) {
         [self.0.to_word(), self.1.to_word()]
     }
 
-    fn from_words(row: &[u64; 2]) -> (A, B) {
+    fn from_words(row: &[u64]) -> (A, B) {
         (A::from_word(row[0]), B::from_word(row[1]))
     }
 }
@@ -146,7 +148,75 @@ impl<const N: usize> InWords<N> for [u64; N] {
         *self
     }
 
-    fn from_words(row: &[u64; N]) -> [u64; N] {
-        *row
+    fn from_words(row: &[u64]) -> [u64; N] {
+        let mut values = [0; N];
+        values.copy_from_slice(row);
+        values
+    }
+}
+
+/// The words of the values, one of each.
+fn words_of<const N: usize, T: InWord>(values: &[T; N]) -> [u64; N]
+    ensures words { result ≡ map T.word values.now }
+    ensures back { map T.value result ≡ values.now }
+{
+    let mut row = [0; N];
+    for i in 0..N {
+        row[i] = values[i].to_word();
+    }
+    row
+}
+
+/// The values that these are the words of.
+fn values_of<const N: usize, T: InWord>(row: &[u64]) -> [T; N]
+    requires { length row.now ≡ N }
+    ensures { result ≡ map T.value row.now }
+{
+    let mut values = [T::from_word(0); N];
+    for i in 0..N {
+        values[i] = T::from_word(row[i]);
+    }
+    values
+}
+
+impl<const N: usize> InWords<N> for [i64; N] {
+    ghost words = { map i64_word };
+
+    ghost is_value = { ComeBack i64_of i64_word };
+
+    fn to_words(&self) -> [u64; N] {
+        words_of(self)
+    }
+
+    fn from_words(row: &[u64]) -> [i64; N] {
+        values_of(row)
+    }
+}
+
+impl<const N: usize> InWords<N> for [f64; N] {
+    ghost words = { map f64_word };
+
+    ghost is_value = { ComeBack f64_of f64_word };
+
+    fn to_words(&self) -> [u64; N] {
+        words_of(self)
+    }
+
+    fn from_words(row: &[u64]) -> [f64; N] {
+        values_of(row)
+    }
+}
+
+impl<const N: usize> InWords<N> for [bool; N] {
+    ghost words = { map bool_word };
+
+    ghost is_value = { ComeBack bool_of bool_word };
+
+    fn to_words(&self) -> [u64; N] {
+        words_of(self)
+    }
+
+    fn from_words(row: &[u64]) -> [bool; N] {
+        values_of(row)
     }
 }

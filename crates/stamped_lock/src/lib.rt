@@ -40,6 +40,8 @@ mod stamp;
 mod timed;
 mod unlock_error;
 mod update_error;
+mod wide_handle;
+mod wide_record;
 mod write_error;
 mod write_if;
 
@@ -57,4 +59,6 @@ pub use stamp_core::{Layout, Limits, StampKind};
 pub use stamp_threads::{AnyContent, ContentRule, GetFault, LockError, Lost, PutFault};
 pub use unlock_error::UnlockError;
 pub use update_error::UpdateError;
+pub use wide_handle::WideHandle;
+pub use wide_record::StampedWideRecord;
 pub use write_error::WriteError;

@@ -1,6 +1,7 @@
 //! Sections: a closure between two calls of the lock.
-ghost use Rattle.std.specs.Fn.{FnOnceReturnsAt, FnReturnsAt};
+ghost use Rattle.std.specs.Fn.{FnOnceReturnsAt, FnReturnsAt, CalledAt};
 ghost use Rattle.stamped_lock.specs.Sections.{WriteSection, ReadSection, OptimisticSection};
+ghost use Rattle.stamped_lock.specs.Sections.{OptimisticSectionMut, RanFrom};
 
 use crate::handle::LockHandle;
 use crate::mismatch::Mismatch;
@@ -65,6 +66,42 @@ impl<'a> LockHandle<'a> {
         ensures { OptimisticSection (λ t m. FnReturnsAt F.Fn f m t) result self.old self.new }
     {
         self.read_lent(rt, &f)
+    }
+
+    /// As `read_optimistically`, by a closure that may change what it captures, as a buffer that it fills.
+    /// Where it runs again, it finds there what its first run left, which may come of torn reads.
+    pub fn read_optimistically_mut<T: Drop, R: Wait, F: FnMut(&LockHandle<'a>) -> T>(
+        &mut self,
+        rt: &R,
+        mut f: F,
+    ) -> Result<T, Mismatch>
+        requires { F.IsAlwaysCallable f }
+        ensures { OptimisticSectionMut (CalledAt F.FnMut) f result self.old self.new }
+    {
+        let Some(stamp) = self.try_optimistic_read() else {
+            return self.read_with_mut(rt, f);
+        };
+        let answer = f(self);
+        let valid = self.validate(stamp);
+        if valid {
+            return Ok(answer);
+        }
+        self.read_with_mut(rt, f)
+    }
+
+    /// `read_with`, by a closure that may change what it captures.
+    fn read_with_mut<T: Drop, R: Wait, F: FnMut(&LockHandle<'a>) -> T>(
+        &mut self,
+        rt: &R,
+        mut f: F,
+    ) -> Result<T, Mismatch>
+        requires { F.IsAlwaysCallable f }
+        ensures { ReadSection (RanFrom (CalledAt F.FnMut) f) result self.old self.new }
+    {
+        let held = self.read(rt);
+        let answer = f(self);
+        self.unlock_read(rt, held)?;
+        Ok(answer)
     }
 
     /// `read_optimistically`, by a closure that is lent.

@@ -31,7 +31,7 @@ impl InWords<4> for Range {
         ]
     }
 
-    fn from_words(row: &[u64; 4]) -> Range {
+    fn from_words(row: &[u64]) -> Range {
         Range {
             low: i64::from_word(row[0]),
             high: i64::from_word(row[1]),
@@ -154,5 +154,8 @@ fn numbers_pairs_and_arrays_come_back(rt: HostRuntime) -> Result<(), Fail> {
     assert!(rt; comes_back::<2, (i64, f64), _>(rt, (-3, 2.5)) == Some(true));
     assert!(rt; comes_back::<2, (u64, bool), _>(rt, (7, true)) == Some(true));
     assert!(rt; comes_back::<3, [u64; 3], _>(rt, [1, 2, 3]) == Some(true));
+    assert!(rt; comes_back::<3, [i64; 3], _>(rt, [i64::MIN, -1, 7]) == Some(true));
+    assert!(rt; comes_back::<2, [f64; 2], _>(rt, [-0.5, 1e300]) == Some(true));
+    assert!(rt; comes_back::<4, [bool; 4], _>(rt, [true, false, false, true]) == Some(true));
     Ok(())
 }

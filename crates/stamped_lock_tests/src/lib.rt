@@ -21,3 +21,4 @@ mod thread_tests;
 mod timed_tests;
 #[cfg(test)]
 mod update_tests;
+mod wide_tests;

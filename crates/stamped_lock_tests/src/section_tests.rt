@@ -1,6 +1,7 @@
 //! Sections of one thread.
 use crate::fixtures::{Ask, answer, made, made_with, number};
 use stamped_lock::{Layout, Mismatch, StampedLock, WriteError};
+use std::process::Abort;
 use std::sync::Wait;
 use std::sync::atomic::{AtomicU64, Ordering};
 use std::test::Fail;
@@ -95,5 +96,43 @@ fn a_section_runs_where_its_test_holds(rt: HostRuntime) -> Result<(), Fail> {
         assert!(rt; asked.load(Ordering::SeqCst) == asks);
     }
     assert!(rt; !lock.enter().is_write_locked());
+    Ok(())
+}
+
+/// Sets both numbers in write mode.
+fn set_both<R: Wait + Abort>(rt: &R, lock: &StampedLock, pair: &[AtomicU64; 2]) {
+    let set = lock.enter().write_with(rt, |_| {
+        pair[0].store(3, Ordering::SeqCst);
+        pair[1].store(4, Ordering::SeqCst);
+    });
+    assert!(rt; set == Ok(()));
+}
+
+/// Reads both numbers into the buffer; in the first run a writer comes between them. Answers how often it ran.
+fn read_around_a_writer<R: Wait + Abort>(
+    rt: &R,
+    lock: &StampedLock,
+    pair: &[AtomicU64; 2],
+    buffer: &mut [u64; 2],
+) -> Result<u64, Mismatch> {
+    let mut runs = 0u64;
+    lock.enter().read_optimistically_mut(rt, |_| {
+        runs = runs.wrapping_add(1);
+        buffer[0] = pair[0].load(Ordering::SeqCst);
+        if runs == 1 {
+            set_both(rt, lock, pair);
+        }
+        buffer[1] = pair[1].load(Ordering::SeqCst);
+        runs
+    })
+}
+
+#[test]
+fn a_buffer_is_filled_again_after_a_torn_read(rt: HostRuntime) -> Result<(), Fail> {
+    let lock = made(rt.alloc())?;
+    let pair = [AtomicU64::new(1), AtomicU64::new(2)];
+    let mut buffer = [0; 2];
+    assert!(rt; read_around_a_writer(&rt, &lock, &pair, &mut buffer) == Ok(2));
+    assert!(rt; buffer == [3, 4]);
     Ok(())
 }

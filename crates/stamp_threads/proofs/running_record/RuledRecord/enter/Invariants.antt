@@ -1,5 +1,0 @@
-use Rattle.std.proofs.Common.{[]}
-use Rattle.stamp_threads.proofs.running_record.RuledRecord.enter.Given as goal
-
-abbrev pub ghosts-enter : goal.ghosts-enter
-ghosts-enter g a = record { shape = a.table.now.key.shape; words = [] }

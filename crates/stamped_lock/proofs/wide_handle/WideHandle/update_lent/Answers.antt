@@ -1,0 +1,13 @@
+use Rattle.std.proofs.Common.{rules, refl}
+use Rattle.stamped_lock.proofs.Tries.{put_over}
+use Rattle.stamped_lock.proofs.wide_handle.WideHandle.update_lent.Goals as goal
+
+pub replace_from_once-requires-clause-rule : goal.replace_from_once-requires-clause-rule
+replace_from_once-requires-clause-rule g c = (c.requires.rule _ _ (search rules) (search rules) c.change.ensures).1
+
+pub returns-clause-ran : goal.returns-clause-ran
+returns-clause-ran g c = (_, _, c.change.ensures, c.copy_from_slice.ensures.after, refl)
+
+pub returns-clause-ok : goal.returns-clause-ok
+returns-clause-ok g c = rw (← c.self.view_is)
+    (put_over _ _ _ _ _ _ _ refl c.in_ok-word.ensures.ok c.in_ok-replace_from_once.ensures.ok)

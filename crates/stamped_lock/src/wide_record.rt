@@ -1,0 +1,72 @@
+//! The record of many words.
+ghost use Rattle.std.specs.Prelude.{◌≡◌, ◌≤◌, IfOk, length, true};
+ghost use Rattle.stamp_core.specs.Limits.{widest};
+ghost use Rattle.stamp_threads.specs.RecordPass.{HasEntered};
+
+use crate::wide_handle::WideHandle;
+use stamp_core::{Layout, Limits};
+use stamp_threads::{ContentRule, LockError, WideRecord};
+use std::alloc::Global;
+use std::marker::Model;
+
+/// `N` words (1 to 4,096) that threads share by reference, and that keep to a rule whenever they are
+/// read, as those of a `StampedRecord` do. Its calls take slices of `N` words. The more words, the longer
+/// a call takes, and the oftener a get or an update loses to a put and is tried again. A history with
+/// more than 16 words has no text.
+#[derive(Drop)]
+pub struct StampedWideRecord<const N: usize, P: ContentRule> {
+    running: WideRecord<P>,
+}
+
+impl<const N: usize, P: ContentRule> Model for StampedWideRecord<N, P> {
+    ghost use Rattle.std.specs.Prelude.{◌≡◌, ◌≤◌, true};
+    ghost use Rattle.stamp_threads.specs.RecordPass.{RecordView};
+
+    ghost Value = { RecordView };
+
+    ghost view = { λ r. r.running };
+
+    ghost invariant = { λ r. (r.running.shape.width ≡ N) × (1 ≤ N) × (N ≤ 4096)
+        × (r.running.enterable ≡ true) };
+}
+
+impl<const N: usize, P: ContentRule> StampedWideRecord<N, P> {
+    /// A record of these words. It takes 2^55-3 puts in all. It refuses only for want of memory;
+    /// nothing was made then.
+    #[tactic(auto, unfolding(stamp_core::specs::Layout::units_of))]
+    pub fn new(alloc: Global, first: &[u64]) -> Result<StampedWideRecord<N, P>, LockError>
+        requires width { (1 ≤ N) × (N ≤ 4096) }
+        requires long { length first.now ≡ N }
+        requires rule { P.holds first.now }
+        ensures { IfOk result (λ r.
+            r.shape ≡ record { limits = widest Layout.One; width = N }) }
+    {
+        StampedWideRecord::with_limits(alloc, Limits::widest(Layout::One), first)
+    }
+
+    /// A record of these limits and words. Of the limits the versions count, of which the first content
+    /// takes one; the readers don't matter. It refuses only for want of memory; nothing was made then.
+    pub fn with_limits(
+        alloc: Global,
+        limits: Limits,
+        first: &[u64],
+    ) -> Result<StampedWideRecord<N, P>, LockError>
+        requires width { (1 ≤ N) × (N ≤ 4096) }
+        requires long { length first.now ≡ N }
+        requires version { 1 ≤ limits.versions }
+        requires rule { P.holds first.now }
+        ensures { IfOk result (λ r. r.shape ≡ record { limits = limits; width = N }) }
+    {
+        let (running, pass) = WideRecord::holding_enterable(alloc, limits, first)?;
+        drop(pass);
+        Ok(StampedWideRecord { running })
+    }
+
+    /// A handle, for one thread at a time. It has made no call. It takes one load and no memory.
+    pub fn enter(&self) -> WideHandle<'_, N, P>
+        ensures running { result.running ≡ self.now }
+        ensures entered { HasEntered self.now.shape result.pass }
+    {
+        WideHandle::new(&self.running, self.running.enter())
+    }
+}
