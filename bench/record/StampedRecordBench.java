@@ -1,11 +1,14 @@
-// Times gets and puts of words under the JDK's StampedLock, as `timings record` (crates/timings) does: a get
-// reads optimistically and validates, a put holds the write lock.
+// Times gets, puts and updates of words under the JDK's StampedLock, as `timings record` (crates/timings)
+// does: a get reads optimistically and validates, a put holds the write lock, an update reads optimistically and
+// converts its stamp to one of the write lock.
 // `java StampedRecordBench.java [CALLS [ROUNDS]]` writes its lines to standard error, in
 // timings' form, after rounds that warm the compiler.
 import java.util.concurrent.locks.StampedLock;
+import java.util.function.LongSupplier;
 
 public final class StampedRecordBench {
     static final int MORE = 32;
+    static final int MORE_UPDATES = 4;
     static final int BETWEEN = 10_000;
 
     final StampedLock lock = new StampedLock();
@@ -39,6 +42,26 @@ public final class StampedRecordBench {
         return true;
     }
 
+    // Adds one to each word. Where its stamp doesn't convert it begins again under the write lock.
+    void update(long[] row) {
+        long stamp = lock.tryOptimisticRead();
+        long held = 0;
+        while (held == 0) {
+            if (stamp == 0) {
+                stamp = lock.writeLock();
+            }
+            for (int i = 0; i < words.length; i++) {
+                row[i] = words[i] + 1;
+            }
+            held = lock.tryConvertToWriteLock(stamp);
+            stamp = 0;
+        }
+        for (int i = 0; i < words.length; i++) {
+            words[i] = row[i];
+        }
+        lock.unlockWrite(held);
+    }
+
     long gets(long calls) {
         long[] row = new long[words.length];
         long good = 0;
@@ -61,6 +84,14 @@ public final class StampedRecordBench {
         return good;
     }
 
+    long updates(long calls) {
+        long[] row = new long[words.length];
+        for (long i = 0; i < calls; i++) {
+            update(row);
+        }
+        return calls;
+    }
+
     void putUntilOver() {
         long start = System.nanoTime();
         long due = BETWEEN;
@@ -75,21 +106,37 @@ public final class StampedRecordBench {
         }
     }
 
-    long readBy(int threads, long calls) throws InterruptedException {
+    static long sumOf(int threads, LongSupplier part) throws InterruptedException {
         long[] good = new long[threads];
         Thread[] others = new Thread[threads];
         for (int i = 1; i < threads; i++) {
             int at = i;
-            others[i] = new Thread(() -> good[at] = gets(calls));
+            others[i] = new Thread(() -> good[at] = part.getAsLong());
             others[i].start();
         }
-        good[0] = gets(calls);
+        good[0] = part.getAsLong();
         long sum = good[0];
         for (int i = 1; i < threads; i++) {
             others[i].join();
             sum += good[i];
         }
         return sum;
+    }
+
+    long readBy(int threads, long calls) throws InterruptedException {
+        return sumOf(threads, () -> gets(calls));
+    }
+
+    // How many updates succeeded; 0 where the words didn't grow by as many.
+    long updateBy(int threads, long calls) throws InterruptedException {
+        long[] before = words.clone();
+        long good = sumOf(threads, () -> updates(calls));
+        for (int i = 0; i < words.length; i++) {
+            if (words[i] - before[i] != good) {
+                return 0;
+            }
+        }
+        return good;
     }
 
     long besideWriter(int threads, long calls) throws InterruptedException {
@@ -114,6 +161,8 @@ public final class StampedRecordBench {
         tell(warm, "into" + words.length, 1, calls, start, gets(calls));
         start = System.nanoTime();
         tell(warm, "put" + words.length, 1, calls, start, puts(calls));
+        start = System.nanoTime();
+        tell(warm, "update" + words.length, 1, calls, start, updates(calls));
     }
 
     void together(boolean warm, long calls) throws InterruptedException {
@@ -122,6 +171,13 @@ public final class StampedRecordBench {
             tell(warm, "readers", threads, calls, start, readBy(threads, calls));
             start = System.nanoTime();
             tell(warm, "beside", threads, calls, start, besideWriter(threads, calls));
+        }
+    }
+
+    void updateTogether(boolean warm, long calls) throws InterruptedException {
+        for (int threads = 1; threads <= 4; threads++) {
+            long start = System.nanoTime();
+            tell(warm, "updaters", threads, calls, start, updateBy(threads, calls));
         }
     }
 
@@ -136,6 +192,7 @@ public final class StampedRecordBench {
             two.alone(warm, count);
             sixteen.alone(warm, count);
             two.together(warm, warm ? MORE * count : count);
+            two.updateTogether(warm, warm ? MORE_UPDATES * count : count);
         }
     }
 }

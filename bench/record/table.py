@@ -1,4 +1,4 @@
-"""Prints the tables of record.sh from its lines 'PROGRAM NAME THREADS CALLS NANOSECONDS GOOD'."""
+"""Prints the tables of time.sh from its lines 'PROGRAM NAME THREADS CALLS NANOSECONDS GOOD'."""
 import collections
 import statistics
 import sys
@@ -13,6 +13,11 @@ ALONE = [
     ("get_once, 16 words", "get16", "load16"),
     ("  handed on", "hand16", "load16"),
     ("put_once, 16 words", "put16", "store16"),
+]
+# An update by a handle: the title of its row, and its name.
+UPDATES = [
+    ("update, 2 words", "update2"),
+    ("update, 16 words", "update16"),
 ]
 # A get by a handle, and the title of its row.
 BY_HANDLE = [
@@ -35,6 +40,8 @@ def rounds():
             continue
         if int(good) < made * 0.9:
             sys.exit(f"too few calls succeeded: {line}")
+        if name.startswith("update") and int(good) != made:
+            sys.exit(f"an update was lost: {line}")
         times[program, name, int(threads)].append(int(nanoseconds) / int(good))
     return times, left_out
 
@@ -65,6 +72,8 @@ def main():
                        for program in ("timings", "record_c")]
             print(f"{name + ' ' + str(threads):20}" + "".join(f"{rate:9.0f}" for rate in rates)
                   + f"{growths[0]:9.2f}{growths[1]:9.2f}")
+    print()
+    updates(median)
     if left_out:
         print(f"\nrounds left out, since the writer was stopped in a put: {len(left_out)}")
 
@@ -81,6 +90,21 @@ def by_handle(median):
         jdk = median("StampedLock", "into" + width)
         print(f"{title:20}{time:9.2f}{once:10.2f}{into:10.2f}{c:9.2f}{jdk:9.2f}"
               f"{time / once:9.2f}{time / into:9.2f}{time / c:8.2f}")
+
+
+def updates(median):
+    """Updates by a handle, each beside its peers: by one thread, and by several of one record."""
+    programs = ("timings", "record_c", "StampedLock")
+    print(f"{'ns an update':20}{'handle':>9}{'C':>9}{'JDK':>9}{'of C':>8}{'JDK/ours':>10}")
+    for title, name in UPDATES:
+        time, c, jdk = (median(program, name) for program in programs)
+        print(f"{title:20}{time:9.2f}{c:9.2f}{jdk:9.2f}{time / c:8.2f}{jdk / time:10.2f}")
+    print()
+    print(f"{'million updates a s':20}{'handle':>9}{'C':>9}{'JDK':>9}{'of C':>8}{'of JDK':>8}")
+    for threads in range(1, 5):
+        rates = [1000 / median(program, "updaters", threads) for program in programs]
+        print(f"{f'updaters {threads}':20}" + "".join(f"{rate:9.1f}" for rate in rates)
+              + f"{rates[0] / rates[1]:8.2f}{rates[0] / rates[2]:8.2f}")
 
 
 main()

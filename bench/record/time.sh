@@ -1,7 +1,7 @@
 #!/usr/bin/env bash
-# Times gets and puts of a running record beside the same accesses in C11, words under the JDK's
-# StampedLock, and the kit's SeqCell: nanoseconds a call, the medians of many short rounds, the
-# programs alternating.
+# Times gets and puts of a running record and updates by a handle beside the same accesses in C11, words
+# under the JDK's StampedLock, and the kit's SeqCell: nanoseconds a call, the medians of many short
+# rounds, the programs alternating. Of threads that update one record no update may be lost.
 #
 #   bench/record/time.sh [CALLS [ROUNDS]]
 #

@@ -1,6 +1,6 @@
 //! Times gets and puts of a running record, by one thread, and gets by several, with and without a
-//! thread that puts each 10 microseconds; gets by a handle of `stamped_lock`; and loads and stores of a
-//! `SeqCell` of the same words.
+//! thread that puts each 10 microseconds; gets and updates by a handle of `stamped_lock`, and updates of
+//! one record by several threads; and loads and stores of a `SeqCell` of the same words.
 //!
 //! `record [CALLS [ROUNDS]]` writes a line for each kind of call and round: its name, how many
 //! threads, how many calls each made, the nanoseconds from the first to the last, and how many calls
@@ -12,6 +12,7 @@ mod calls;
 mod cells;
 mod handles;
 mod side_by_side;
+mod updates;
 
 use crate::Numbers;
 use crate::line::tell;
@@ -29,6 +30,7 @@ use std::sync::Wait;
 use std::sync::atomic::AtomicU64;
 use std::thread::Threads;
 use std::time::{Clock, Instant};
+use updates::{updates, updates_by};
 
 /// How many calls are made where no number says so.
 const FEW: u64 = 1_000;
@@ -36,8 +38,11 @@ const FEW: u64 = 1_000;
 /// How many times as many calls each of several threads makes, since starting them takes time too.
 const MORE: u64 = 32;
 
+/// The same of updates, each of which takes as long as many gets.
+const MORE_UPDATES: u64 = 4;
+
 /// What the lines call that of a record of two words which one thread makes, in its order.
-const OF_TWO: [&str; 8] = [
+const OF_TWO: [&str; 9] = [
     "get2",
     "hand2",
     "into2",
@@ -46,10 +51,11 @@ const OF_TWO: [&str; 8] = [
     "handle_hand2",
     "load2",
     "store2",
+    "update2",
 ];
 
 /// And of one of sixteen words.
-const OF_SIXTEEN: [&str; 8] = [
+const OF_SIXTEEN: [&str; 9] = [
     "get16",
     "hand16",
     "into16",
@@ -58,6 +64,7 @@ const OF_SIXTEEN: [&str; 8] = [
     "handle_hand16",
     "load16",
     "store16",
+    "update16",
 ];
 
 /// A record of words, and what is timed beside it: one of `stamped_lock`, and a cell.
@@ -89,7 +96,7 @@ impl<const N: usize> Timed<N> {
     fn tell_running<R: Eprint + Clock>(
         &self,
         rt: &R,
-        names: &[&str; 8],
+        names: &[&str; 9],
         calls: u64,
     ) -> io::Result<()>
         requires { (self.now.running.enterable ≡ true) × (self.now.running.shape.width ≡ N) }
@@ -114,7 +121,7 @@ impl<const N: usize> Timed<N> {
     fn tell_handles<R: Eprint + Clock>(
         &self,
         rt: &R,
-        names: &[&str; 8],
+        names: &[&str; 9],
         calls: u64,
     ) -> io::Result<()>
         requires { N ≤ 16 }
@@ -131,7 +138,7 @@ impl<const N: usize> Timed<N> {
     fn tell_cell<R: Eprint + Clock + Wait>(
         &self,
         rt: &R,
-        names: &[&str; 8],
+        names: &[&str; 9],
         calls: u64,
     ) -> io::Result<()>
         requires { 1 ≤ N }
@@ -141,6 +148,21 @@ impl<const N: usize> Timed<N> {
         let start = tell(rt, names[6], 1, calls, start, good)?;
         let good = stores(rt, &self.cell, calls);
         tell(rt, names[7], 1, calls, start, good)?;
+        Ok(())
+    }
+
+    /// Updates by a handle.
+    fn tell_updates<R: Eprint + Clock + Wait>(
+        &self,
+        rt: &R,
+        names: &[&str; 9],
+        calls: u64,
+    ) -> io::Result<()>
+        requires { N ≤ 16 }
+    {
+        let start = Instant::now(rt)?;
+        let good = updates(rt, self.handled.enter(), calls);
+        tell(rt, names[8], 1, calls, start, good)?;
         Ok(())
     }
 }
@@ -186,6 +208,20 @@ fn together<R: AllocGlobal + Eprint + Clock + Threads + Sync>(
     Ok(())
 }
 
+/// One to four threads that update the same two words.
+fn update_together<R: AllocGlobal + Eprint + Clock + Threads + Wait + Sync>(
+    rt: &R,
+    record: &StampedRecord<2, AnyContent>,
+    calls: u64,
+) -> io::Result<()> {
+    for threads in 1..5usize {
+        let start = Instant::now(rt)?;
+        let good = updates_by(rt, record, threads, calls);
+        tell(rt, "updaters", threads as u64, calls, start, good)?;
+    }
+    Ok(())
+}
+
 /// Writes a line for each kind of call and round; none for want of memory.
 pub fn time<R: AllocGlobal + Clock + Eprint + Threads + Wait + Sync>(
     rt: &R,
@@ -203,7 +239,10 @@ pub fn time<R: AllocGlobal + Clock + Eprint + Threads + Wait + Sync>(
         sixteen.tell_handles(rt, &OF_SIXTEEN, calls)?;
         two.tell_cell(rt, &OF_TWO, calls)?;
         sixteen.tell_cell(rt, &OF_SIXTEEN, calls)?;
+        two.tell_updates(rt, &OF_TWO, calls)?;
+        sixteen.tell_updates(rt, &OF_SIXTEEN, calls)?;
         together(rt, &two.running, calls.wrapping_mul(MORE))?;
+        update_together(rt, &two.handled, calls.wrapping_mul(MORE_UPDATES))?;
     }
     Ok(())
 }
