@@ -4,10 +4,10 @@ use Rattle.stamp_core.specs.declared.call.Call.{Call}
 use Rattle.stamp_core.specs.declared.reply.Reply.{Reply}
 use Rattle.stamp_explain.specs.declared.observed.Observation.{Observation}
 
--- a call that lost has no reply
-abbrev pub reply_unless_lost : {T E : Type 0} → (T → Option Reply) → Result T E → Option Reply
-reply_unless_lost replied (Ok t) = replied t
-reply_unless_lost replied (Err _) = None
+-- a call that failed was not made, and has no reply
+abbrev pub reply_if_made : {T E : Type 0} → (T → Option Reply) → Result T E → Option Reply
+reply_if_made replied (Ok t) = replied t
+reply_if_made replied (Err _) = None
 
 -- one call more, with its reply and two tickets; a call without a reply is not kept
 abbrev pub WasKept : ℕ → ℕ → Call → Option Reply → List Observation → List Observation → Type 0

@@ -2,11 +2,27 @@
 ghost use Rattle.std.specs.Prelude.{◌≡◌, [], IfOk, OnErr};
 ghost use Rattle.observed_handles.specs.Recorder.{WasKept};
 
-use stamp_core::{Call, Reply};
+use stamp_core::{Call, Reply, Words};
 use stamp_explain::{Observation, Returned};
-use stamped_lock::{LockHandle, Lost, Mismatch, Stamp};
+use stamped_lock::{GetFault, Lost, Mismatch, PutFault, Spent, Stamp};
 use std::alloc::{AllocError, Global};
 use std::sync::atomic::{AtomicU64, Ordering};
+
+/// How many words the record has.
+pub const WIDTH: usize = 3;
+
+/// The words of the record.
+pub type Row = [u64; WIDTH];
+
+/// The words of a row, as a call or a reply has them.
+pub fn words_of(row: Row) -> Words
+    ensures { result ≡ row }
+{
+    let Some(words) = Words::new(&row) else {
+        unreachable!()
+    };
+    words
+}
 
 /// What a handle's method answers.
 pub trait Answer: Copy {
@@ -16,7 +32,7 @@ pub trait Answer: Copy {
     // The reply of the call that this answers.
     ghost replied: { Self → Option Reply };
 
-    /// The reply that the sequential call has. None where the call lost, and was not made.
+    /// The reply that the sequential call has. None where the call failed, and was not made.
     fn reply(self) -> Option<Reply>
         ensures { result ≡ replied self };
 }
@@ -80,36 +96,89 @@ impl Answer for u64 {
     }
 }
 
-/// Of a call that is tried once: where it lost, it was not made.
-impl<T: Answer> Answer for Result<T, Lost> {
-    ghost use Rattle.observed_handles.specs.Recorder.{reply_unless_lost};
+/// Of a put.
+impl Answer for () {
+    ghost use Rattle.std.specs.Prelude.{Some};
+    ghost use Rattle.stamp_core.specs.declared.reply.Reply.TheVariants.{Done};
 
-    ghost replied = { reply_unless_lost T.replied };
+    ghost replied = { λ _. Some Done };
+
+    fn reply(self) -> Option<Reply> {
+        Some(Reply::Done)
+    }
+}
+
+/// Of a get.
+impl Answer for Row {
+    ghost use Rattle.std.specs.Prelude.{Some};
+    ghost use Rattle.stamp_core.specs.declared.reply.Reply.TheVariants.{Content};
+
+    ghost replied = { λ row. Some (Content row) };
+
+    fn reply(self) -> Option<Reply> {
+        Some(Reply::Content(words_of(self)))
+    }
+}
+
+/// Of a lock's call that is tried once: where it lost, it was not made.
+impl<T: Answer> Answer for Result<T, Lost> {
+    ghost use Rattle.observed_handles.specs.Recorder.{reply_if_made};
+
+    ghost replied = { reply_if_made T.replied };
 
     fn reply(self) -> Option<Reply> {
         self.ok()?.reply()
     }
 }
 
-/// A thread's handle, the tickets that all threads share, and the calls that this thread made.
+/// Of a get that is tried once.
+impl<T: Answer> Answer for Result<T, GetFault> {
+    ghost use Rattle.observed_handles.specs.Recorder.{reply_if_made};
+
+    ghost replied = { reply_if_made T.replied };
+
+    fn reply(self) -> Option<Reply> {
+        self.ok()?.reply()
+    }
+}
+
+/// Of a put or a put_if that is tried once.
+impl<T: Answer> Answer for Result<T, PutFault> {
+    ghost use Rattle.observed_handles.specs.Recorder.{reply_if_made};
+
+    ghost replied = { reply_if_made T.replied };
+
+    fn reply(self) -> Option<Reply> {
+        self.ok()?.reply()
+    }
+}
+
+/// Of a put or a put_if: where no version was left, it was not made.
+impl<T: Answer> Answer for Result<T, Spent> {
+    ghost use Rattle.observed_handles.specs.Recorder.{reply_if_made};
+
+    ghost replied = { reply_if_made T.replied };
+
+    fn reply(self) -> Option<Reply> {
+        self.ok()?.reply()
+    }
+}
+
+/// A thread's handle of a lock or of a record, the tickets that all threads share, and the calls that this
+/// thread made by the handle.
 #[derive(Drop)]
-pub struct Recorder<'a> {
+pub struct Recorder<'a, H: Drop> {
     /// The handle, by which the thread makes its calls between `begin` and `end`.
-    pub handle: LockHandle<'a>,
+    pub handle: H,
     tickets: &'a AtomicU64,
     thread: u64,
     tape: Vec<Observation>,
 }
 
-impl<'a> Recorder<'a> {
+impl<'a, H: Drop> Recorder<'a, H> {
     /// A recorder for one thread, which has a number of its own, below 64.
-    pub fn new(
-        alloc: Global,
-        handle: LockHandle<'a>,
-        tickets: &'a AtomicU64,
-        thread: u64,
-    ) -> Recorder<'a>
-        ensures handle { result.handle ≡ handle.entry }
+    pub fn new(alloc: Global, handle: H, tickets: &'a AtomicU64, thread: u64) -> Recorder<'a, H>
+        ensures handle { result.handle ≡ handle }
         ensures tickets { result.tickets ≡ tickets.entry }
         ensures thread { result.thread ≡ thread }
         ensures tape { result.tape.items ≡ [] }
@@ -131,8 +200,8 @@ impl<'a> Recorder<'a> {
         self.ticket()
     }
 
-    /// Takes the ticket after a call, and keeps the call; one that lost is not kept. It gives the answer
-    /// back. Without memory the call is not kept.
+    /// Takes the ticket after a call, and keeps the call; one that was not made is not kept. It gives the
+    /// answer back. Without memory the call is not kept.
     pub fn end<T: Answer>(&mut self, first: u64, call: Call, answer: T) -> Result<T, AllocError>
         ensures answer { IfOk result (λ a. a ≡ answer) }
         ensures kept { IfOk result (λ a.

@@ -1,13 +1,17 @@
-//! What the threads do: all calls that a handle has, at random.
+//! What the threads do: all calls that handles of the lock and of the record have, at random.
+use crate::record_run::{RecordRecorder, use_record};
 use crate::recorder::Recorder;
 use stamp_core::Call;
-use stamped_lock::Stamp;
+use stamped_lock::{LockHandle, Stamp};
 use std::alloc::AllocError;
 use std::sync::Wait;
 use std::thread::yield_now;
 
+/// A thread's recorder of the lock's calls.
+pub type LockRecorder<'a> = Recorder<'a, LockHandle<'a>>;
+
 /// Acquires write mode, and releases it; its stamp is mostly still valid then.
-fn write<R: Wait>(rt: &R, recorder: &mut Recorder<'_>) -> Result<(), AllocError> {
+fn write<R: Wait>(rt: &R, recorder: &mut LockRecorder<'_>) -> Result<(), AllocError> {
     let begun = recorder.begin();
     let stamp = recorder.handle.write(rt);
     let Some(stamp) = recorder.end(begun, Call::WriteLock, stamp)? else {
@@ -20,7 +24,7 @@ fn write<R: Wait>(rt: &R, recorder: &mut Recorder<'_>) -> Result<(), AllocError>
     validate(recorder, stamp)
 }
 
-fn validate(recorder: &mut Recorder<'_>, stamp: Stamp) -> Result<(), AllocError> {
+fn validate(recorder: &mut LockRecorder<'_>, stamp: Stamp) -> Result<(), AllocError> {
     let begun = recorder.begin();
     let valid = recorder.handle.validate(stamp);
     recorder.end(begun, Call::Validate(stamp.number()), valid)?;
@@ -28,7 +32,11 @@ fn validate(recorder: &mut Recorder<'_>, stamp: Stamp) -> Result<(), AllocError>
 }
 
 /// Releases the mode that the stamp matches.
-fn release<R: Wait>(rt: &R, recorder: &mut Recorder<'_>, stamp: Stamp) -> Result<(), AllocError> {
+fn release<R: Wait>(
+    rt: &R,
+    recorder: &mut LockRecorder<'_>,
+    stamp: Stamp,
+) -> Result<(), AllocError> {
     let begun = recorder.begin();
     let released = recorder.handle.unlock(rt, stamp);
     let _ = recorder.end(begun, Call::Unlock(stamp.number()), released)?;
@@ -36,7 +44,7 @@ fn release<R: Wait>(rt: &R, recorder: &mut Recorder<'_>, stamp: Stamp) -> Result
 }
 
 /// Acquires read mode, and releases it twice; the second release is mostly a mismatch.
-fn read<R: Wait>(rt: &R, recorder: &mut Recorder<'_>) -> Result<(), AllocError> {
+fn read<R: Wait>(rt: &R, recorder: &mut LockRecorder<'_>) -> Result<(), AllocError> {
     let begun = recorder.begin();
     let stamp = recorder.handle.read(rt);
     let stamp = recorder.end(begun, Call::ReadLock, stamp)?;
@@ -48,7 +56,7 @@ fn read<R: Wait>(rt: &R, recorder: &mut Recorder<'_>) -> Result<(), AllocError> 
 }
 
 /// Reads if nobody writes, and goes on in write mode if nobody else reads.
-fn upgrade<R: Wait>(rt: &R, recorder: &mut Recorder<'_>) -> Result<(), AllocError> {
+fn upgrade<R: Wait>(rt: &R, recorder: &mut LockRecorder<'_>) -> Result<(), AllocError> {
     let begun = recorder.begin();
     let reading = recorder.handle.try_read(rt);
     let Some(reading) = recorder.end(begun, Call::TryRead, reading)? else {
@@ -62,7 +70,11 @@ fn upgrade<R: Wait>(rt: &R, recorder: &mut Recorder<'_>) -> Result<(), AllocErro
 }
 
 /// Goes on in read mode, and then holds nothing.
-fn downgrade<R: Wait>(rt: &R, recorder: &mut Recorder<'_>, stamp: Stamp) -> Result<(), AllocError> {
+fn downgrade<R: Wait>(
+    rt: &R,
+    recorder: &mut LockRecorder<'_>,
+    stamp: Stamp,
+) -> Result<(), AllocError> {
     let begun = recorder.begin();
     let reading = recorder.handle.try_convert_to_read(rt, stamp);
     let Some(reading) = recorder.end(begun, Call::ToRead(stamp.number()), reading)? else {
@@ -76,7 +88,7 @@ fn downgrade<R: Wait>(rt: &R, recorder: &mut Recorder<'_>, stamp: Stamp) -> Resu
 }
 
 /// Writes if nobody holds the lock, and goes on as a reader.
-fn step_down<R: Wait>(rt: &R, recorder: &mut Recorder<'_>) -> Result<(), AllocError> {
+fn step_down<R: Wait>(rt: &R, recorder: &mut LockRecorder<'_>) -> Result<(), AllocError> {
     let begun = recorder.begin();
     let writing = recorder.handle.try_write(rt);
     match recorder.end(begun, Call::TryWrite, writing)? {
@@ -86,7 +98,7 @@ fn step_down<R: Wait>(rt: &R, recorder: &mut Recorder<'_>) -> Result<(), AllocEr
 }
 
 /// Looks optimistically, and reads if nobody wrote since.
-fn look<R: Wait>(rt: &R, recorder: &mut Recorder<'_>) -> Result<(), AllocError> {
+fn look<R: Wait>(rt: &R, recorder: &mut LockRecorder<'_>) -> Result<(), AllocError> {
     let begun = recorder.begin();
     let looking = recorder.handle.try_optimistic_read();
     let Some(looking) = recorder.end(begun, Call::Optimistic, looking)? else {
@@ -98,7 +110,7 @@ fn look<R: Wait>(rt: &R, recorder: &mut Recorder<'_>) -> Result<(), AllocError> 
 }
 
 /// Asks who holds the lock.
-fn ask(recorder: &mut Recorder<'_>) -> Result<(), AllocError> {
+fn ask(recorder: &mut LockRecorder<'_>) -> Result<(), AllocError> {
     let begun = recorder.begin();
     let writing = recorder.handle.is_write_locked();
     recorder.end(begun, Call::IsWriteLocked, writing)?;
@@ -112,7 +124,7 @@ fn ask(recorder: &mut Recorder<'_>) -> Result<(), AllocError> {
 }
 
 /// Releases a mode without a stamp, whoever holds it.
-fn recover<R: Wait>(rt: &R, recorder: &mut Recorder<'_>) -> Result<(), AllocError> {
+fn recover<R: Wait>(rt: &R, recorder: &mut LockRecorder<'_>) -> Result<(), AllocError> {
     let begun = recorder.begin();
     let released = recorder.handle.try_unlock_read(rt);
     recorder.end(begun, Call::TryUnlockRead, released)?;
@@ -123,7 +135,7 @@ fn recover<R: Wait>(rt: &R, recorder: &mut Recorder<'_>) -> Result<(), AllocErro
 }
 
 /// Tries a call once. Where it loses, it was not made, and is not kept.
-fn once<R: Wait>(rt: &R, recorder: &mut Recorder<'_>) -> Result<(), AllocError> {
+fn once<R: Wait>(rt: &R, recorder: &mut LockRecorder<'_>) -> Result<(), AllocError> {
     let begun = recorder.begin();
     let reading = recorder.handle.try_read_once();
     if let Ok(Some(stamp)) = recorder.end(begun, Call::TryRead, reading)? {
@@ -132,10 +144,29 @@ fn once<R: Wait>(rt: &R, recorder: &mut Recorder<'_>) -> Result<(), AllocError> 
     Ok(())
 }
 
+/// Makes calls of the lock; which ones, the number decides.
+fn use_lock<R: Wait>(
+    rt: &R,
+    recorder: &mut LockRecorder<'_>,
+    number: u64,
+) -> Result<(), AllocError> {
+    match number % 8 {
+        0 => write(rt, recorder),
+        1 => read(rt, recorder),
+        2 => upgrade(rt, recorder),
+        3 => step_down(rt, recorder),
+        4 => look(rt, recorder),
+        5 => ask(recorder),
+        6 => recover(rt, recorder),
+        _ => once(rt, recorder),
+    }
+}
+
 /// Makes calls for so many rounds; which ones, the number decides.
 pub fn work<R: Wait>(
     rt: &R,
-    recorder: &mut Recorder<'_>,
+    lock: &mut LockRecorder<'_>,
+    record: &mut RecordRecorder<'_>,
     rounds: u64,
     seed: u64,
 ) -> Result<(), AllocError> {
@@ -144,15 +175,11 @@ pub fn work<R: Wait>(
         number = number
             .wrapping_mul(6_364_136_223_846_793_005)
             .wrapping_add(1_442_695_040_888_963_407);
-        match (number >> 33) % 8 {
-            0 => write(rt, recorder)?,
-            1 => read(rt, recorder)?,
-            2 => upgrade(rt, recorder)?,
-            3 => step_down(rt, recorder)?,
-            4 => look(rt, recorder)?,
-            5 => ask(recorder)?,
-            6 => recover(rt, recorder)?,
-            _ => once(rt, recorder)?,
+        let choice = number >> 33;
+        if choice % 2 == 0 {
+            use_lock(rt, lock, choice / 2)?;
+        } else {
+            use_record(rt, record, choice / 2)?;
         }
     }
     Ok(())
