@@ -81,10 +81,10 @@ impl<'a> LockHandle<'a> {
         let Some(stamp) = self.try_optimistic_read() else {
             return self.read_with_mut(rt, f);
         };
-        let answer = f(self);
-        let valid = self.validate(stamp);
-        if valid {
-            return Ok(answer);
+        let filled = f(self);
+        let unwritten = self.validate(stamp);
+        if unwritten {
+            return Ok(filled);
         }
         self.read_with_mut(rt, f)
     }

@@ -5,10 +5,10 @@ use Rattle.stamped_lock.specs.Made.{Made}
 use Rattle.stamped_lock.proofs.Validating.{unwritten}
 use Rattle.stamped_lock.proofs.handle.LockHandle.read_optimistically_mut.Goals as goal
 
-pub returns-then-valid : goal.returns-then-valid
-returns-then-valid g c =
+pub returns-then-unwritten : goal.returns-then-unwritten
+returns-then-unwritten g c =
     let before = c.try_optimistic_read.new.self in
-    let after = c.validate-valid.new.self in
+    let after = c.validate-unwritten.new.self in
     let some : 0 < c.in-Some.stamp = search rules in
     let valid : Made (Validate c.in-Some.stamp) Yes before after = search rules in
     inl (record {
