@@ -80,7 +80,7 @@ OptimisticSectionMut {F} {T} Step f r h h' =
     IsOkAnd r (λ t. ReadUnwritten (RanFrom Step f t) h h') ⊎
     (((m : LockHandleView) × Made Optimistic (Stamp 0) h m × ReadSection (RanFrom Step f) r m h') ⊎
     ((m : LockHandleView) × (t : T) × (g : F) × RanBetween Optimistic Validate No (λ u. Step f u t g) h m
-        × ReadSection (RanFrom Step g) r m h'))
+    × ReadSection (RanFrom Step g) r m h'))
 
 -- a closure ran where a test held: none where it didn't
 abbrev pub RanIf : {T : Type 0} → (Bool → LockHandleView → Type 0) → (T → LockHandleView → Type 0) →

@@ -11,14 +11,19 @@ fn count<R: Wait>(rt: &R, mut row: WideHandle<'_, 64, AnyContent>) -> Result<(),
     let mut old = [0; 64];
     let mut new = [0; 64];
     for _ in 0..10_000u64 {
-        row.update_in(rt, &mut old, &mut new, |words: &mut [u64]|
-            requires { length words.old ≡ 64 }
-            ensures { length words.new ≡ 64 }
-        {
-            for word in words.iter_mut() {
-                *word = word.wrapping_add(1);
-            }
-        })?;
+        row.update_in(
+            rt,
+            &mut old,
+            &mut new,
+            |words: &mut [u64]|
+                requires { length words.old ≡ 64 }
+                ensures { length words.new ≡ 64 }
+            {
+                for word in words.iter_mut() {
+                    *word = word.wrapping_add(1);
+                }
+            },
+        )?;
     }
     Ok(())
 }
@@ -77,7 +82,8 @@ fn the_widest_record_holds_what_was_put(rt: HostRuntime) -> Result<(), Fail> {
 #[test]
 fn an_update_leaves_the_old_words_and_the_new(rt: HostRuntime) -> Result<(), Fail> {
     let limits = Limits::in_layout(Layout::Two, 1, 2)?;
-    let Ok(row) = StampedWideRecord::<3, AnyContent>::with_limits(rt.alloc(), limits, &[1, 2, 3]) else {
+    let Ok(row) = StampedWideRecord::<3, AnyContent>::with_limits(rt.alloc(), limits, &[1, 2, 3])
+    else {
         return Err(Fail::from("no memory for the record"));
     };
     let mut handle = row.enter();
