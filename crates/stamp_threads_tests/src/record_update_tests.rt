@@ -46,22 +46,20 @@ fn what_was_put_since_is_not_put_over(rt: HostRuntime) -> Result<(), Fail> {
     Ok(())
 }
 
-/// A put_if of two pairs, its answer, and the pair that it leaves.
-#[derive(Drop)]
-struct PutIf {
-    expected: u64,
-    number: u64,
+/// Whether a put_if of these two pairs by this pass is answered so at once, and leaves this pair.
+fn is_put_if(
+    shared: &RunningRecord,
+    pass: &mut RecordPass,
+    pairs: [u64; 2],
     answer: Result<bool, PutFault>,
     left: u64,
-}
-
-/// Whether a put_if by this pass is answered so at once.
-fn is_put_if(shared: &RunningRecord, pass: &mut RecordPass, row: &PutIf) -> bool
+) -> bool
     requires { (pass.old.table ≡ shared.now.table) × (shared.now.shape.width ≡ 2) }
     ensures { pass.new.table ≡ shared.now.table }
 {
-    shared.put_if_once(pass, pair(row.expected), pair(row.number)) == row.answer
-        && gives(shared, pass, pair(row.left))
+    let [expected, number] = pairs;
+    shared.put_if_once(pass, pair(expected), pair(number)) == answer
+        && gives(shared, pass, pair(left))
 }
 
 /// Where the words are others it is answered no, also where no version is left.
@@ -69,22 +67,13 @@ fn is_put_if(shared: &RunningRecord, pass: &mut RecordPass, row: &PutIf) -> bool
 fn a_put_if_is_answered_by_the_words(rt: HostRuntime) -> Result<(), Fail> {
     for (layout, spent) in [(Layout::One, 768), (Layout::Two, 393_216)] {
         let (shared, mut pass) = made_record(rt.alloc(), layout, 2, 2)?;
-        for (expected, number, answer, left) in [
-            (1, 5, Ok(false), 0),
-            (0, 5, Ok(true), 5),
-            (0, 6, Ok(false), 5),
-            (5, 5, Ok(true), 5),
-            (6, 7, Ok(false), 5),
-            (5, 7, Err(PutFault::Spent(spent)), 5),
-        ] {
-            let row = PutIf {
-                expected,
-                number,
-                answer,
-                left,
-            };
-            assert!(rt; is_put_if(&shared, &mut pass, &row), "{expected} {number}");
-        }
+        assert!(rt; is_put_if(&shared, &mut pass, [1, 5], Ok(false), 0));
+        assert!(rt; is_put_if(&shared, &mut pass, [0, 5], Ok(true), 5));
+        assert!(rt; is_put_if(&shared, &mut pass, [0, 6], Ok(false), 5));
+        assert!(rt; is_put_if(&shared, &mut pass, [5, 5], Ok(true), 5));
+        assert!(rt; is_put_if(&shared, &mut pass, [6, 7], Ok(false), 5));
+        let refused = Err(PutFault::Spent(spent));
+        assert!(rt; is_put_if(&shared, &mut pass, [5, 7], refused, 5));
     }
     Ok(())
 }
