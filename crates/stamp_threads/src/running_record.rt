@@ -229,7 +229,7 @@ impl<P: ContentRule> RuledRecord<P> {
         ensures ok { let v = pass.old.view in let w = pass.new.view in
             IfOk result (λ yes. PutIfMade P.holds self.now.shape expected words yes v w) }
         ensures err { let v = pass.old.view in let w = pass.new.view in
-            IfErr result (λ fault. UpdateRefused P.holds self.now.shape v fault w) }
+            IfErr result (λ fault. UpdateRefused (λ row. row ≡ expected) self.now.shape v fault w) }
     {
         let width = self.wide.width();
         let mut row = [0u64; 16];

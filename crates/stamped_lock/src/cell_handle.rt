@@ -109,7 +109,7 @@ impl<'a, const N: usize, T: InWords<N>> CellHandle<'a, N, T> {
         ensures made { let h = self.old in let w = self.new in IfOk result (λ yes.
             PutIfAtLast (T.words expected) (T.words value) yes h w) }
         ensures spent { let h = self.old in let w = self.new in
-            OnErr result (UpdateSpent (AreWordsOf T.is_value T.words) h w) }
+            OnErr result (UpdateSpent (λ row. row ≡ T.words expected) h w) }
     {
         let (running, pass) = (self.running, &mut self.pass);
         record_calls::put_if(rt, running, pass, &expected.to_words(), &value.to_words())

@@ -297,7 +297,7 @@ pub fn put_if_once<const N: usize, P: ContentRule>(
     ensures ok { let h = handle_of running.now pass.old.view in
         IfOk result (λ yes. PutIfAtLast expected.now words.now yes h (handle_of running.now pass.new.view)) }
     ensures err { let h = handle_of running.now pass.old.view in
-        IfErr result (λ fault. RefusesUpdate P.holds fault h (handle_of running.now pass.new.view)) }
+        IfErr result (λ fault. RefusesUpdate (λ row. row ≡ expected.now) fault h (handle_of running.now pass.new.view)) }
 {
     let (Some(expected), Some(words)) = (Words::new(expected), Words::new(words)) else {
         unreachable!()
@@ -321,7 +321,7 @@ pub fn put_if<const N: usize, P: ContentRule, R: Wait>(
     ensures table { pass.new.table ≡ pass.old.table }
     ensures made { let h = handle_of running.now pass.old.view in
         IfOk result (λ yes. PutIfAtLast expected.now words.now yes h (handle_of running.now pass.new.view)) }
-    ensures spent { OnErr result (UpdateSpent P.holds (handle_of running.now pass.old.view)
+    ensures spent { OnErr result (UpdateSpent (λ row. row ≡ expected.now) (handle_of running.now pass.old.view)
         (handle_of running.now pass.new.view)) }
 {
     for _ in rt.forever() {

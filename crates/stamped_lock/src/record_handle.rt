@@ -167,7 +167,7 @@ impl<'a, const N: usize, P: ContentRule> RecordHandle<'a, N, P> {
         ensures ok { let h = self.old in let w = self.new in
             IfOk result (λ yes. PutIfAtLast expected.entry words.entry yes h w) }
         ensures err { let h = self.old in let w = self.new in
-            IfErr result (λ fault. RefusesUpdate P.holds fault h w) }
+            IfErr result (λ fault. RefusesUpdate (λ row. row ≡ expected.entry) fault h w) }
     {
         record_calls::put_if_once(self.running, &mut self.pass, &expected, &words)
     }
@@ -185,7 +185,7 @@ impl<'a, const N: usize, P: ContentRule> RecordHandle<'a, N, P> {
         ensures made { let h = self.old in let w = self.new in
             IfOk result (λ yes. PutIfAtLast expected.entry words.entry yes h w) }
         ensures spent { let h = self.old in let w = self.new in
-            OnErr result (UpdateSpent P.holds h w) }
+            OnErr result (UpdateSpent (λ row. row ≡ expected.entry) h w) }
     {
         record_calls::put_if(rt, self.running, &mut self.pass, &expected, &words)
     }

@@ -1,4 +1,5 @@
 //! A section in write mode where a test holds.
+ghost use Rattle.std.specs.Prelude.{true};
 ghost use Rattle.std.specs.Fn.{FnOnceReturnsAt, FnReturnsAt};
 ghost use Rattle.stamped_lock.specs.Sections.{WriteSection, WriteIfSection, RanIf};
 
@@ -21,7 +22,7 @@ impl<'a> LockHandle<'a> {
         F: FnOnce(&LockHandle<'a>) -> T,
     >(&mut self, rt: &R, test: P, then: F) -> Result<Option<T>, WriteError>
         requires test { P.IsAlwaysCallable test }
-        requires then { F.IsAlwaysCallable then }
+        requires then { (m : _) → FnReturnsAt P.Fn test m.now true → F.pre then m }
         ensures { WriteIfSection (λ yes m. FnReturnsAt P.Fn test m yes) (λ t m. FnOnceReturnsAt F.FnOnce then m t)
             result self.old self.new }
     {
@@ -39,7 +40,7 @@ impl<'a> LockHandle<'a> {
         F: FnOnce(&LockHandle<'a>) -> T,
     >(&mut self, rt: &R, test: &P, then: F) -> Result<Option<T>, WriteError>
         requires test { P.IsAlwaysCallable test.now }
-        requires then { F.IsAlwaysCallable then }
+        requires then { (m : _) → FnReturnsAt P.Fn test.now m.now true → F.pre then m }
         ensures { WriteSection (RanIf (λ yes m. FnReturnsAt P.Fn test.now m yes)
             (λ t m. FnOnceReturnsAt F.FnOnce then m t)) result self.old self.new }
     {
