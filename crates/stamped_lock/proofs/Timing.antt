@@ -11,7 +11,7 @@ use Rattle.stamp_threads.proofs.SamePass.{same_further}
 use Rattle.stamped_lock.specs.LockHandleView.{LockHandleView}
 use Rattle.stamped_lock.specs.Made.{Made}
 use Rattle.stamped_lock.specs.Replies.{stamped}
-use Rattle.stamped_lock.specs.Timed.{NotFree}
+use Rattle.stamped_lock.specs.Timed.{NotFree, TriedAtLast}
 
 pub not_tried : (call : Call) (h : LockHandleView) → NotFree call h h
 not_tried call h = record {
@@ -38,12 +38,24 @@ not_free_again call h u h' n m = record {
   same_pass = same_further h.pass u.pass h'.pass n.same_pass m.made.same;
 }
 
-pub unanswered : (call : Call) (reply : Reply) (stamp : Option ℕ) (h u h' : LockHandleView) →
-    NotFree call h u → Made call reply u h' → stamped stamp ≡ reply → is_some stamp ≡ false →
-    NotFree call h h'
-unanswered call reply None h u h' n m e none =
-    not_free_again call h u h' n (subst (λ (r : Reply). Made call r u h') (sym e) m)
-unanswered call reply (Some s) h u h' n m e none = cc
+-- the first call
+pub tried_first : (call : Call) (reply : Reply) (h h' : LockHandleView) → Made call reply h h' →
+    TriedAtLast call reply h h'
+tried_first call reply h h' m = record { between = h; before = not_tried call h; made = m }
+
+-- one more, after one that answered that the mode isn't free
+pub tried_again : (call : Call) (reply : Reply) (h u h' : LockHandleView) → TriedAtLast call (Stamp 0) h u →
+    Made call reply u h' → TriedAtLast call reply h h'
+tried_again call reply h u h' t m = record {
+  between = u;
+  before = not_free_again call h t.between u t.before t.made;
+  made = m;
+}
+
+pub unanswered : (call : Call) (stamp : Option ℕ) (h h' : LockHandleView) → TriedAtLast call (stamped stamp) h h' →
+    is_some stamp ≡ false → TriedAtLast call (Stamp 0) h h'
+unanswered call None h h' t none = t
+unanswered call (Some s) h h' t none = cc
 
 pub of_any_error : {A E : Type 0} (P : Type 0) (r : Result A E) → P → IfErr r (λ _. P)
 of_any_error P (Ok a) p = tt

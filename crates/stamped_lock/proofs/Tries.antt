@@ -1,11 +1,11 @@
 -- A refused call is a try.
-use Rattle.std.proofs.Common.{◌≡◌, ℕ, Bool, true, false, List, refl, ◌∙◌, sym, subst, inl, inr}
+use Rattle.std.proofs.Common.{◌≡◌, ℕ, Bool, true, false, List, Option, Some, refl, ◌∙◌, sym, subst, inl, inr}
 use Rattle.stamp_threads.specs.declared.record_view.RecordShape.{RecordShape}
 use Rattle.stamp_threads.specs.declared.faults.PutFault.{PutFault}
 use Rattle.stamp_threads.specs.declared.faults.PutFault.TheVariants.{Busy, Lost, Spent}
 use Rattle.stamp_threads.specs.declared.faults.GetFault.{GetFault}
 use Rattle.stamp_threads.specs.declared.faults.GetFault.TheVariants as get
-use Rattle.stamp_threads.specs.RecordCall.{KnowsWord, HasSeen, UpdateRefused, PutIfMade}
+use Rattle.stamp_threads.specs.RecordCall.{KnowsWord, HasSeen, UpdateRefused, ReplaceRefused, PutIfMade}
 use Rattle.stamp_threads.specs.RecordCall as by_pass
 use Rattle.stamp_threads.specs.RecordLog.{content_in}
 use Rattle.stamp_core.specs.declared.call.Call.{Call}
@@ -17,7 +17,7 @@ use Rattle.stamp_threads.specs.PassView.{MadeNoCallSince}
 use Rattle.stamp_threads.proofs.Beginnings.{begins_all, begins_further}
 use Rattle.stamp_threads.proofs.SamePass.{no_call_yet, no_call_further}
 use Rattle.stamped_lock.specs.RecordCalls.{RecordHandleView, Tried, RefusesPut, RefusesGet, RefusesUpdate}
-use Rattle.stamped_lock.specs.RecordCalls.{MadeAtLast, Updated, PutIfAtLast}
+use Rattle.stamped_lock.specs.RecordCalls.{MadeAtLast, Updated, PutIfAtLast, SeenAtLast, RefusesTry}
 use Rattle.stamp_threads.specs.RecordPass.{RecordPassView}
 
 pub tried_none : (h : RecordHandleView) → Tried h h
@@ -127,3 +127,57 @@ updated_further Ran words old h u h' t m = record {
   ran = m.ran;
   made = made_further (PutIf (words old) (words m.value)) Yes h u h' t m.made;
 }
+
+-- tries, and then it was seen to hold these words
+pub seen_further : (P : List ℕ → Type 0) (words : List ℕ) (h u h' : RecordHandleView) → Tried h u →
+    SeenAtLast P words u h' → SeenAtLast P words h h'
+seen_further P words h u h' t s = record {
+  between = s.between;
+  word = s.word;
+  tried = tried_further h u s.between t s.tried;
+  same = s.same;
+  seen = s.seen;
+}
+
+-- at once
+pub seen_now : (P : List ℕ → Type 0) (word : ℕ) (words : List ℕ) (h h' : RecordHandleView) →
+    h'.running ≡ h.running → HasSeen P h.running.shape word words h.pass h'.pass → SeenAtLast P words h h'
+seen_now P word words h h' same s = record {
+  between = h;
+  word = word;
+  tried = tried_none h;
+  same = same;
+  seen = s;
+}
+
+-- a closure that may decline answered a value on the one that was seen, and that was not put over it
+pub try_refused : {T : Type 0} (Ran : T → Option T → Type 0) (P : List ℕ → Type 0) (words : T → List ℕ)
+    (old value : T) (word : ℕ) (fault : PutFault) (h h' : RecordHandleView) (u : RecordPassView) →
+    h'.running ≡ h.running → Ran old (Some value) → HasSeen P h.running.shape word (words old) h.pass u →
+    ReplaceRefused h.running.shape word u fault h'.pass → RefusesTry Ran P words fault h h'
+try_refused Ran P words old value word (Busy other) h h' u same ran seen r = absurd r
+try_refused Ran P words old value word (Lost loaded found) h h' u same ran seen r = record {
+  same = same;
+  refused = rw r.0 (inr (record { words = words old; between = u; seen = seen; next = r.1 }));
+}
+try_refused Ran P words old value word (Spent other) h h' u same ran seen r = (
+  old,
+  value,
+  ran,
+  record {
+    same = same;
+    refused = rw r.0 (record {
+      words = words old;
+      between = u;
+      seen = record {
+        has_found = seen.has_found;
+        knows = seen.knows;
+        free = seen.free;
+        content = seen.content;
+        long = seen.long;
+        rule = refl;
+      };
+      next = r.1;
+    });
+  },
+)

@@ -6,7 +6,7 @@ use Rattle.stamp_core.specs.declared.call.Call.TheVariants.{PutIf}
 use Rattle.stamp_core.specs.declared.reply.Reply.{Reply}
 use Rattle.stamp_core.specs.declared.reply.Reply.TheVariants.{Yes, No}
 use Rattle.stamp_threads.specs.declared.faults.PutFault.{PutFault}
-use Rattle.stamp_threads.specs.declared.faults.PutFault.TheVariants.{Spent}
+use Rattle.stamp_threads.specs.declared.faults.PutFault.TheVariants.{Busy, Lost, Spent}
 use Rattle.stamp_threads.specs.declared.faults.GetFault.{GetFault}
 use Rattle.stamp_threads.specs.declared.record_view.RecordShape.{RecordShape}
 use Rattle.stamp_threads.specs.PassView.{MadeNoCallSince}
@@ -104,9 +104,19 @@ Attempted Ran P IsValue words (Ok old) h h' = IsValue old × P (words old)
     × Updated (λ value. Ran old (Some value)) words old h h'
 Attempted Ran P IsValue words (Err old) h h' = Ran old None × SeenAtLast P (words old) h h'
 
+-- an update by a closure that may decline, of which Ran is known, was refused: as spent only where it answered
+-- a value on the old one, which the record held
+abbrev pub RefusesTry : {T : Type 0} → (T → Option T → Type 0) → (List ℕ → Type 0) → (T → List ℕ) →
+    PutFault → RecordHandleView → RecordHandleView → Type 0
+RefusesTry Ran P words (Busy word) h h' = RefusesUpdate P (Busy word) h h'
+RefusesTry Ran P words (Lost loaded found) h h' = RefusesUpdate P (Lost loaded found) h h'
+RefusesTry {T} Ran P words (Spent word) h h' = (old : T) × (value : T) × Ran old (Some value)
+    × RefusesUpdate (λ row. row ≡ words old) (Spent word) h h'
+
 -- an update put nothing: the closure, of which Ran is known, declined a value whose words the record held;
--- or no version was left
+-- or it answered one, and no version was left
 abbrev pub PutNothing : {T : Type 0} → (T → Option T → Type 0) → (List ℕ → Type 0) → (T → List ℕ) →
     UpdateError T → RecordHandleView → RecordHandleView → Type 0
 PutNothing Ran P words (update.Declined old) h h' = Ran old None × SeenAtLast P (words old) h h'
-PutNothing Ran P words update.Spent h h' = UpdateSpent P h h'
+PutNothing {T} Ran P words update.Spent h h' = (old : T) × (value : T) × Ran old (Some value)
+    × UpdateSpent (λ row. row ≡ words old) h h'

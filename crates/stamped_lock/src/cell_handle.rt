@@ -6,7 +6,7 @@ ghost use Rattle.stamp_core.specs.declared.reply.Reply.TheVariants.{Done, Conten
 ghost use Rattle.stamp_threads.specs.PassView.{after_split, split_off};
 ghost use Rattle.stamped_lock.specs.InWords.{AreWordsOf};
 ghost use Rattle.stamped_lock.specs.RecordCalls.{HasWidth, MadeAtLast, SpentAtLast};
-ghost use Rattle.stamped_lock.specs.RecordCalls.{Updated, UpdateSpent, PutIfAtLast, PutNothing};
+ghost use Rattle.stamped_lock.specs.RecordCalls.{Updated, UpdateSpent, PutIfAtLast, PutNothing, SeenAtLast};
 
 use crate::cell::WordsOf;
 use crate::in_words::InWords;
@@ -74,7 +74,8 @@ impl<'a, const N: usize, T: InWords<N>> CellHandle<'a, N, T> {
     /// update is lost. The closure runs with nothing held, and again after each loss to another thread, on
     /// a value that the cell held. It fails only where no version is left; nothing was put then.
     pub fn update<R: Wait, F: Fn(&T) -> T>(&mut self, rt: &R, f: F) -> Result<T, Spent>
-        requires { (value : _) → T.is_value value.now → F.pre f value }
+        requires { (value : _) (seen : _) → T.is_value value.now
+            → SeenAtLast (AreWordsOf T.is_value T.words) (T.words value.now) self.old seen → F.pre f value }
         ensures value { IfOk result (λ old. T.is_value old) }
         ensures made { let h = self.old in let w = self.new in
             IfOk result (λ old. Updated (λ value. FnReturnsAt F.Fn f old value) T.words old h w) }
@@ -92,7 +93,8 @@ impl<'a, const N: usize, T: InWords<N>> CellHandle<'a, N, T> {
         rt: &R,
         f: F,
     ) -> Result<T, UpdateError<T>>
-        requires { (value : _) → T.is_value value.now → F.pre f value }
+        requires { (value : _) (seen : _) → T.is_value value.now
+            → SeenAtLast (AreWordsOf T.is_value T.words) (T.words value.now) self.old seen → F.pre f value }
         ensures value { IfOk result (λ old. T.is_value old) }
         ensures made { let h = self.old in let w = self.new in
             IfOk result (λ old. Updated (λ value. FnReturnsAt F.Fn f old (Some value)) T.words old h w) }

@@ -11,7 +11,7 @@ ghost use Rattle.stamped_lock.specs.RecordCalls.{handle_of, HasWidth};
 ghost use Rattle.stamped_lock.specs.RecordCalls.{MadeOnRecord, RefusesPut, RefusesGet};
 ghost use Rattle.stamped_lock.specs.RecordCalls.{MadeAtLast, SpentAtLast};
 ghost use Rattle.stamped_lock.specs.RecordCalls.{RefusesUpdate, Updated, UpdateSpent, PutIfAtLast};
-ghost use Rattle.stamped_lock.specs.RecordCalls.{Attempted, PutNothing};
+ghost use Rattle.stamped_lock.specs.RecordCalls.{Attempted, SeenAtLast, RefusesTry, PutNothing};
 
 use crate::in_words::InWords;
 use crate::spent::Spent;
@@ -170,7 +170,9 @@ pub fn update_once<const N: usize, P: ContentRule, T: InWords<N>, F: Fn(&T) -> T
     requires table { pass.old.table ≡ running.now.table }
     requires width { HasWidth N running.now.shape }
     requires spelled { (row : List ℕ) → P.holds row → AreWordsOf T.is_value T.words row }
-    requires callable { (value : _) → T.is_value value.now → P.holds (T.words value.now) → F.pre f.now value }
+    requires callable { (value : _) (seen : _) → T.is_value value.now → P.holds (T.words value.now)
+        → SeenAtLast P.holds (T.words value.now) (handle_of running.now pass.old.view) (handle_of running.now seen)
+        → F.pre f.now value }
     requires rule { (old : _) (value : T) → T.is_value old.now → P.holds (T.words old.now)
         → F.post f.now old value → T.is_value value → P.holds (T.words value) }
     ensures table { pass.new.table ≡ pass.old.table }
@@ -199,7 +201,9 @@ pub fn update<const N: usize, P: ContentRule, T: InWords<N>, R: Wait, F: Fn(&T) 
     requires table { pass.old.table ≡ running.now.table }
     requires width { HasWidth N running.now.shape }
     requires spelled { (row : List ℕ) → P.holds row → AreWordsOf T.is_value T.words row }
-    requires callable { (value : _) → T.is_value value.now → P.holds (T.words value.now) → F.pre f.now value }
+    requires callable { (value : _) (seen : _) → T.is_value value.now → P.holds (T.words value.now)
+        → SeenAtLast P.holds (T.words value.now) (handle_of running.now pass.old.view) (handle_of running.now seen)
+        → F.pre f.now value }
     requires rule { (old : _) (value : T) → T.is_value old.now → P.holds (T.words old.now)
         → F.post f.now old value → T.is_value value → P.holds (T.words value) }
     ensures table { pass.new.table ≡ pass.old.table }
@@ -230,7 +234,9 @@ fn try_update_once<const N: usize, P: ContentRule, T: InWords<N>, F: Fn(&T) -> O
     requires table { pass.old.table ≡ running.now.table }
     requires width { HasWidth N running.now.shape }
     requires spelled { (row : List ℕ) → P.holds row → AreWordsOf T.is_value T.words row }
-    requires callable { (value : _) → T.is_value value.now → P.holds (T.words value.now) → F.pre f.now value }
+    requires callable { (value : _) (seen : _) → T.is_value value.now → P.holds (T.words value.now)
+        → SeenAtLast P.holds (T.words value.now) (handle_of running.now pass.old.view) (handle_of running.now seen)
+        → F.pre f.now value }
     requires rule { (old : _) (value : T) → T.is_value old.now → P.holds (T.words old.now)
         → F.post f.now old (Some value) → T.is_value value → P.holds (T.words value) }
     ensures table { pass.new.table ≡ pass.old.table }
@@ -238,14 +244,17 @@ fn try_update_once<const N: usize, P: ContentRule, T: InWords<N>, F: Fn(&T) -> O
         Attempted (FnReturnsAt F.Fn f.now) P.holds T.is_value T.words tried h
         (handle_of running.now pass.new.view)) }
     ensures err { let h = handle_of running.now pass.old.view in
-        IfErr result (λ fault. RefusesUpdate P.holds fault h (handle_of running.now pass.new.view)) }
+        IfErr result (λ fault. RefusesTry (FnReturnsAt F.Fn f.now) P.holds T.words fault h
+        (handle_of running.now pass.new.view)) }
 {
     let (word, old) = see::<N, P, T>(running, pass)?;
     let Some(new) = f(&old) else {
         return Ok(Err(old));
     };
-    replace(running, pass, word, &new)?;
-    Ok(Ok(old))
+    match replace(running, pass, word, &new) {
+        Ok(()) => Ok(Ok(old)),
+        Err(fault) => Err(fault),
+    }
 }
 
 /// As `update`, by a closure that may decline.
@@ -259,7 +268,9 @@ pub fn try_update<const N: usize, P: ContentRule, T: InWords<N>, R: Wait, F: Fn(
     requires table { pass.old.table ≡ running.now.table }
     requires width { HasWidth N running.now.shape }
     requires spelled { (row : List ℕ) → P.holds row → AreWordsOf T.is_value T.words row }
-    requires callable { (value : _) → T.is_value value.now → P.holds (T.words value.now) → F.pre f.now value }
+    requires callable { (value : _) (seen : _) → T.is_value value.now → P.holds (T.words value.now)
+        → SeenAtLast P.holds (T.words value.now) (handle_of running.now pass.old.view) (handle_of running.now seen)
+        → F.pre f.now value }
     requires rule { (old : _) (value : T) → T.is_value old.now → P.holds (T.words old.now)
         → F.post f.now old (Some value) → T.is_value value → P.holds (T.words value) }
     ensures table { pass.new.table ≡ pass.old.table }

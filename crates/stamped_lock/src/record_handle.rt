@@ -8,7 +8,7 @@ ghost use Rattle.stamped_lock.specs.InWords.{AreWordsOf};
 ghost use Rattle.stamped_lock.specs.RecordCalls.{HasWidth, MadeOnRecord, RefusesPut, RefusesGet};
 ghost use Rattle.stamped_lock.specs.RecordCalls.{MadeAtLast, SpentAtLast};
 ghost use Rattle.stamped_lock.specs.RecordCalls.{RefusesUpdate, Updated, UpdateSpent, PutIfAtLast};
-ghost use Rattle.stamped_lock.specs.RecordCalls.{PutNothing};
+ghost use Rattle.stamped_lock.specs.RecordCalls.{SeenAtLast, PutNothing};
 
 use crate::in_words::InWords;
 use crate::record_calls;
@@ -102,7 +102,8 @@ impl<'a, const N: usize, P: ContentRule> RecordHandle<'a, N, P> {
     /// closure may have run then), `Spent` where no version is left.
     pub fn update_once<T: InWords<N>, F: Fn(&T) -> T>(&mut self, f: F) -> Result<T, PutFault>
         requires spelled { (row : List ℕ) → P.holds row → AreWordsOf T.is_value T.words row }
-        requires callable { (value : _) → T.is_value value.now → P.holds (T.words value.now) → F.pre f value }
+        requires callable { (value : _) (seen : _) → T.is_value value.now → P.holds (T.words value.now)
+            → SeenAtLast P.holds (T.words value.now) self.old seen → F.pre f value }
         requires rule { (old : _) (value : T) → T.is_value old.now → P.holds (T.words old.now)
             → F.post f old value → T.is_value value → P.holds (T.words value) }
         ensures rule { IfOk result (λ old. T.is_value old × P.holds (T.words old)) }
@@ -125,7 +126,8 @@ impl<'a, const N: usize, P: ContentRule> RecordHandle<'a, N, P> {
         f: F,
     ) -> Result<T, Spent>
         requires spelled { (row : List ℕ) → P.holds row → AreWordsOf T.is_value T.words row }
-        requires callable { (value : _) → T.is_value value.now → P.holds (T.words value.now) → F.pre f value }
+        requires callable { (value : _) (seen : _) → T.is_value value.now → P.holds (T.words value.now)
+            → SeenAtLast P.holds (T.words value.now) self.old seen → F.pre f value }
         requires rule { (old : _) (value : T) → T.is_value old.now → P.holds (T.words old.now)
             → F.post f old value → T.is_value value → P.holds (T.words value) }
         ensures rule { IfOk result (λ old. T.is_value old × P.holds (T.words old)) }
@@ -146,7 +148,8 @@ impl<'a, const N: usize, P: ContentRule> RecordHandle<'a, N, P> {
         f: F,
     ) -> Result<T, UpdateError<T>>
         requires spelled { (row : List ℕ) → P.holds row → AreWordsOf T.is_value T.words row }
-        requires callable { (value : _) → T.is_value value.now → P.holds (T.words value.now) → F.pre f value }
+        requires callable { (value : _) (seen : _) → T.is_value value.now → P.holds (T.words value.now)
+            → SeenAtLast P.holds (T.words value.now) self.old seen → F.pre f value }
         requires rule { (old : _) (value : T) → T.is_value old.now → P.holds (T.words old.now)
             → F.post f old (Some value) → T.is_value value → P.holds (T.words value) }
         ensures rule { IfOk result (λ old. T.is_value old × P.holds (T.words old)) }

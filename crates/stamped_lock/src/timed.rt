@@ -2,7 +2,9 @@
 ghost use Rattle.std.specs.Prelude.{◌≡◌, ◌⊎◌, IfOk, IfErr};
 ghost use Rattle.stamp_core.specs.declared.call.Call.TheVariants.{TryWrite, TryRead};
 ghost use Rattle.stamped_lock.specs.Replies.{stamped};
-ghost use Rattle.stamped_lock.specs.Timed.{NotFree, TriedAtLast};
+ghost use Rattle.stamp_core.specs.declared.reply.Reply.TheVariants as reply;
+ghost use Rattle.stamped_lock.specs.Made.{Made};
+ghost use Rattle.stamped_lock.specs.Timed.{TriedAtLast};
 
 use crate::answers::stamp_unless_zero;
 use crate::handle::LockHandle;
@@ -23,7 +25,7 @@ impl<'a> LockHandle<'a> {
         time: Duration,
     ) -> io::Result<Option<Stamp>>
         ensures tried { IfOk result (λ stamp. TriedAtLast TryWrite (stamped stamp) self.old self.new) }
-        ensures err { IfErr result (λ _. NotFree TryWrite self.old self.new) }
+        ensures err { IfErr result (λ _. TriedAtLast TryWrite (reply.Stamp 0) self.old self.new) }
     {
         self.try_for(rt, Call::TryWrite, time)
     }
@@ -37,7 +39,7 @@ impl<'a> LockHandle<'a> {
         time: Duration,
     ) -> io::Result<Option<Stamp>>
         ensures tried { IfOk result (λ stamp. TriedAtLast TryRead (stamped stamp) self.old self.new) }
-        ensures err { IfErr result (λ _. NotFree TryRead self.old self.new) }
+        ensures err { IfErr result (λ _. TriedAtLast TryRead (reply.Stamp 0) self.old self.new) }
     {
         self.try_for(rt, Call::TryRead, time)
     }
@@ -51,18 +53,34 @@ impl<'a> LockHandle<'a> {
     ) -> io::Result<Option<Stamp>>
         requires { (call ≡ TryWrite) ⊎ (call ≡ TryRead) }
         ensures tried { IfOk result (λ stamp. TriedAtLast call (stamped stamp) self.old self.new) }
-        ensures err { IfErr result (λ _. NotFree call self.old self.new) }
+        ensures err { IfErr result (λ _. TriedAtLast call (reply.Stamp 0) self.old self.new) }
     {
+        // A copy, since the borrow checker covers no struct that is passed by value and used again.
+        let again = call;
+        let stamp = self.try_call(rt, call);
+        if stamp.is_some() {
+            return Ok(stamp);
+        }
         let start = Instant::now(rt)?;
         for _ in rt.forever() {
-            // A copy, since the borrow checker covers no struct that is passed by value and used again.
-            let again = call;
-            let stamp = stamp_unless_zero(self.once_or_call(rt, again));
-            if stamp.is_some() || start.elapsed(rt)? >= time {
-                return Ok(stamp);
+            if start.elapsed(rt)? >= time {
+                return Ok(None);
             }
             thread::yield_now();
+            let next = again;
+            let stamp = self.try_call(rt, next);
+            if stamp.is_some() {
+                return Ok(stamp);
+            }
         }
         unreachable!()
+    }
+
+    /// Makes the call, which answers a stamp.
+    fn try_call<R: Wait>(&mut self, rt: &R, call: Call) -> Option<Stamp>
+        requires { (call ≡ TryWrite) ⊎ (call ≡ TryRead) }
+        ensures { Made call (stamped result) self.old self.new }
+    {
+        stamp_unless_zero(self.once_or_call(rt, call))
     }
 }

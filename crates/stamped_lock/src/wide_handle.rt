@@ -5,7 +5,7 @@ ghost use Rattle.stamp_core.specs.declared.reply.Reply.TheVariants.{Done, Conten
 ghost use Rattle.stamp_threads.specs.PassView.{after_split, split_off};
 ghost use Rattle.stamped_lock.specs.RecordCalls.{MadeOnRecord, RefusesPut, RefusesGet};
 ghost use Rattle.stamped_lock.specs.RecordCalls.{MadeAtLast, SpentAtLast};
-ghost use Rattle.stamped_lock.specs.RecordCalls.{RefusesUpdate, UpdateSpent};
+ghost use Rattle.stamped_lock.specs.RecordCalls.{RefusesUpdate, UpdateSpent, SeenAtLast};
 
 use crate::spent::Spent;
 use stamp_threads::{ContentRule, GetFault, PutFault, RecordPass, WideRecord};
@@ -118,7 +118,8 @@ impl<'a, const N: usize, P: ContentRule> WideHandle<'a, N, P> {
         change: F,
     ) -> Result<(), PutFault>
         requires long { (length old.old ≡ N) × (length new.old ≡ N) }
-        requires callable { (words : _) → length words.now ≡ N → P.holds words.now → F.pre change words }
+        requires callable { (words : _) (seen : _) → length words.now ≡ N → P.holds words.now
+            → SeenAtLast P.holds words.now self.old seen → F.pre change words }
         requires rule { (words : _) (changed : _) → length words.now ≡ N → P.holds words.now
             → F.post change words tt changed → (length changed.now ≡ N) × P.holds changed.now }
         ensures long { (length old.new ≡ N) × (length new.new ≡ N) }
@@ -140,7 +141,8 @@ impl<'a, const N: usize, P: ContentRule> WideHandle<'a, N, P> {
         change: &F,
     ) -> Result<(), PutFault>
         requires long { (length old.old ≡ N) × (length new.old ≡ N) }
-        requires callable { (words : _) → length words.now ≡ N → P.holds words.now → F.pre change.now words }
+        requires callable { (words : _) (seen : _) → length words.now ≡ N → P.holds words.now
+            → SeenAtLast P.holds words.now self.old seen → F.pre change.now words }
         requires rule { (words : _) (changed : _) → length words.now ≡ N → P.holds words.now
             → F.post change.now words tt changed → (length changed.now ≡ N) × P.holds changed.now }
         ensures long { (length old.new ≡ N) × (length new.new ≡ N) }
@@ -171,7 +173,8 @@ impl<'a, const N: usize, P: ContentRule> WideHandle<'a, N, P> {
         change: F,
     ) -> Result<(), Spent>
         requires long { (length old.old ≡ N) × (length new.old ≡ N) }
-        requires callable { (words : _) → length words.now ≡ N → P.holds words.now → F.pre change words }
+        requires callable { (words : _) (seen : _) → length words.now ≡ N → P.holds words.now
+            → SeenAtLast P.holds words.now self.old seen → F.pre change words }
         requires rule { (words : _) (changed : _) → length words.now ≡ N → P.holds words.now
             → F.post change words tt changed → (length changed.now ≡ N) × P.holds changed.now }
         ensures long { (length old.new ≡ N) × (length new.new ≡ N) }
