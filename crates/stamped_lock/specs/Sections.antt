@@ -67,20 +67,15 @@ abbrev pub OptimisticSection : {T : Type 0} → (T → LockHandleView → Type 0
 OptimisticSection Ran r h h' = IsOkAnd r (λ t. ReadUnwritten (Ran t) h h') ⊎
     ((m : LockHandleView) × NotValid h m × ReadSection Ran r m h')
 
--- a closure that may change answered t from the state f; Step says what a run of it answers, and which state
--- it leaves
-abbrev pub RanFrom : {F T : Type 0} → (F → LockHandleView → T → F → Type 0) → F → T → LockHandleView → Type 0
-RanFrom {F} Step f t m = (g : F) × Step f m t g
-
--- an optimistic section by such a closure: where its first run came to nothing, it ran again in read mode, from
--- the state that the first left
-abbrev pub OptimisticSectionMut : {F T : Type 0} → (F → LockHandleView → T → F → Type 0) → F →
+-- an optimistic section by a closure that may change, from the state f to f'; Step says what a run of it answers,
+-- and which state it leaves. Where its first run came to nothing, it ran again in read mode, from what that left
+abbrev pub OptimisticSectionMut : {F T : Type 0} → (F → LockHandleView → T → F → Type 0) → F → F →
     Result T Mismatch → LockHandleView → LockHandleView → Type 0
-OptimisticSectionMut {F} {T} Step f r h h' =
-    IsOkAnd r (λ t. ReadUnwritten (RanFrom Step f t) h h') ⊎
-    (((m : LockHandleView) × Made Optimistic (Stamp 0) h m × ReadSection (RanFrom Step f) r m h') ⊎
+OptimisticSectionMut {F} {T} Step f f' r h h' =
+    IsOkAnd r (λ t. ReadUnwritten (λ m. Step f m t f') h h') ⊎
+    (((m : LockHandleView) × Made Optimistic (Stamp 0) h m × ReadSection (λ t u. Step f u t f') r m h') ⊎
     ((m : LockHandleView) × (t : T) × (g : F) × RanBetween Optimistic Validate No (λ u. Step f u t g) h m
-    × ReadSection (RanFrom Step g) r m h'))
+    × ReadSection (λ t u. Step g u t f') r m h'))
 
 -- a closure ran where a test held: none where it didn't
 abbrev pub RanIf : {T : Type 0} → (Bool → LockHandleView → Type 0) → (T → LockHandleView → Type 0) →

@@ -1,7 +1,7 @@
 //! Sections: a closure between two calls of the lock.
 ghost use Rattle.std.specs.Fn.{FnOnceReturnsAt, FnReturnsAt, CalledAt};
 ghost use Rattle.stamped_lock.specs.Sections.{WriteSection, ReadSection, OptimisticSection};
-ghost use Rattle.stamped_lock.specs.Sections.{OptimisticSectionMut, RanFrom};
+ghost use Rattle.stamped_lock.specs.Sections.{OptimisticSectionMut};
 
 use crate::handle::LockHandle;
 use crate::mismatch::Mismatch;
@@ -68,15 +68,16 @@ impl<'a> LockHandle<'a> {
         self.read_lent(rt, &f)
     }
 
-    /// As `read_optimistically`, by a closure that may change what it captures, as a buffer that it fills.
-    /// Where it runs again, it finds there what its first run left, which may come of torn reads.
+    /// As `read_optimistically`, by a closure that may change what it captures, as a buffer that it fills, and
+    /// that is lent. Its last run is the one whose answer is given. Where it runs again, it finds what its first
+    /// run left, which may come of torn reads.
     pub fn read_optimistically_mut<T: Drop, R: Wait, F: FnMut(&LockHandle<'a>) -> T>(
         &mut self,
         rt: &R,
-        mut f: F,
+        f: &mut F,
     ) -> Result<T, Mismatch>
-        requires { F.IsAlwaysCallable f }
-        ensures { OptimisticSectionMut (CalledAt F.FnMut) f result self.old self.new }
+        requires { F.IsAlwaysCallable f.old }
+        ensures { OptimisticSectionMut (CalledAt F.FnMut) f.old f.new result self.old self.new }
     {
         let Some(stamp) = self.try_optimistic_read() else {
             return self.read_with_mut(rt, f);
@@ -89,14 +90,14 @@ impl<'a> LockHandle<'a> {
         self.read_with_mut(rt, f)
     }
 
-    /// `read_with`, by a closure that may change what it captures.
+    /// `read_with`, by a closure that may change what it captures, and that is lent.
     fn read_with_mut<T: Drop, R: Wait, F: FnMut(&LockHandle<'a>) -> T>(
         &mut self,
         rt: &R,
-        mut f: F,
+        f: &mut F,
     ) -> Result<T, Mismatch>
-        requires { F.IsAlwaysCallable f }
-        ensures { ReadSection (RanFrom (CalledAt F.FnMut) f) result self.old self.new }
+        requires { F.IsAlwaysCallable f.old }
+        ensures { ReadSection (λ t m. CalledAt F.FnMut f.old m t f.new) result self.old self.new }
     {
         let held = self.read(rt);
         let answer = f(self);

@@ -1,6 +1,6 @@
 //! Sections of one thread.
 use crate::fixtures::{Ask, answer, made, made_with, number};
-use stamped_lock::{Layout, Mismatch, StampedLock, WriteError};
+use stamped_lock::{Layout, LockHandle, Mismatch, StampedLock, WriteError};
 use std::process::Abort;
 use std::sync::Wait;
 use std::sync::atomic::{AtomicU64, Ordering};
@@ -108,31 +108,36 @@ fn set_both<R: Wait + Abort>(rt: &R, lock: &StampedLock, pair: &[AtomicU64; 2]) 
     assert!(rt; set == Ok(()));
 }
 
-/// Reads both numbers into the buffer; in the first run a writer comes between them. Answers how often it ran.
+/// Reads both numbers into the buffer; in the run of this number a writer comes between them. Answers how
+/// often it ran.
 fn read_around_a_writer<R: Wait + Abort>(
     rt: &R,
     lock: &StampedLock,
     pair: &[AtomicU64; 2],
     buffer: &mut [u64; 2],
+    written: u64,
 ) -> Result<u64, Mismatch> {
     let mut runs = 0u64;
-    lock.enter().read_optimistically_mut(rt, |_| {
+    let mut read = |_: &LockHandle<'_>| {
         runs = runs.wrapping_add(1);
         buffer[0] = pair[0].load(Ordering::SeqCst);
-        if runs == 1 {
+        if runs == written {
             set_both(rt, lock, pair);
         }
         buffer[1] = pair[1].load(Ordering::SeqCst);
         runs
-    })
+    };
+    lock.enter().read_optimistically_mut(rt, &mut read)
 }
 
 #[test]
-fn a_buffer_is_filled_again_after_a_torn_read(rt: HostRuntime) -> Result<(), Fail> {
-    let lock = made(rt.alloc())?;
-    let pair = [AtomicU64::new(1), AtomicU64::new(2)];
-    let mut buffer = [0; 2];
-    assert!(rt; read_around_a_writer(&rt, &lock, &pair, &mut buffer) == Ok(2));
-    assert!(rt; buffer == [3, 4]);
+fn a_buffer_is_filled_again_after_a_torn_read_alone(rt: HostRuntime) -> Result<(), Fail> {
+    for (written, ran, want) in [(9, 1, [1, 2]), (1, 2, [3, 4])] {
+        let lock = made(rt.alloc())?;
+        let pair = [AtomicU64::new(1), AtomicU64::new(2)];
+        let mut buffer = [0; 2];
+        assert!(rt; read_around_a_writer(&rt, &lock, &pair, &mut buffer, written) == Ok(ran));
+        assert!(rt; buffer == want);
+    }
     Ok(())
 }

@@ -6,6 +6,7 @@ use stamped_lock::{
     UpdateError,
 };
 use std::sync::Wait;
+use std::sync::atomic::{AtomicU64, Ordering};
 use std::test::Fail;
 use std::thread::join;
 
@@ -100,6 +101,38 @@ fn an_update_gives_the_old_words(rt: HostRuntime) -> Result<(), Fail> {
     assert!(rt; lower(&rt, &mut handle) == Err(UpdateError::Declined([7, 8])));
     assert!(rt; to_the_middle(&rt, &mut handle).is_err());
     assert!(rt; handle.get(&rt) == [7, 8]);
+    Ok(())
+}
+
+#[test]
+fn an_update_that_is_not_declined_is_spent_where_no_version_is_left(
+    rt: HostRuntime,
+) -> Result<(), Fail> {
+    let limits = Limits::in_layout(Layout::One, 1, 2)?;
+    let Ok(board) = Board::with_limits(rt.alloc(), limits, [3, 9]) else {
+        return Err(Fail::from("no memory for the record"));
+    };
+    let mut handle = board.enter();
+    assert!(rt; lower(&rt, &mut handle) == Ok([3, 9]));
+    assert!(rt; lower(&rt, &mut handle) == Err(UpdateError::Spent));
+    assert!(rt; handle.get(&rt) == [3, 8]);
+    Ok(())
+}
+
+#[test]
+fn alone_the_closure_of_an_update_runs_once(rt: HostRuntime) -> Result<(), Fail> {
+    let Ok(word) = StampedRecord::<1, AnyContent>::new(rt.alloc(), [5]) else {
+        return Err(Fail::from("no memory for the record"));
+    };
+    let runs = AtomicU64::new(0);
+    let double = |word: &[u64; 1]| -> [u64; 1] {
+        runs.fetch_add(1, Ordering::SeqCst);
+        [word[0].wrapping_mul(2)]
+    };
+    let mut handle = word.enter();
+    assert!(rt; handle.update_once(double) == Ok([5]));
+    assert!(rt; handle.update(&rt, double) == Ok([10]));
+    assert!(rt; runs.load(Ordering::SeqCst) == 2);
     Ok(())
 }
 
