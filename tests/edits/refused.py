@@ -239,7 +239,11 @@ def named_at(folder, file, line):
 
 
 def type_name(of, parameters):
-    """A type as the prover prints it in a path: `Option<Stamp>` as OptionStamp, without the impl's parameters."""
+    """A type as the prover prints it in a path: `Option<Stamp>` as OptionStamp, without the impl's parameters, and
+    a pair of those as Tuple2."""
+    pair = re.fullmatch(r"\(\w+(?:, \w+)+\)", of)
+    if pair:
+        return f"Tuple{of.count(',') + 1}"
     dropped = re.findall(r"(?:const )?(\w+)", parameters.split(":")[0]) + re.findall(r", *(?:const )?(\w+)", parameters)
     words = re.findall(r"\(\)|'\w+|\w+", of)
     kept = [word for word in words if word[0] != "'" and word not in dropped]
