@@ -42,6 +42,8 @@ import time
 FOLDER = os.path.dirname(os.path.abspath(__file__))
 TOP = os.path.dirname(os.path.dirname(FOLDER))
 PARTS = ("src", "specs", "proofs")
+# How many of a crate's edits one process tries: those of larger crates are the end of the gate.
+MOST = 24
 FUNCTION = re.compile(r'^( *)(?:pub(?:\([a-z]+\))? )?(?:extern "C" )?fn (\w+)', re.M)
 IMPL = re.compile(r"^impl(?:<((?:[^<>{]|<[^<>{]*>)*)>)? (?:([\w:]+)(?:<(\w*)[^{]*>)? for )?([^{]+?) *(?:where [^{]*)?\{", re.M)
 STATED = re.compile(r"^fn (\S+): (.*)$", re.M)
@@ -413,10 +415,21 @@ def take_kept(begin, kept):
         os.mkdir(kept)
 
 
-def tried(crate, names):
-    """Tries these edits of the crate, round by round, and gives the lines that tell of it."""
+def parts_of(count):
+    """In how many parts so many edits of a crate are tried, side by side."""
+    return -(-count // MOST)
+
+
+def part_of(edits, part):
+    """A part of a crate's edits: all those of every so many functions."""
+    functions, count = sorted({it.functions[0] for it in edits}), parts_of(len(edits))
+    return [it for it in edits if functions.index(it.functions[0]) % count == part]
+
+
+def tried(crate, names, part):
+    """Tries a part of these edits of the crate, round by round, and gives the lines that tell of it."""
     begun = time.monotonic()
-    edits = [Edit(crate, f"{FOLDER}/{crate.name}/{name}") for name in names]
+    edits = part_of([Edit(crate, f"{FOLDER}/{crate.name}/{name}") for name in names], part)
     lines, rounds = {}, 0
     with tempfile.TemporaryDirectory() as room:
         kept = f"{room}/kept"
@@ -444,14 +457,18 @@ def tried(crate, names):
             lines |= judged_alone(crate, edit, crate.tried(room, kept, [edit]))
     seconds = round(time.monotonic() - begun)
     print(f"{crate.name}: {len(lines)} edits tried, in {rounds} rounds and {seconds} seconds", flush=True)
-    return [f"{crate.name}/{name}: {what}" for name, what in sorted(lines.items())]
+    return [f"{crate.name}/{name}: {what}" for name, what in lines.items()]
 
 
-def lines_of(crate, done):
-    try:
-        return done.result()
-    except Failed as fault:
-        return [f"{crate.name}: FAILED: {fault}"]
+def lines_of(crate, parts):
+    """The lines of all parts of a crate's edits. What is wrong with an edit is told by each part, and said once."""
+    lines = set()
+    for part in parts:
+        try:
+            lines |= {*part.result()}
+        except Failed as fault:
+            lines.add(f"{crate.name}: FAILED: {fault}")
+    return sorted(lines)
 
 
 def options_of(words):
@@ -481,7 +498,8 @@ def try_all(crates, wanted):
     lines = []
     with concurrent.futures.ThreadPoolExecutor(len(os.sched_getaffinity(0))) as pool:
         most_first = sorted(wanted, key=lambda name: -len(wanted[name]))
-        tries = {name: pool.submit(tried, crates[name], wanted[name]) for name in most_first}
+        tries = {name: [pool.submit(tried, crates[name], wanted[name], part)
+                        for part in range(parts_of(len(wanted[name])))] for name in most_first}
         try:
             for name in wanted:
                 told = lines_of(crates[name], tries[name])
