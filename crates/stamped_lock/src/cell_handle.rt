@@ -70,7 +70,7 @@ impl<'a, const N: usize, T: InWords<N>> CellHandle<'a, N, T> {
         record_calls::put(rt, self.running, &mut self.pass, &value.to_words())
     }
 
-    /// Puts what the closure answers on the value, and gives the old value: nobody put in between, so no
+    /// Puts what the closure answers on the value over it, as one call, and gives the old value: so no
     /// update is lost. The closure runs with nothing held, and again after each loss to another thread, on
     /// a value that the cell held. It fails only where no version is left; nothing was put then.
     pub fn update<R: Wait, F: Fn(&T) -> T>(&mut self, rt: &R, f: F) -> Result<T, Spent>

@@ -160,7 +160,7 @@ fn replace<const N: usize, P: ContentRule, T: InWords<N>>(
     running.replace_once(pass, word, words)
 }
 
-/// Puts what the closure answers on the value, if nobody puts meanwhile, and gives the old value.
+/// Puts what the closure answers on the value over it, as one call, and gives the old value.
 #[inline(always)]
 pub fn update_once<const N: usize, P: ContentRule, T: InWords<N>, F: Fn(&T) -> T>(
     running: &RuledRecord<P>,

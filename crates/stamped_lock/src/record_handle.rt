@@ -95,8 +95,8 @@ impl<'a, const N: usize, P: ContentRule> RecordHandle<'a, N, P> {
         record_calls::put(rt, self.running, &mut self.pass, &words)
     }
 
-    /// Puts what the closure answers on the words, if nobody puts meanwhile, and gives the old words.
-    /// The closure runs once at most, with nothing held, on words that stood together; it may rely on the
+    /// Puts what the closure answers on the words over them, as one call, and gives the old words. The
+    /// closure runs once at most, with nothing held, on words that stood together; it may rely on the
     /// rule, and has to keep it. It waits for nobody, and where it fails nothing was put: `Busy` where the
     /// first load of the lock word found somebody putting, `Lost` where the word changed after it (the
     /// closure may have run then), `Spent` where no version is left.
@@ -115,7 +115,7 @@ impl<'a, const N: usize, P: ContentRule> RecordHandle<'a, N, P> {
         record_calls::update_once(self.running, &mut self.pass, &f)
     }
 
-    /// Puts what the closure answers on the words, and gives the old words: nobody put in between, so no
+    /// Puts what the closure answers on the words over them, as one call, and gives the old words: so no
     /// update is lost. The closure runs with nothing held, and again after each loss to another thread,
     /// on words that stood together; it may rely on the rule, and has to keep it. Where `update_once`
     /// fails as `Busy` or as `Lost`, it lets other threads run and tries again. It fails only where no

@@ -105,8 +105,8 @@ impl<'a, const N: usize, P: ContentRule> WideHandle<'a, N, P> {
         unreachable!()
     }
 
-    /// Puts what the closure makes of the words, if nobody puts meanwhile; the old words are left in `old`,
-    /// and those that were put in `new`. The closure runs once at most, with nothing held, on a copy of
+    /// Puts what the closure makes of the words over them, as one call; the old words are left in `old`, and
+    /// those that were put in `new`. The closure runs once at most, with nothing held, on a copy of
     /// words that stood together; it may rely on the rule, and has to keep it. It waits for nobody, and where
     /// it fails nothing was put, and both may be any words: `Busy` where the first load of the lock word
     /// found somebody putting, `Lost` where the word changed after it (the closure may have run then),
@@ -160,8 +160,8 @@ impl<'a, const N: usize, P: ContentRule> WideHandle<'a, N, P> {
         Ok(())
     }
 
-    /// Puts what the closure makes of the words; the old words are left in `old`, and those that were put
-    /// in `new`. Nobody put in between, so no update is lost. The closure runs with nothing held, and again
+    /// Puts what the closure makes of the words over them, as one call; the old words are left in `old`, and
+    /// those that were put in `new`. So no update is lost. The closure runs with nothing held, and again
     /// after each loss to another thread, on a copy of words that stood together; it may rely on the rule,
     /// and has to keep it. Where `update_in_once` fails as `Busy` or as `Lost`, it lets other threads run and
     /// tries again. It fails only where no version is left; nothing was put then.
