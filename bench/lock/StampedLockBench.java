@@ -5,7 +5,7 @@ import java.util.concurrent.locks.StampedLock;
 
 public final class StampedLockBench {
     static final int BETWEEN = 1024;
-    static final int MORE = 32;
+    static final int MORE = 1024;
 
     static long optimisticPairs(StampedLock lock, long pairs) {
         long good = 0;

@@ -7,7 +7,7 @@ import java.util.concurrent.locks.StampedLock;
 import java.util.function.LongSupplier;
 
 public final class StampedRecordBench {
-    static final int MORE = 32;
+    static final int MORE = 1024;
     static final int MORE_UPDATES = 4;
     static final int BETWEEN = 10_000;
 

@@ -13,7 +13,10 @@
 #include <time.h>
 
 enum { VERSION = 256, WRITER = 128, WORDS = 16, MOST = 4, BETWEEN = 10000 };
-enum { MORE = 32, MORE_UPDATES = 4 };
+enum { MORE = 1024, MORE_UPDATES = 4 };
+
+// A function of its own, as it is in `timings`.
+#define LOOP __attribute__((noinline))
 
 static const uint64_t VERSIONS = (uint64_t)1 << 50;
 
@@ -68,7 +71,7 @@ static int update(struct record *record) {
     return updated == UPDATED;
 }
 
-static uint64_t gets(struct record *record, uint64_t calls) {
+static LOOP uint64_t gets(struct record *record, uint64_t calls) {
     uint64_t row[WORDS] = {0}, good = 0;
     for (uint64_t i = 0; i < calls; i++) {
         int is_good = get(record, row);
@@ -78,13 +81,13 @@ static uint64_t gets(struct record *record, uint64_t calls) {
     return good;
 }
 
-static uint64_t puts_in_turn(struct record *record, uint64_t calls) {
+static LOOP uint64_t puts_in_turn(struct record *record, uint64_t calls) {
     uint64_t row[WORDS] = {0}, good = 0;
     for (uint64_t i = 0; i < calls; i++) good += put(record, row);
     return good;
 }
 
-static uint64_t updates(struct record *record, uint64_t calls) {
+static LOOP uint64_t updates(struct record *record, uint64_t calls) {
     uint64_t good = 0;
     for (uint64_t i = 0; i < calls; i++) good += update(record);
     return good;

@@ -226,7 +226,7 @@ def function_at(file, before):
     name = found[-1][2]
     if found[-1][1] and impl:
         parameters, trait, of_trait, of = impl[-1].groups(default="")
-        return f"{type_name(of, parameters)}{trait.split('::')[-1]}{of_trait}::{name}"
+        return f"{in_part(of, before) or type_name(of, parameters)}{trait.split('::')[-1]}{of_trait}::{name}"
     return name if module in ("lib", "main") else f"{module}::{name}"
 
 
@@ -250,6 +250,16 @@ def type_name(of, parameters):
     words = re.findall(r"\(\)|'\w+|\w+", of)
     kept = [word for word in words if word[0] != "'" and word not in dropped]
     return "".join("Unit" if word == "()" else word[0].upper() + word[1:] for word in kept)
+
+
+def in_part(of, before):
+    """A type of which the impl gives some arguments and leaves others to their defaults, as the prover prints it;
+    nothing for any other."""
+    name, _, given = of.removesuffix(">").partition("<")
+    declared = re.search(rf"^pub struct {name}<((?:[^<>{{]|<[^<>]*>)*)>", before, re.M)
+    outside = lambda text: re.sub(r"<[^<>]*>", "", text).split(",")
+    is_part = given and declared and len(outside(given)) < len(outside(declared[1]))
+    return "+".join([name, *re.findall(r"\w+", given)]) if is_part else ""
 
 
 def place_of(file, function):

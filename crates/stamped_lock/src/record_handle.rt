@@ -14,6 +14,7 @@ use crate::in_words::InWords;
 use crate::record_calls;
 use crate::spent::Spent;
 use crate::update_error::UpdateError;
+use stamp_core::{KnownLayout, LayoutOne};
 use stamp_threads::{ContentRule, GetFault, PutFault, RecordPass, RuledRecord};
 use std::marker::Model;
 use std::sync::Wait;
@@ -21,14 +22,14 @@ use std::sync::Wait;
 /// One thread's way to the record. A handle can be moved to another thread, and can't be copied;
 /// `split` makes another one. It has no bytes but the record's reference.
 #[derive(Drop)]
-pub struct RecordHandle<'a, const N: usize, P: ContentRule> {
-    running: &'a RuledRecord<P>,
+pub struct RecordHandle<'a, const N: usize, P: ContentRule, L: KnownLayout = LayoutOne> {
+    running: &'a RuledRecord<P, L>,
     pass: RecordPass,
     ghost table: { pass.table ≡ running.now.table },
     ghost width: { (running.now.shape.width ≡ N) × (1 ≤ N) × (N ≤ 16) },
 }
 
-impl<'a, const N: usize, P: ContentRule> Model for RecordHandle<'a, N, P> {
+impl<'a, const N: usize, P: ContentRule, L: KnownLayout> Model for RecordHandle<'a, N, P, L> {
     ghost use Rattle.std.specs.Prelude.{◌≡◌};
     ghost use Rattle.stamped_lock.specs.RecordCalls.{RecordHandleView};
 
@@ -37,9 +38,9 @@ impl<'a, const N: usize, P: ContentRule> Model for RecordHandle<'a, N, P> {
     ghost view = { λ h. record { running = h.running.now; pass = h.pass.view } };
 }
 
-impl<'a, const N: usize, P: ContentRule> RecordHandle<'a, N, P> {
+impl<'a, const N: usize, P: ContentRule, L: KnownLayout> RecordHandle<'a, N, P, L> {
     /// The handle of a record and a pass of it.
-    pub(crate) fn new(running: &'a RuledRecord<P>, pass: RecordPass) -> RecordHandle<'a, N, P>
+    pub(crate) fn new(running: &'a RuledRecord<P, L>, pass: RecordPass) -> RecordHandle<'a, N, P, L>
         requires table { pass.table ≡ running.now.table }
         requires width { HasWidth N running.now.shape }
         ensures running { result.running ≡ running.now }
@@ -95,8 +96,8 @@ impl<'a, const N: usize, P: ContentRule> RecordHandle<'a, N, P> {
         record_calls::put(rt, self.running, &mut self.pass, &words)
     }
 
-    /// Puts what the closure answers on the words, if nobody puts meanwhile, and gives the old words.
-    /// The closure runs once at most, with nothing held, on words that stood together; it may rely on the
+    /// Puts what the closure answers on the words over them, as one call, and gives the old words. The
+    /// closure runs once at most, with nothing held, on words that stood together; it may rely on the
     /// rule, and has to keep it. It waits for nobody, and where it fails nothing was put: `Busy` where the
     /// first load of the lock word found somebody putting, `Lost` where the word changed after it (the
     /// closure may have run then), `Spent` where no version is left.
@@ -115,7 +116,7 @@ impl<'a, const N: usize, P: ContentRule> RecordHandle<'a, N, P> {
         record_calls::update_once(self.running, &mut self.pass, &f)
     }
 
-    /// Puts what the closure answers on the words, and gives the old words: nobody put in between, so no
+    /// Puts what the closure answers on the words over them, as one call, and gives the old words: so no
     /// update is lost. The closure runs with nothing held, and again after each loss to another thread,
     /// on words that stood together; it may rely on the rule, and has to keep it. Where `update_once`
     /// fails as `Busy` or as `Lost`, it lets other threads run and tries again. It fails only where no
@@ -194,7 +195,7 @@ impl<'a, const N: usize, P: ContentRule> RecordHandle<'a, N, P> {
     }
 
     /// One more handle of the same record, which knows as much as this one and has made no call.
-    pub fn split(&mut self) -> RecordHandle<'a, N, P>
+    pub fn split(&mut self) -> RecordHandle<'a, N, P, L>
         ensures running { (self.new.running ≡ self.old.running)
             × (result.running ≡ self.old.running) }
         ensures given { self.new.pass ≡ after_split self.old.pass }

@@ -8,6 +8,7 @@ ghost use Rattle.stamped_lock.specs.RecordCalls.{MadeAtLast, SpentAtLast};
 ghost use Rattle.stamped_lock.specs.RecordCalls.{RefusesUpdate, UpdateSpent, SeenAtLast};
 
 use crate::spent::Spent;
+use stamp_core::{KnownLayout, LayoutOne};
 use stamp_threads::{ContentRule, GetFault, PutFault, RecordPass, WideRecord};
 use std::marker::Model;
 use std::sync::Wait;
@@ -16,14 +17,14 @@ use std::thread;
 /// One thread's way to a record of many words. A handle can be moved to another thread, and can't be
 /// copied; `split` makes another one. It has no bytes but the record's reference.
 #[derive(Drop)]
-pub struct WideHandle<'a, const N: usize, P: ContentRule> {
-    running: &'a WideRecord<P>,
+pub struct WideHandle<'a, const N: usize, P: ContentRule, L: KnownLayout = LayoutOne> {
+    running: &'a WideRecord<P, L>,
     pass: RecordPass,
     ghost table: { pass.table ≡ running.now.table },
     ghost width: { (running.now.shape.width ≡ N) × (1 ≤ N) × (N ≤ 4096) },
 }
 
-impl<'a, const N: usize, P: ContentRule> Model for WideHandle<'a, N, P> {
+impl<'a, const N: usize, P: ContentRule, L: KnownLayout> Model for WideHandle<'a, N, P, L> {
     ghost use Rattle.std.specs.Prelude.{◌≡◌};
     ghost use Rattle.stamped_lock.specs.RecordCalls.{RecordHandleView};
 
@@ -32,9 +33,9 @@ impl<'a, const N: usize, P: ContentRule> Model for WideHandle<'a, N, P> {
     ghost view = { λ h. record { running = h.running.now; pass = h.pass.view } };
 }
 
-impl<'a, const N: usize, P: ContentRule> WideHandle<'a, N, P> {
+impl<'a, const N: usize, P: ContentRule, L: KnownLayout> WideHandle<'a, N, P, L> {
     /// The handle of a record and a pass of it.
-    pub(crate) fn new(running: &'a WideRecord<P>, pass: RecordPass) -> WideHandle<'a, N, P>
+    pub(crate) fn new(running: &'a WideRecord<P, L>, pass: RecordPass) -> WideHandle<'a, N, P, L>
         requires table { pass.table ≡ running.now.table }
         requires width { (running.now.shape.width ≡ N) × (1 ≤ N) × (N ≤ 4096) }
         ensures running { result.running ≡ running.now }
@@ -105,8 +106,8 @@ impl<'a, const N: usize, P: ContentRule> WideHandle<'a, N, P> {
         unreachable!()
     }
 
-    /// Puts what the closure makes of the words, if nobody puts meanwhile; the old words are left in `old`,
-    /// and those that were put in `new`. The closure runs once at most, with nothing held, on a copy of
+    /// Puts what the closure makes of the words over them, as one call; the old words are left in `old`, and
+    /// those that were put in `new`. The closure runs once at most, with nothing held, on a copy of
     /// words that stood together; it may rely on the rule, and has to keep it. It waits for nobody, and where
     /// it fails nothing was put, and both may be any words: `Busy` where the first load of the lock word
     /// found somebody putting, `Lost` where the word changed after it (the closure may have run then),
@@ -160,8 +161,8 @@ impl<'a, const N: usize, P: ContentRule> WideHandle<'a, N, P> {
         Ok(())
     }
 
-    /// Puts what the closure makes of the words; the old words are left in `old`, and those that were put
-    /// in `new`. Nobody put in between, so no update is lost. The closure runs with nothing held, and again
+    /// Puts what the closure makes of the words over them, as one call; the old words are left in `old`, and
+    /// those that were put in `new`. So no update is lost. The closure runs with nothing held, and again
     /// after each loss to another thread, on a copy of words that stood together; it may rely on the rule,
     /// and has to keep it. Where `update_in_once` fails as `Busy` or as `Lost`, it lets other threads run and
     /// tries again. It fails only where no version is left; nothing was put then.
@@ -195,7 +196,7 @@ impl<'a, const N: usize, P: ContentRule> WideHandle<'a, N, P> {
     }
 
     /// One more handle of the same record, which knows as much as this one and has made no call.
-    pub fn split(&mut self) -> WideHandle<'a, N, P>
+    pub fn split(&mut self) -> WideHandle<'a, N, P, L>
         ensures running { (self.new.running ≡ self.old.running)
             × (result.running ≡ self.old.running) }
         ensures given { self.new.pass ≡ after_split self.old.pass }

@@ -2,7 +2,10 @@
 ghost use Rattle.std.specs.Prelude.{◌≡◌, ◌≤◌, ◌≤ℤ◌, ◌∷◌, []};
 ghost use Rattle.stamped_lock.specs.InWords.{i64_word, f64_word, bool_word, IsI64, IsF64};
 
-use stamped_lock::{CellHandle, InWord, InWords, Layout, Limits, Spent, StampedCell, UpdateError};
+use stamped_lock::{
+    CellHandle, InWord, InWords, KnownLayout, Layout, LayoutTwo, Limits, Spent, StampedCell,
+    UpdateError,
+};
 use std::sync::Wait;
 use std::test::Fail;
 use std::thread::join;
@@ -99,7 +102,10 @@ fn two_threads_grow_a_range_that_a_third_reads(rt: HostRuntime) -> Result<(), Fa
 }
 
 /// Stops growing, where it still grows.
-fn stop<R: Wait>(rt: &R, cell: &mut RangeHandle<'_>) -> Result<Range, UpdateError<Range>> {
+fn stop<L: KnownLayout, R: Wait>(
+    rt: &R,
+    cell: &mut CellHandle<'_, 4, Range, L>,
+) -> Result<Range, UpdateError<Range>> {
     cell.try_update(rt, |r: &Range| -> Option<Range> {
         if r.grows {
             Some(of_bounds(r.low, r.high, r.step, false))
@@ -116,7 +122,7 @@ fn a_cell_gives_what_was_put(rt: HostRuntime) -> Result<(), Fail> {
         of_bounds(-7, 9, -0.25, true),
         of_bounds(i64::MIN, i64::MAX, 1e300, true),
     );
-    let Ok(cell) = RangeCell::with_limits(rt.alloc(), limits, first) else {
+    let Ok(cell) = StampedCell::<4, Range, LayoutTwo>::in_layout(rt.alloc(), limits, first) else {
         return Err(Fail::from("no memory for the cell"));
     };
     let mut handle = cell.enter();

@@ -2,7 +2,9 @@
 ghost use Rattle.std.specs.Prelude.{◌≡◌, ◌<◌, slice_index};
 
 use crate::fixtures::both_end;
-use stamped_lock::{ContentRule, Layout, Limits, PutFault, RecordHandle, Spent, StampedRecord};
+use stamped_lock::{
+    ContentRule, EitherLayout, Layout, Limits, PutFault, RecordHandle, Spent, StampedRecord,
+};
 use std::sync::atomic::{AtomicU64, Ordering};
 use std::sync::{Arc, Barrier, Wait};
 use std::test::Fail;
@@ -116,7 +118,11 @@ fn two_who_put_at_once_come_back(rt: HostRuntime) -> Result<(), Fail> {
 #[test]
 fn the_first_content_takes_a_version(rt: HostRuntime) -> Result<(), Fail> {
     let limits = Limits::in_layout(Layout::Two, 1, 2)?;
-    let Ok(board) = Board::with_limits(rt.alloc(), limits, [3, 5]) else {
+    let Ok(board) = StampedRecord::<2, BidBelowAsk, EitherLayout>::in_layout(
+        rt.alloc(),
+        limits,
+        [3, 5],
+    ) else {
         return Err(Fail::from("no memory for the record"));
     };
     let mut handle = board.enter();

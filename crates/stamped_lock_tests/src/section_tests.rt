@@ -1,15 +1,15 @@
 //! Sections of one thread.
 use crate::fixtures::{Ask, answer, made, made_with, number};
-use stamped_lock::{Layout, LockHandle, Mismatch, StampedLock, WriteError};
+use stamped_lock::{Entered, KnownLayout, Layout, Mismatch, StampedLock, WriteError};
 use std::process::Abort;
 use std::sync::Wait;
 use std::sync::atomic::{AtomicU64, Ordering};
 use std::test::Fail;
 
 /// Writes by one handle, and makes this call by another in the section. The runs of the closure are counted.
-fn write_around<R: Wait>(
+fn write_around<L: KnownLayout, R: Wait>(
     rt: &R,
-    lock: &StampedLock,
+    lock: &StampedLock<L>,
     ask: Ask,
     runs: &AtomicU64,
 ) -> Result<Option<u64>, WriteError> {
@@ -24,16 +24,18 @@ fn write_around<R: Wait>(
 fn a_write_section_answers_its_closure_if_it_was_made_and_nobody_released_it(
     rt: HostRuntime,
 ) -> Result<(), Fail> {
-    let lock = made_with(rt.alloc(), (Layout::One, 127, 2))?;
-    let runs = AtomicU64::new(0);
-    for (ask, want, ran, next) in [
-        (Ask::IsWriteLocked, Ok(Some(1)), 1, 512),
-        (Ask::TryUnlockWrite, Err(WriteError::Mismatch), 2, 768),
-        (Ask::IsWriteLocked, Err(WriteError::Spent), 2, 768),
-    ] {
-        assert!(rt; write_around(&rt, &lock, ask, &runs) == want);
-        let left = number(lock.enter().try_optimistic_read());
-        assert!(rt; (runs.load(Ordering::SeqCst), left) == (ran, next));
+    for (layout, first, second) in [(Layout::One, 512, 768), (Layout::Two, 262_144, 393_216)] {
+        let lock = made_with(rt.alloc(), (layout, 127, 2))?;
+        let runs = AtomicU64::new(0);
+        for (ask, want, ran, next) in [
+            (Ask::IsWriteLocked, Ok(Some(1)), 1, first),
+            (Ask::TryUnlockWrite, Err(WriteError::Mismatch), 2, second),
+            (Ask::IsWriteLocked, Err(WriteError::Spent), 2, second),
+        ] {
+            assert!(rt; write_around(&rt, &lock, ask, &runs) == want);
+            let left = number(lock.enter().try_optimistic_read());
+            assert!(rt; (runs.load(Ordering::SeqCst), left) == (ran, next));
+        }
     }
     Ok(())
 }
@@ -58,9 +60,9 @@ fn a_read_section_answers_its_closure_if_nobody_released_it(rt: HostRuntime) -> 
 }
 
 /// Writes three times as much if there are fewer than ten: what there was before.
-fn triple_if_few<R: Wait>(
+fn triple_if_few<L: KnownLayout, R: Wait>(
     rt: &R,
-    lock: &StampedLock,
+    lock: &StampedLock<L>,
     sum: &AtomicU64,
     asked: &AtomicU64,
 ) -> Result<Option<u64>, WriteError> {
@@ -118,7 +120,7 @@ fn read_around_a_writer<R: Wait + Abort>(
     written: u64,
 ) -> Result<u64, Mismatch> {
     let mut runs = 0u64;
-    let mut read = |_: &LockHandle<'_>| {
+    let mut read = |_: &Entered<'_>| {
         runs = runs.wrapping_add(1);
         buffer[0] = pair[0].load(Ordering::SeqCst);
         if runs == written {

@@ -1,7 +1,9 @@
 //! Records of many words.
 ghost use Rattle.std.specs.Prelude.{◌≡◌, length};
 
-use stamped_lock::{AnyContent, Layout, Limits, PutFault, Spent, StampedWideRecord, WideHandle};
+use stamped_lock::{
+    AnyContent, Layout, LayoutTwo, Limits, PutFault, Spent, StampedWideRecord, WideHandle,
+};
 use std::sync::Wait;
 use std::test::Fail;
 use std::thread::join;
@@ -82,8 +84,11 @@ fn the_widest_record_holds_what_was_put(rt: HostRuntime) -> Result<(), Fail> {
 #[test]
 fn an_update_leaves_the_old_words_and_the_new(rt: HostRuntime) -> Result<(), Fail> {
     let limits = Limits::in_layout(Layout::Two, 1, 2)?;
-    let Ok(row) = StampedWideRecord::<3, AnyContent>::with_limits(rt.alloc(), limits, &[1, 2, 3])
-    else {
+    let Ok(row) = StampedWideRecord::<3, AnyContent, LayoutTwo>::in_layout(
+        rt.alloc(),
+        limits,
+        &[1, 2, 3],
+    ) else {
         return Err(Fail::from("no memory for the record"));
     };
     let mut handle = row.enter();
