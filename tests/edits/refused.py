@@ -42,7 +42,7 @@ import time
 FOLDER = os.path.dirname(os.path.abspath(__file__))
 TOP = os.path.dirname(os.path.dirname(FOLDER))
 PARTS = ("src", "specs", "proofs")
-# How many of a crate's edits one process tries: those of larger crates are the end of the gate.
+# About how many of a crate's edits one process tries: those of larger crates are the end of the gate.
 MOST = 24
 FUNCTION = re.compile(r'^( *)(?:pub(?:\([a-z]+\))? )?(?:extern "C" )?fn (\w+)', re.M)
 IMPL = re.compile(r"^impl(?:<((?:[^<>{]|<[^<>{]*>)*)>)? (?:([\w:]+)(?:<(\w*)[^{]*>)? for )?([^{]+?) *(?:where [^{]*)?\{", re.M)
