@@ -1,11 +1,11 @@
 // Times the pairs of `timings lock` (crates/timings) on the JDK's StampedLock.
-// `java StampedLockBench.java [PAIRS [ROUNDS]]` writes its lines to standard error, in timings'
+// `java StampedLockBench.java [PAIRS [ROUNDS [OFTEN]]]` writes its lines to standard error, in timings'
 // form, after rounds that warm the compiler.
 import java.util.concurrent.locks.StampedLock;
 
 public final class StampedLockBench {
     static final int BETWEEN = 1024;
-    static final int MORE = 32;
+    static final int MORE = 1024;
 
     static long optimisticPairs(StampedLock lock, long pairs) {
         long good = 0;
@@ -75,16 +75,22 @@ public final class StampedLockBench {
         }
     }
 
-    static void round(boolean warm, long pairs) throws InterruptedException {
-        StampedLock lock = new StampedLock();
+    static void alone(boolean warm, StampedLock lock, long pairs) {
         long start = System.nanoTime();
         tell(warm, "optimistic", 1, pairs, start, optimisticPairs(lock, pairs));
         start = System.nanoTime();
         tell(warm, "read", 1, pairs, start, readPairs(lock, pairs));
         start = System.nanoTime();
         tell(warm, "write", 1, pairs, start, writePairs(lock, pairs));
+    }
+
+    static void round(boolean warm, long pairs, long often) throws InterruptedException {
+        StampedLock lock = new StampedLock();
+        for (long i = 0; i < often; i++) {
+            alone(warm, lock, pairs);
+        }
         for (int threads = 1; threads <= 4; threads++) {
-            start = System.nanoTime();
+            long start = System.nanoTime();
             tell(warm, "mostly", threads, MORE * pairs, start,
                     sideBySide(lock, threads, MORE * pairs));
         }
@@ -93,11 +99,12 @@ public final class StampedLockBench {
     public static void main(String[] words) throws InterruptedException {
         long pairs = words.length > 0 ? Long.parseLong(words[0]) : 1000;
         long rounds = words.length > 1 ? Long.parseLong(words[1]) : 1;
+        long often = words.length > 2 ? Long.parseLong(words[2]) : 1;
         for (int i = 0; i < 5; i++) {
-            round(false, 100_000);
+            round(false, 100_000, 1);
         }
         for (long i = 0; i < rounds; i++) {
-            round(true, pairs);
+            round(true, pairs, often);
         }
     }
 }

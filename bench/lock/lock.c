@@ -1,6 +1,6 @@
 // Times the accesses of the pairs of `timings lock` (crates/timings) in C11, each sequentially consistent: the same
 // loads and exchanges on one word, with the same tests of the word found. Layout 1.
-// `lock [PAIRS [ROUNDS]]` writes its lines to standard error, in the form of timings.
+// `lock [PAIRS [ROUNDS [OFTEN]]]` writes its lines to standard error, in the form of timings.
 #include <inttypes.h>
 #include <pthread.h>
 #include <stdatomic.h>
@@ -9,7 +9,10 @@
 #include <stdlib.h>
 #include <time.h>
 
-enum { VERSION = 256, WRITER = 128, READERS = 127, BETWEEN = 1024, MOST = 4, MORE = 32 };
+enum { VERSION = 256, WRITER = 128, READERS = 127, BETWEEN = 1024, MOST = 4, MORE = 1024 };
+
+// A function of its own, as it is in `timings`.
+#define LOOP __attribute__((noinline))
 
 static const uint64_t VERSIONS = (uint64_t)1 << 50;
 
@@ -59,19 +62,39 @@ static int unlock_write(struct lock *lock, uint64_t stamp) {
     return atomic_compare_exchange_strong(&lock->word, &word, word + WRITER);
 }
 
-static uint64_t optimistic_pairs(struct lock *lock, uint64_t pairs) {
+static LOOP uint64_t optimistic_pairs(struct lock *lock, uint64_t pairs) {
     uint64_t good = 0;
     for (uint64_t i = 0; i < pairs; i++) good += validate(lock, optimistic(lock));
     return good;
 }
 
-static uint64_t read_pairs(struct lock *lock, uint64_t pairs) {
+// With the test that the stamp isn't 0, as the answers of ours are made.
+static LOOP uint64_t tested_pairs(struct lock *lock, uint64_t pairs) {
+    uint64_t good = 0;
+    for (uint64_t i = 0; i < pairs; i++) {
+        uint64_t stamp = optimistic(lock);
+        if (stamp) good += validate(lock, stamp);
+    }
+    return good;
+}
+
+// What such a pair can't be below: its two loads, and one compare.
+static LOOP uint64_t least_pairs(struct lock *lock, uint64_t pairs) {
+    uint64_t good = 0;
+    for (uint64_t i = 0; i < pairs; i++) {
+        uint64_t word = atomic_load(&lock->word);
+        good += atomic_load(&lock->word) == word;
+    }
+    return good;
+}
+
+static LOOP uint64_t read_pairs(struct lock *lock, uint64_t pairs) {
     uint64_t good = 0;
     for (uint64_t i = 0; i < pairs; i++) good += unlock_read(lock, try_read(lock));
     return good;
 }
 
-static uint64_t write_pairs(struct lock *lock, uint64_t pairs) {
+static LOOP uint64_t write_pairs(struct lock *lock, uint64_t pairs) {
     uint64_t good = 0;
     for (uint64_t i = 0; i < pairs; i++) good += unlock_write(lock, try_write(lock));
     return good;
@@ -131,6 +154,12 @@ static void alone(struct lock *lock, uint64_t pairs) {
     uint64_t good = optimistic_pairs(lock, pairs);
     tell("optimistic", 1, pairs, start, good);
     start = now();
+    good = tested_pairs(lock, pairs);
+    tell("tested", 1, pairs, start, good);
+    start = now();
+    good = least_pairs(lock, pairs);
+    tell("least", 1, pairs, start, good);
+    start = now();
     good = read_pairs(lock, pairs);
     tell("read", 1, pairs, start, good);
     start = now();
@@ -141,11 +170,12 @@ static void alone(struct lock *lock, uint64_t pairs) {
 int main(int count, char **words) {
     uint64_t pairs = count > 1 ? strtoull(words[1], NULL, 10) : 1000;
     uint64_t rounds = count > 2 ? strtoull(words[2], NULL, 10) : 1;
+    uint64_t often = count > 3 ? strtoull(words[3], NULL, 10) : 1;
     struct lock *lock = aligned_alloc(64, sizeof *lock);
     if (!lock) abort();
     atomic_init(&lock->word, VERSION);
     for (uint64_t round = 0; round < rounds; round++) {
-        alone(lock, pairs);
+        for (uint64_t i = 0; i < often; i++) alone(lock, pairs);
         for (int threads = 1; threads <= MOST; threads++) {
             side_by_side(lock, threads, MORE * pairs);
         }

@@ -1,25 +1,31 @@
 #!/usr/bin/env bash
-# Times pairs of calls on a running lock beside the same accesses in C11 and the JDK's StampedLock:
-# nanoseconds a pair, the medians of many short rounds, the programs alternating.
+# Times pairs of calls on a lock beside the same accesses in C11 and the JDK's StampedLock: nanoseconds a
+# pair, of many short rounds, the programs alternating, each of ours and of C's at four places.
 #
-#   bench/lock/time.sh [PAIRS [ROUNDS]]
+#   bench/lock/time.sh [PAIRS [ROUNDS [OFTEN]]]
 #
 # The program is built by `rt run` in crates/timings.
 set -euo pipefail
 here=$(cd "$(dirname "$0")" && pwd)
-program=$here/../../crates/timings/out/timings
-pairs=${1:-50000} rounds=${2:-15}
+object=$here/../../crates/timings/out/timings.o
+pairs=${1:-50000} rounds=${2:-5} often=${3:-60}
+source "$here/../common/placements.sh"
 
-[ -x "$program" ] || { echo "no $program: run 'rt run' in crates/timings" >&2; exit 1; }
+[ -f "$object" ] || { echo "no $object: run 'rt run' in crates/timings" >&2; exit 1; }
 room=$(mktemp -d)
 trap 'rm -rf "$room"' EXIT
-cc -O2 -pthread -o "$room/lock_c" "$here/lock.c"
+place_rattle "$object" "$room" timings
+place_c "$here/lock.c" "$room" lock_c
+moved "$room/timings" handles::optimistic_pairs
+moved "$room/lock_c" optimistic_pairs
 javac -d "$room" "$here/StampedLockBench.java"
 
 told() { sed "s/^/$1 /" >> "$room/lines"; }
 for run in 1 2 3; do
-    "$program" lock "$pairs" "$rounds" 2>&1 | told timings
-    "$room/lock_c" "$pairs" "$rounds" 2>&1 | told lock_c
-    java -cp "$room" StampedLockBench "$pairs" "$rounds" 2>&1 | told StampedLock
+    for place in "${places[@]}"; do
+        "$room/timings.$place" lock "$pairs" "$rounds" "$often" 2>&1 | told "timings.$place"
+        "$room/lock_c.$place" "$pairs" "$rounds" "$often" 2>&1 | told "lock_c.$place"
+    done
+    java -cp "$room" StampedLockBench "$pairs" "$rounds" "$often" 2>&1 | told StampedLock
 done
 python3 "$here/table.py" "$room/lines"

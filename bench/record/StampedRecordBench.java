@@ -1,13 +1,13 @@
 // Times gets, puts and updates of words under the JDK's StampedLock, as `timings record` (crates/timings)
 // does: a get reads optimistically and validates, a put holds the write lock, an update reads optimistically and
 // converts its stamp to one of the write lock.
-// `java StampedRecordBench.java [CALLS [ROUNDS]]` writes its lines to standard error, in
+// `java StampedRecordBench.java [CALLS [ROUNDS [OFTEN]]]` writes its lines to standard error, in
 // timings' form, after rounds that warm the compiler.
 import java.util.concurrent.locks.StampedLock;
 import java.util.function.LongSupplier;
 
 public final class StampedRecordBench {
-    static final int MORE = 32;
+    static final int MORE = 1024;
     static final int MORE_UPDATES = 4;
     static final int BETWEEN = 10_000;
 
@@ -184,13 +184,16 @@ public final class StampedRecordBench {
     public static void main(String[] given) throws InterruptedException {
         long calls = given.length > 0 ? Long.parseLong(given[0]) : 1000;
         long rounds = given.length > 1 ? Long.parseLong(given[1]) : 1;
+        long often = given.length > 2 ? Long.parseLong(given[2]) : 1;
         StampedRecordBench two = new StampedRecordBench(2);
         StampedRecordBench sixteen = new StampedRecordBench(16);
         for (long i = -5; i < rounds; i++) {
             boolean warm = i >= 0;
             long count = warm ? calls : 100_000;
-            two.alone(warm, count);
-            sixteen.alone(warm, count);
+            for (long j = 0; j < (warm ? often : 1); j++) {
+                two.alone(warm, count);
+                sixteen.alone(warm, count);
+            }
             two.together(warm, warm ? MORE * count : count);
             two.updateTogether(warm, warm ? MORE_UPDATES * count : count);
         }

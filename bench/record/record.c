@@ -2,7 +2,7 @@
 // loads, stores and exchanges on a lock word and the words beside it, with the same tests. Layout
 // 1.
 // Threads that update one record let others run where they lose, and each sum is checked.
-// `record [CALLS [ROUNDS]]` writes its lines to standard error, in the form of timings.
+// `record [CALLS [ROUNDS [OFTEN]]]` writes its lines to standard error, in the form of timings.
 #include <inttypes.h>
 #include <pthread.h>
 #include <sched.h>
@@ -13,7 +13,10 @@
 #include <time.h>
 
 enum { VERSION = 256, WRITER = 128, WORDS = 16, MOST = 4, BETWEEN = 10000 };
-enum { MORE = 32, MORE_UPDATES = 4 };
+enum { MORE = 1024, MORE_UPDATES = 4 };
+
+// A function of its own, as it is in `timings`.
+#define LOOP __attribute__((noinline))
 
 static const uint64_t VERSIONS = (uint64_t)1 << 50;
 
@@ -68,7 +71,7 @@ static int update(struct record *record) {
     return updated == UPDATED;
 }
 
-static uint64_t gets(struct record *record, uint64_t calls) {
+static LOOP uint64_t gets(struct record *record, uint64_t calls) {
     uint64_t row[WORDS] = {0}, good = 0;
     for (uint64_t i = 0; i < calls; i++) {
         int is_good = get(record, row);
@@ -78,13 +81,13 @@ static uint64_t gets(struct record *record, uint64_t calls) {
     return good;
 }
 
-static uint64_t puts_in_turn(struct record *record, uint64_t calls) {
+static LOOP uint64_t puts_in_turn(struct record *record, uint64_t calls) {
     uint64_t row[WORDS] = {0}, good = 0;
     for (uint64_t i = 0; i < calls; i++) good += put(record, row);
     return good;
 }
 
-static uint64_t updates(struct record *record, uint64_t calls) {
+static LOOP uint64_t updates(struct record *record, uint64_t calls) {
     uint64_t good = 0;
     for (uint64_t i = 0; i < calls; i++) good += update(record);
     return good;
@@ -215,10 +218,13 @@ static struct record *made(size_t width) {
 int main(int count, char **words) {
     uint64_t calls = count > 1 ? strtoull(words[1], NULL, 10) : 1000;
     uint64_t rounds = count > 2 ? strtoull(words[2], NULL, 10) : 1;
+    uint64_t often = count > 3 ? strtoull(words[3], NULL, 10) : 1;
     struct record *two = made(2), *sixteen = made(WORDS);
     for (uint64_t round = 0; round < rounds; round++) {
-        alone(two, (const char *const[]){"into2", "put2", "update2"}, calls);
-        alone(sixteen, (const char *const[]){"into16", "put16", "update16"}, calls);
+        for (uint64_t i = 0; i < often; i++) {
+            alone(two, (const char *const[]){"into2", "put2", "update2"}, calls);
+            alone(sixteen, (const char *const[]){"into16", "put16", "update16"}, calls);
+        }
         together(two, calls);
     }
     free(two);

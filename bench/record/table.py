@@ -1,110 +1,65 @@
-"""Prints the tables of time.sh from its lines 'PROGRAM NAME THREADS CALLS NANOSECONDS GOOD'."""
-import collections
-import statistics
+"""Prints the tables of time.sh from its lines 'PROGRAM.PLACE NAME THREADS CALLS NANOSECONDS GOOD'."""
+import os
 import sys
 
-# What a row times: its title, the record's calls, and the cell's.
-ALONE = [
-    ("get_into, 2 words", "into2", "load2"),
-    ("get_once, 2 words", "get2", "load2"),
-    ("  handed on", "hand2", "load2"),
-    ("put_once, 2 words", "put2", "store2"),
-    ("get_into, 16 words", "into16", "load16"),
-    ("get_once, 16 words", "get16", "load16"),
-    ("  handed on", "hand16", "load16"),
-    ("put_once, 16 words", "put16", "store16"),
-]
-# An update by a handle: the title of its row, and its name.
-UPDATES = [
-    ("update, 2 words", "update2"),
-    ("update, 16 words", "update16"),
-]
-# A get by a handle, and the title of its row.
-BY_HANDLE = [
-    ("2 words", "2"),
-    ("16 words", "16"),
-    ("2, handed on", "_hand2"),
-    ("16, handed on", "_hand16"),
+sys.path.append(os.path.join(os.path.dirname(os.path.abspath(__file__)), "..", "common"))
+from placements import Times, head, row
+
+# A call by one thread: the title of its row, its name, and its peer's.
+ALONE = [(f"{title}, {width} words", f"{ours}{width}", f"{peer}{width}") for title, ours, peer in (
+    ("get by a handle", "handle", "into"),
+    ("  handed on", "handle_hand", "into"),
+    ("get_into", "into", "into"),
+    ("get_once", "get", "into"),
+    ("  handed on", "hand", "into"),
+    ("put_once", "put", "put"),
+    ("update by a handle", "update", "update"),
+) for width in (2, 16)]
+# The kit's cell of the same words.
+CELL = [(f"{title}, {width} words", f"{name}{width}") for title, name in (("SeqCell: load", "load"), ("  store", "store"))
+        for width in (2, 16)]
+# Several threads.
+SEVERAL = [
+    ("gets by handles", "handle_readers", "readers"),
+    ("get_into", "readers", "readers"),
+    ("get_into beside a writer", "beside", "beside"),
+    ("updates by handles", "updaters", "updaters"),
 ]
 
 
-def rounds():
-    """The nanoseconds a call that succeeded, of all threads together, a round."""
-    times, left_out = collections.defaultdict(list), []
+def read():
+    times, left_out = Times(), 0
     for line in open(sys.argv[1]):
         program, name, threads, calls, nanoseconds, good = line.split()
         made = int(calls) * int(threads)
         if name == "beside" and int(good) < made * 0.9:
             # The system stopped the writer in the middle of a put.
-            left_out.append(program)
+            left_out += 1
             continue
         if int(good) < made * 0.9:
             sys.exit(f"too few calls succeeded: {line}")
         if name.startswith("update") and int(good) != made:
             sys.exit(f"an update was lost: {line}")
-        times[program, name, int(threads)].append(int(nanoseconds) / int(good))
+        times.add(program, name, int(threads), int(nanoseconds) / int(good))
     return times, left_out
 
 
 def main():
-    times, left_out = rounds()
-
-    def median(program, name, threads=1):
-        return statistics.median(times[program, name, threads])
-
-    print(f"{'ns a call':20}{'record':>9}{'C':>9}{'JDK':>9}{'SeqCell':>9}"
-          f"{'of C':>8}{'JDK/ours':>10}")
-    for title, ours, cell in ALONE:
-        peer = ours.replace("get", "into").replace("hand", "into")
-        time, c = median("timings", ours), median("record_c", peer)
-        jdk, cells = median("StampedLock", peer), median("timings", cell)
-        print(f"{title:20}{time:9.2f}{c:9.2f}{jdk:9.2f}{cells:9.2f}{time / c:8.2f}"
-              f"{jdk / time:10.2f}")
+    times, left_out = read()
+    print(head("ns a call"))
+    for title, name, peer in ALONE:
+        print(row(times, title, ("timings", name), ("record_c", peer), ("StampedLock", peer)))
     print()
-    by_handle(median)
+    for title, name in CELL:
+        print(f"{title:28}{times.least('timings', name):9.2f}{'':17}{times.middle('timings', name):11.2f}")
     print()
-    print(f"{'million gets a s':20}{'record':>9}{'C':>9}{'JDK':>9}{'growth':>9}{'of C':>9}")
-    for name in ("readers", "beside"):
+    print(head("ns a call, of all threads"))
+    for title, name, peer in SEVERAL:
         for threads in range(1, 5):
-            rates = [1000 / median(program, name, threads)
-                     for program in ("timings", "record_c", "StampedLock")]
-            growths = [median(program, name, 1) / median(program, name, threads)
-                       for program in ("timings", "record_c")]
-            print(f"{name + ' ' + str(threads):20}" + "".join(f"{rate:9.0f}" for rate in rates)
-                  + f"{growths[0]:9.2f}{growths[1]:9.2f}")
-    print()
-    updates(median)
+            print(row(times, f"{title}, {threads}", ("timings", name, threads), ("record_c", peer, threads),
+                      ("StampedLock", peer, threads)))
     if left_out:
-        print(f"\nrounds left out, since the writer was stopped in a put: {len(left_out)}")
-
-
-def by_handle(median):
-    """Gets by a handle, each beside its peers of the same turns."""
-    print(f"{'ns a get':20}{'handle':>9}{'get_once':>10}{'get_into':>10}{'C':>9}{'JDK':>9}"
-          f"{'of once':>9}{'of into':>9}{'of C':>8}")
-    for title, name in BY_HANDLE:
-        time = median("timings", "handle" + name)
-        once = median("timings", name[1:] if name[0] == "_" else "get" + name)
-        width = name.removeprefix("_hand")
-        into, c = median("timings", "into" + width), median("record_c", "into" + width)
-        jdk = median("StampedLock", "into" + width)
-        print(f"{title:20}{time:9.2f}{once:10.2f}{into:10.2f}{c:9.2f}{jdk:9.2f}"
-              f"{time / once:9.2f}{time / into:9.2f}{time / c:8.2f}")
-
-
-def updates(median):
-    """Updates by a handle, each beside its peers: by one thread, and by several of one record."""
-    programs = ("timings", "record_c", "StampedLock")
-    print(f"{'ns an update':20}{'handle':>9}{'C':>9}{'JDK':>9}{'of C':>8}{'JDK/ours':>10}")
-    for title, name in UPDATES:
-        time, c, jdk = (median(program, name) for program in programs)
-        print(f"{title:20}{time:9.2f}{c:9.2f}{jdk:9.2f}{time / c:8.2f}{jdk / time:10.2f}")
-    print()
-    print(f"{'million updates a s':20}{'handle':>9}{'C':>9}{'JDK':>9}{'of C':>8}{'of JDK':>8}")
-    for threads in range(1, 5):
-        rates = [1000 / median(program, "updaters", threads) for program in programs]
-        print(f"{f'updaters {threads}':20}" + "".join(f"{rate:9.1f}" for rate in rates)
-              + f"{rates[0] / rates[1]:8.2f}{rates[0] / rates[2]:8.2f}")
+        print(f"\nrounds left out, since the writer was stopped in a put: {left_out}")
 
 
 main()

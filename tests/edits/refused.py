@@ -164,11 +164,12 @@ class Crate:
 
 
 class Edit:
-    """A wrong body: the places that it changes, and the functions that it is refused by, by the ends of their paths."""
+    """A wrong body: the places that it changes, and the functions that it is refused by, by the ends of their paths. Its
+    name is its path below the crate's folder."""
 
-    def __init__(self, crate, path):
-        self.name, self.pairs, by, old, file, text = os.path.basename(path), [], set(), None, None, None
-        for key, value in self.lines(path):
+    def __init__(self, crate, name):
+        self.name, self.pairs, by, old, file, text = name, [], set(), None, None, None
+        for key, value in self.lines(f"{FOLDER}/{crate.name}/{name}"):
             if (key == "new") != (old is not None):
                 raise Failed(f"{self.name}: an old text and a new one stand in pairs")
             if key == "file":
@@ -226,7 +227,7 @@ def function_at(file, before):
     name = found[-1][2]
     if found[-1][1] and impl:
         parameters, trait, of_trait, of = impl[-1].groups(default="")
-        return f"{type_name(of, parameters)}{trait.split('::')[-1]}{of_trait}::{name}"
+        return f"{in_part(of, before) or type_name(of, parameters)}{trait.split('::')[-1]}{of_trait}::{name}"
     return name if module in ("lib", "main") else f"{module}::{name}"
 
 
@@ -250,6 +251,16 @@ def type_name(of, parameters):
     words = re.findall(r"\(\)|'\w+|\w+", of)
     kept = [word for word in words if word[0] != "'" and word not in dropped]
     return "".join("Unit" if word == "()" else word[0].upper() + word[1:] for word in kept)
+
+
+def in_part(of, before):
+    """A type of which the impl gives some arguments and leaves others to their defaults, as the prover prints it;
+    nothing for any other."""
+    name, _, given = of.removesuffix(">").partition("<")
+    declared = re.search(rf"^pub struct {name}<((?:[^<>{{]|<[^<>]*>)*)>", before, re.M)
+    outside = lambda text: re.sub(r"<[^<>]*>", "", text).split(",")
+    is_part = given and declared and len(outside(given)) < len(outside(declared[1]))
+    return "+".join([name, *re.findall(r"\w+", given)]) if is_part else ""
 
 
 def place_of(file, function):
@@ -427,9 +438,9 @@ def part_of(edits, part):
 
 
 def tried(crate, names, part):
-    """Tries a part of these edits of the crate, round by round, and gives the lines that tell of it."""
+    """Tries a part of these edits of the crate, round by round, and gives what came of each, by its name."""
     begun = time.monotonic()
-    edits = part_of([Edit(crate, f"{FOLDER}/{crate.name}/{name}") for name in names], part)
+    edits = part_of([Edit(crate, name) for name in names], part)
     lines, rounds = {}, 0
     with tempfile.TemporaryDirectory() as room:
         kept = f"{room}/kept"
@@ -457,17 +468,17 @@ def tried(crate, names, part):
             lines |= judged_alone(crate, edit, crate.tried(room, kept, [edit]))
     seconds = round(time.monotonic() - begun)
     print(f"{crate.name}: {len(lines)} edits tried, in {rounds} rounds and {seconds} seconds", flush=True)
-    return [f"{crate.name}/{name}: {what}" for name, what in lines.items()]
+    return [(f"{crate.name}/{name}", what) for name, what in lines.items()]
 
 
 def lines_of(crate, parts):
-    """The lines of all parts of a crate's edits. What is wrong with an edit is told by each part, and said once."""
+    """What came of the edits of all parts. What is wrong with an edit is told by each part, and said once."""
     lines = set()
     for part in parts:
         try:
             lines |= {*part.result()}
         except Failed as fault:
-            lines.add(f"{crate.name}: FAILED: {fault}")
+            lines.add((crate.name, f"FAILED: {fault}"))
     return sorted(lines)
 
 
@@ -503,14 +514,14 @@ def try_all(crates, wanted):
         try:
             for name in wanted:
                 told = lines_of(crates[name], tries[name])
-                print("\n".join(told), flush=True)
+                print("\n".join(map(": ".join, told)), flush=True)
                 lines += told
         except Unusable as fault:
             pool.shutdown(cancel_futures=True)
             print(f"FAILED: the libraries can't be used: {fault}")
             return 0, 1
-    refused = [line for line in lines if ": refused" in line]
-    less = " and ".join(f"{sum(it in line for line in refused)}{it.removeprefix(',')}" for it in LESS[1:])
+    refused = [what for _, what in lines if what.startswith("refused")]
+    less = " and ".join(f"{sum(what.startswith(f'refused{it}:') for what in refused)}{it.removeprefix(',')}" for it in LESS[1:])
     print(f"{len(refused)} wrong bodies refused, of them {less}; {len(lines) - len(refused)} failed")
     return len(refused), len(lines) - len(refused)
 

@@ -4,6 +4,7 @@ ghost use Rattle.stamp_core.specs.Limits.{AreInRange, bounds, widest};
 ghost use Rattle.stamp_core.specs.Word.{IsAdmitted, word_at};
 ghost use Rattle.stamp_core.specs.Decoded.{counts_in, IsWithinLimits};
 
+use crate::known_layout::KnownLayout;
 use crate::layout::Layout;
 use crate::word::Word;
 use std::error::Error;
@@ -89,6 +90,19 @@ impl Limits {
             layout,
             readers: layout.most_readers(),
             versions: layout.most_versions(),
+        }
+    }
+
+    /// The limits themselves. Where `L` fixes the layout, the compiler sees it.
+    #[inline(always)]
+    pub fn seen<L: KnownLayout>(self) -> Limits
+        requires { L.seen self.layout ≡ self.layout }
+        ensures { result ≡ self }
+    {
+        Limits {
+            layout: L::layout(self),
+            readers: self.readers,
+            versions: self.versions,
         }
     }
 

@@ -27,6 +27,13 @@ impl Patience {
         Patience { rounds: 0 }
     }
 
+    /// A patience that has tried once, and paused.
+    pub fn paused() -> Patience {
+        let mut patience = Patience::new();
+        patience.pause();
+        patience
+    }
+
     /// Spins, each time twice as long as before, and after eight rounds lets other threads run. After a
     /// lost exchange that is all: others come on, so the call can be tried again soon.
     pub fn pause(&mut self) {

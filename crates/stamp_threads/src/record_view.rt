@@ -1,7 +1,9 @@
 //! What a pass of a record knows. But for the shape, no value of these types is made: they stand in
 //! contracts and proofs alone.
+ghost use Rattle.std.specs.Prelude.{◌≡◌};
+
 use crate::pass_view::PassView;
-use stamp_core::{Call, Limits, Reply};
+use stamp_core::{Call, KnownLayout, Limits, Reply};
 use std::collections::LinkedList;
 use std::snapshot::Snapshot;
 
@@ -14,6 +16,20 @@ pub struct RecordShape {
     pub limits: Limits,
     /// How many words there are, 1 to 4,096.
     pub width: usize,
+}
+
+impl RecordShape {
+    /// The shape itself. Where `L` fixes the layout, the compiler sees it.
+    #[inline(always)]
+    pub(crate) fn seen<L: KnownLayout>(self) -> RecordShape
+        requires { L.seen self.limits.layout ≡ self.limits.layout }
+        ensures { result ≡ self }
+    {
+        RecordShape {
+            limits: self.limits.seen::<L>(),
+            width: self.width,
+        }
+    }
 }
 
 /// What the rule of a record reads: its shape, the content that its first pass put, if it did, and

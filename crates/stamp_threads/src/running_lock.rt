@@ -4,24 +4,28 @@ ghost use Rattle.stamp_core.specs.Call.{is_lock_call};
 ghost use Rattle.stamp_core.specs.Word.{IsAdmitted, word_at};
 ghost use Rattle.stamp_core.specs.Decision.{Decides};
 ghost use Rattle.stamp_core.specs.CountedDecision.{decision};
-ghost use Rattle.stamp_core.specs.LockDecision.{decision_as};
+ghost use Rattle.stamp_core.specs.LockDecision.{decision_as, reply_as};
 ghost use Rattle.stamp_machines.specs.declared.machine.Turn.TheVariants as Turn;
 ghost use Rattle.stamp_threads.specs.PassView.{after_split, split_off};
 ghost use Rattle.stamp_threads.specs.LockPass.{HasEntered, IsConsistentWith, IsNew};
+ghost use Rattle.stamp_threads.specs.LockPass.{LockPassView, IsAtSeat, first_of};
 ghost use Rattle.stamp_threads.specs.Made.{Made, MayWait, AccessesOnceOrTwice, try_form};
 ghost use Rattle.stamp_threads.specs.MayReply.{MayReply};
 ghost use Rattle.stamp_threads.specs.LostExchange.{LostExchange};
-ghost use Rattle.stamp_threads.specs.GoesAsMachine.{GoesAsMachine, turn_once};
+ghost use Rattle.stamp_threads.specs.GoesAsMachine.{GoesAsMachine, IsToDecide, turn_once};
 ghost use Rattle.stamp_threads.specs.LockPassesMet.{LockPassesMet};
 ghost use Rattle.stamp_threads.specs.Closes.{Closes};
 
 use crate::lock_rule::{LockKey, LockPasses, LockRule};
-use crate::lock_steps::{self, exchange, load};
+use crate::lock_steps::{self, LockSeat, exchange, load};
 use crate::lost::Lost;
 use crate::pass::Pass;
 use crate::patience::Patience;
 use atomic_table::Table;
-use stamp_core::{Call, Layout, Limits, LockDecision, Reply, Word, decide_lock};
+use stamp_core::{
+    Call, EitherLayout, KnownLayout, Layout, Limits, LockDecision, LockReply, Reply, Word,
+    decide_lock,
+};
 use std::alloc::Global;
 use std::error::Error;
 use std::fmt;
@@ -56,6 +60,34 @@ fn try_form(call: &Call) -> Call
         Call::WriteLock => Call::TryWrite,
         Call::ReadLock => Call::TryRead,
         other => *other,
+    }
+}
+
+/// The same lock call, made anew from its stamp: so a call that is made at once is never put into memory.
+#[inline(always)]
+fn anew(call: &Call) -> Call
+    requires { IsTrue (is_lock_call call.now) }
+    ensures { result ≡ call.now }
+{
+    match call {
+        Call::TryWrite => Call::TryWrite,
+        Call::TryRead => Call::TryRead,
+        Call::WriteLock => Call::WriteLock,
+        Call::ReadLock => Call::ReadLock,
+        Call::Optimistic => Call::Optimistic,
+        Call::Validate(stamp) => Call::Validate(*stamp),
+        Call::UnlockWrite(stamp) => Call::UnlockWrite(*stamp),
+        Call::UnlockRead(stamp) => Call::UnlockRead(*stamp),
+        Call::Unlock(stamp) => Call::Unlock(*stamp),
+        Call::ToWrite(stamp) => Call::ToWrite(*stamp),
+        Call::ToRead(stamp) => Call::ToRead(*stamp),
+        Call::ToOptimistic(stamp) => Call::ToOptimistic(*stamp),
+        Call::TryUnlockWrite => Call::TryUnlockWrite,
+        Call::TryUnlockRead => Call::TryUnlockRead,
+        Call::IsWriteLocked => Call::IsWriteLocked,
+        Call::IsReadLocked => Call::IsReadLocked,
+        Call::ReadCount => Call::ReadCount,
+        _ => unreachable!(),
     }
 }
 
@@ -123,18 +155,21 @@ impl RunningLock {
 
     /// Decides the call on this word.
     #[inline(always)]
-    fn decide(&self, call: &Call, word: u64) -> LockDecision
+    fn decide<L: KnownLayout>(&self, call: &Call, word: u64) -> LockDecision
+        requires layout { L.seen self.now.limits.layout ≡ self.now.limits.layout }
         requires lock_call { IsTrue (is_lock_call call.now) }
         requires admitted { IsAdmitted self.now.limits (word_at self.now.limits word) }
         ensures decides { let limits = self.now.limits in
             Decides limits (word_at limits word) call.now (decision_as result) }
         ensures number { decision_as result ≡ decision self.now.limits word call.now }
     {
-        let word = self.limits.word(word);
-        // In each of the equal arms the compiler knows the layout, so that its masks are constants.
-        match self.limits.layout() {
-            Layout::One => decide_lock(self.limits, word, call),
-            Layout::Two => decide_lock(self.limits, word, call),
+        let limits = self.limits.seen::<L>();
+        let word = limits.word(word);
+        // In each of the equal arms the compiler knows the layout, so that its masks are constants. Where
+        // `L` fixes it, there is but one arm.
+        match limits.layout() {
+            Layout::One => decide_lock(limits, word, call),
+            Layout::Two => decide_lock(limits, word, call),
         }
     }
 
@@ -156,18 +191,38 @@ impl RunningLock {
         ensures machine { GoesAsMachine self.now.limits (try_form call) pass.old.view pass.new.view
             (turn_once self.now.limits (try_form call) result) }
     {
+        self.once_in::<EitherLayout>(pass, call)
+    }
+
+    /// `once`, of a lock whose layout the caller knows: `L` says it.
+    #[inline(always)]
+    pub fn once_in<L: KnownLayout>(&self, pass: &mut Pass, call: Call) -> Result<Reply, Lost>
+        requires layout { L.seen self.now.limits.layout ≡ self.now.limits.layout }
+        requires lock_call { IsTrue (is_lock_call call) }
+        requires table { pass.old.table ≡ self.now.table }
+        ensures table { pass.new.table ≡ self.now.table }
+        ensures ok { let v = pass.old.view in let w = pass.new.view in
+            IfOk result (λ r. Made self.now.limits (try_form call) r v w) }
+        ensures reply { IfOk result (λ r. MayReply (try_form call) r) }
+        ensures accesses { OnOk result (AccessesOnceOrTwice self.now.limits pass.old.view pass.new.view) }
+        ensures lost { let v = pass.old.view in let w = pass.new.view in
+            IfErr result (λ l.
+            LostExchange self.now.limits (try_form call) l.loaded l.found v w) }
+        ensures machine { GoesAsMachine self.now.limits (try_form call) pass.old.view pass.new.view
+            (turn_once self.now.limits (try_form call) result) }
+    {
         let call = try_form(&call);
         let table = &self.table.shared;
         // `Brand` stands for what a step's contract speaks of: these limits and this call.
         let loaded = load::<Brand>(table, &mut pass.seat, &call);
-        match self.decide(&call, loaded) {
+        match self.decide::<L>(&call, loaded) {
             LockDecision::Answer(reply) => Ok(reply.as_reply()),
             LockDecision::Change(new, reply) => {
                 let found = exchange::<Brand>(table, &mut pass.seat, &call, loaded, new.bits());
                 if found == loaded {
                     return Ok(reply.as_reply());
                 }
-                match self.decide(&call, found) {
+                match self.decide::<L>(&call, found) {
                     LockDecision::Answer(answer) => Ok(answer.as_reply()),
                     LockDecision::Change(_, _) => Err(Lost { loaded, found }),
                     LockDecision::Wait => unreachable!(),
@@ -191,23 +246,108 @@ impl RunningLock {
         ensures machine { GoesAsMachine self.now.limits call pass.old.view pass.new.view
             (Turn.Done result) }
     {
+        self.call_in::<EitherLayout, R>(rt, pass, call)
+    }
+
+    /// `call`, of a lock whose layout the caller knows: `L` says it. The first try is built in.
+    #[inline(always)]
+    pub fn call_in<L: KnownLayout, R: Wait>(&self, rt: &R, pass: &mut Pass, call: Call) -> Reply
+        requires layout { L.seen self.now.limits.layout ≡ self.now.limits.layout }
+        requires lock_call { IsTrue (is_lock_call call) }
+        requires table { pass.old.table ≡ self.now.table }
+        ensures table { pass.new.table ≡ self.now.table }
+        ensures made { Made self.now.limits call result pass.old.view pass.new.view }
+        ensures reply { MayReply call result }
+        ensures machine { GoesAsMachine self.now.limits call pass.old.view pass.new.view
+            (Turn.Done result) }
+    {
         let table = &self.table.shared;
-        let mut patience = Patience::new();
-        let mut found = load::<Brand>(table, &mut pass.seat, &call);
+        let word = load::<Brand>(table, &mut pass.seat, &call);
+        match self.decide::<L>(&call, word) {
+            LockDecision::Answer(reply) => reply.as_reply(),
+            LockDecision::Change(new, reply) => {
+                let found = exchange::<Brand>(table, &mut pass.seat, &call, word, new.bits());
+                if found == word {
+                    return reply.as_reply();
+                }
+                let seat = &mut pass.seat;
+                let reply = self.go_on_anew(rt, seat, &call, found, Patience::paused());
+                reply.as_reply()
+            }
+            LockDecision::Wait => {
+                let seat = &mut pass.seat;
+                let reply = self.go_on_anew(rt, seat, &call, word, Patience::new());
+                reply.as_reply()
+            }
+        }
+    }
+
+    /// Goes on with the call, made anew. It is a function of its own, built in, so that the call is put into
+    /// memory only where it isn't made at once.
+    #[inline(always)]
+    fn go_on_anew<R: Wait>(
+        &self,
+        rt: &R,
+        seat: &mut LockSeat,
+        call: &Call,
+        word: u64,
+        patience: Patience,
+    ) -> LockReply
+        requires lock_call { IsTrue (is_lock_call call.now) }
+        requires seat { IsAtSeat self.now.table seat.old.table_id seat.old.me }
+        requires to_decide { (v : LockPassView)
+            × IsToDecide self.now.limits call.now v word (first_of seat.old.me.0) }
+        ensures seat { IsAtSeat self.now.table seat.new.table_id seat.new.me }
+        ensures made { (v : LockPassView)
+            → IsToDecide self.now.limits call.now v word (first_of seat.old.me.0)
+            → Made self.now.limits call.now (reply_as result) v (first_of seat.new.me.0) }
+        ensures reply { MayReply call.now (reply_as result) }
+        ensures machine { (v : LockPassView)
+            → IsToDecide self.now.limits call.now v word (first_of seat.old.me.0)
+            → GoesAsMachine self.now.limits call.now v (first_of seat.new.me.0) (Turn.Done (reply_as result)) }
+    {
+        let again = anew(call);
+        self.go_on(rt, seat, again, word, patience)
+    }
+
+    /// Goes on with a call that is to decide on this word.
+    #[inline(never)]
+    fn go_on<R: Wait>(
+        &self,
+        rt: &R,
+        seat: &mut LockSeat,
+        call: Call,
+        word: u64,
+        mut patience: Patience,
+    ) -> LockReply
+        requires lock_call { IsTrue (is_lock_call call) }
+        requires seat { IsAtSeat self.now.table seat.old.table_id seat.old.me }
+        requires to_decide { (v : LockPassView)
+            × IsToDecide self.now.limits call v word (first_of seat.old.me.0) }
+        ensures seat { IsAtSeat self.now.table seat.new.table_id seat.new.me }
+        ensures made { (v : LockPassView) → IsToDecide self.now.limits call v word (first_of seat.old.me.0)
+            → Made self.now.limits call (reply_as result) v (first_of seat.new.me.0) }
+        ensures reply { MayReply call (reply_as result) }
+        ensures machine { (v : LockPassView)
+            → IsToDecide self.now.limits call v word (first_of seat.old.me.0)
+            → GoesAsMachine self.now.limits call v (first_of seat.new.me.0) (Turn.Done (reply_as result)) }
+    {
+        let table = &self.table.shared;
+        let mut found = word;
         for _ in rt.forever() {
-            match self.decide(&call, found) {
-                LockDecision::Answer(reply) => return reply.as_reply(),
+            match self.decide::<EitherLayout>(&call, found) {
+                LockDecision::Answer(reply) => return reply,
                 LockDecision::Change(new, reply) => {
                     let old = found;
-                    found = exchange::<Brand>(table, &mut pass.seat, &call, old, new.bits());
+                    found = exchange::<Brand>(table, seat, &call, old, new.bits());
                     if found == old {
-                        return reply.as_reply();
+                        return reply;
                     }
                     patience.pause();
                 }
                 LockDecision::Wait => {
                     patience.wait(rt, table, found);
-                    found = load::<Brand>(table, &mut pass.seat, &call);
+                    found = load::<Brand>(table, seat, &call);
                 }
             }
         }

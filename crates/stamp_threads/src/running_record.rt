@@ -18,19 +18,21 @@ use crate::record_see::see_or_deny;
 use crate::record_word::opening_word;
 use crate::running_lock::LockError;
 use crate::wide_record::WideRecord;
-use stamp_core::{Limits, Words};
+use stamp_core::{EitherLayout, KnownLayout, Limits, Words};
 use std::alloc::Global;
 use std::marker::Model;
 
 /// A record of 1 to 16 words that threads share by reference, each with a pass of its own. The
 /// words stand under a lock word of their own, and a get that is Ok gives words that stood
 /// together.
+///
+/// `L` says what is known of its layout, as in `WideRecord`.
 #[derive(Drop)]
-pub struct RuledRecord<P: ContentRule> {
-    wide: WideRecord<P>,
+pub struct RuledRecord<P: ContentRule, L: KnownLayout = EitherLayout> {
+    wide: WideRecord<P, L>,
 }
 
-impl<P: ContentRule> Model for RuledRecord<P> {
+impl<P: ContentRule, L: KnownLayout> Model for RuledRecord<P, L> {
     ghost use Rattle.std.specs.Prelude.{◌≤◌};
     ghost use Rattle.stamp_threads.specs.RecordPass.{RecordView};
 
@@ -85,7 +87,22 @@ impl<P: ContentRule> RuledRecord<P> {
         requires { MayBegin P.holds limits first }
         ensures { IfOk result (λ r. IsNew limits (length first) true (Some first) r.0 r.1) }
     {
-        let (wide, pass) = WideRecord::holding_enterable(alloc, limits, first.as_slice())?;
+        Self::enterable_in(alloc, limits, first)
+    }
+}
+
+impl<P: ContentRule, L: KnownLayout> RuledRecord<P, L> {
+    /// As `holding_enterable`, of a layout that `L` stands for.
+    pub fn enterable_in(
+        alloc: Global,
+        limits: Limits,
+        first: Words,
+    ) -> Result<(RuledRecord<P, L>, RecordPass), LockError>
+        requires layout { L.seen limits.layout ≡ limits.layout }
+        requires begins { MayBegin P.holds limits first }
+        ensures { IfOk result (λ r. IsNew limits (length first) true (Some first) r.0 r.1) }
+    {
+        let (wide, pass) = WideRecord::enterable_in(alloc, limits, first.as_slice())?;
         Ok((RuledRecord { wide }, pass))
     }
 
@@ -235,7 +252,7 @@ impl<P: ContentRule> RuledRecord<P> {
         let mut row = [0u64; 16];
         let seen = see_or_deny(
             &self.wide.table.shared,
-            self.wide.shape,
+            self.wide.shape.seen::<L>(),
             &mut pass.seat,
             expected.as_slice(),
             words.as_slice(),

@@ -21,22 +21,26 @@ use crate::record_view::{RecordKey, RecordPasses, RecordShape};
 use crate::record_word::word_after_one_put;
 use crate::running_lock::LockError;
 use atomic_table::Table;
-use stamp_core::{Layout, Limits};
+use stamp_core::{EitherLayout, KnownLayout, Layout, Limits};
 use std::alloc::{AllocError, Global};
-use std::marker::{Brand, Model};
+use std::marker::{Brand, Model, PhantomData};
 use std::snapshot::Snapshot;
 
 /// A record of 1 to 4,096 words that threads share by reference, each with a pass of its own; its calls
 /// take slices. The words stand under a lock word of their own, and a get that is Ok gives words that
 /// stood together. The more words, the longer a call takes and the oftener it loses to a put: a record
 /// of few words is a `RuledRecord`. A history with more than 16 words has no text.
+///
+/// `L` says what is known of its layout: nothing, where it isn't written. A call on a record whose layout
+/// is known has no test of it.
 #[derive(Drop)]
-pub struct WideRecord<P: ContentRule> {
+pub struct WideRecord<P: ContentRule, L: KnownLayout = EitherLayout> {
     pub(crate) table: Table<(), RecordPasses, RecordKey, RecordRule<P>, Global>,
     pub(crate) shape: RecordShape,
+    known: PhantomData<L>,
 }
 
-impl<P: ContentRule> Model for WideRecord<P> {
+impl<P: ContentRule, L: KnownLayout> Model for WideRecord<P, L> {
     ghost use Rattle.std.specs.Prelude.{◌≡◌, ◌+◌, ◌≤◌};
     ghost use Rattle.stamp_threads.specs.RecordPass.{RecordView};
 
@@ -50,7 +54,8 @@ impl<P: ContentRule> Model for WideRecord<P> {
 
     ghost invariant = { λ r. (r.table.shared.key.shape ≡ r.shape)
         × (r.table.shared.table_id.words ≡ r.shape.width + 1)
-        × (1 ≤ r.shape.width) × (r.shape.width ≤ 4096) };
+        × (1 ≤ r.shape.width) × (r.shape.width ≤ 4096)
+        × (L.seen r.shape.limits.layout ≡ r.shape.limits.layout) };
 }
 
 fn key_of(
@@ -108,6 +113,22 @@ impl<P: ContentRule> WideRecord<P> {
         requires begins { MayBegin P.holds limits first.now }
         ensures { IfOk result (λ r. IsNew limits (length first.now) true (Some first.now) r.0 r.1) }
     {
+        Self::enterable_in(alloc, limits, first)
+    }
+}
+
+impl<P: ContentRule, L: KnownLayout> WideRecord<P, L> {
+    /// As `holding_enterable`, of a layout that `L` stands for.
+    pub fn enterable_in(
+        alloc: Global,
+        limits: Limits,
+        first: &[u64],
+    ) -> Result<(WideRecord<P, L>, RecordPass), LockError>
+        requires layout { L.seen limits.layout ≡ limits.layout }
+        requires width { (1 ≤ length first.now) × (length first.now ≤ 4096) }
+        requires begins { MayBegin P.holds limits first.now }
+        ensures { IfOk result (λ r. IsNew limits (length first.now) true (Some first.now) r.0 r.1) }
+    {
         Self::of_put(alloc, limits, first, true)
     }
 
@@ -117,7 +138,8 @@ impl<P: ContentRule> WideRecord<P> {
         limits: Limits,
         first: &[u64],
         enterable: bool,
-    ) -> Result<(WideRecord<P>, RecordPass), LockError>
+    ) -> Result<(WideRecord<P, L>, RecordPass), LockError>
+        requires layout { L.seen limits.layout ≡ limits.layout }
         requires width { (1 ≤ length first.now) × (length first.now ≤ 4096) }
         requires begins { MayBegin P.holds limits first.now }
         ensures { IfOk result (λ r. IsNew limits (length first.now) enterable (Some first.now) r.0 r.1) }
@@ -138,7 +160,8 @@ impl<P: ContentRule> WideRecord<P> {
         words: &[u64],
         first: Option<Snapshot<Vec<u64>>>,
         enterable: bool,
-    ) -> Result<(WideRecord<P>, RecordPass), LockError>
+    ) -> Result<(WideRecord<P, L>, RecordPass), LockError>
+        requires layout { L.seen limits.layout ≡ limits.layout }
         requires width { (2 ≤ length words.now) × (length words.now ≤ 4097) }
         requires kept { IsKept enterable P.holds
             (record { limits = limits; width = length words.now - 1 })
@@ -153,7 +176,12 @@ impl<P: ContentRule> WideRecord<P> {
                     limits,
                     width: words.len() - 1,
                 };
-                Ok((WideRecord { table, shape }, RecordPass { seat }))
+                let record = WideRecord {
+                    table,
+                    shape,
+                    known: PhantomData,
+                };
+                Ok((record, RecordPass { seat }))
             }
             Err(_) => Err(LockError::Unmade),
         }
@@ -183,7 +211,7 @@ impl<P: ContentRule> WideRecord<P> {
             IfErr result (λ fault. PutRefused self.now.shape v fault w) }
     {
         let table = &self.table.shared;
-        let layout = self.shape.limits.layout();
+        let layout = L::layout(self.shape.limits);
         // `Brand` stands for what a step's contract speaks of: this shape and these words.
         let loaded = load_for_put::<Brand, P>(table, &mut pass.seat);
         if layout.has_writer(loaded) {
@@ -218,7 +246,7 @@ impl<P: ContentRule> WideRecord<P> {
         ensures err { let v = pass.old.view in let w = pass.new.view in
             IfErr result (λ fault. GetRefused self.now.shape v fault w) }
     {
-        let shape = self.shape;
+        let shape = self.shape.seen::<L>();
         // In each of the equal arms the compiler knows the layout, so that its masks are constants.
         match shape.limits.layout() {
             Layout::One => get_words(&self.table.shared, shape, &mut pass.seat, into),
@@ -239,7 +267,8 @@ impl<P: ContentRule> WideRecord<P> {
         ensures err { let v = pass.old.view in let w = pass.new.view in
             IfErr result (λ fault. GetRefused self.now.shape v fault w) }
     {
-        see_words(&self.table.shared, self.shape, &mut pass.seat, into)
+        let shape = self.shape.seen::<L>();
+        see_words(&self.table.shared, shape, &mut pass.seat, into)
     }
 
     /// Puts the words over those of the history that the pass knows, if nothing was put since: that
@@ -265,7 +294,7 @@ impl<P: ContentRule> WideRecord<P> {
             IfErr result (λ fault. ReplaceRefused self.now.shape word v fault w) }
     {
         let table = &self.table.shared;
-        let layout = self.shape.limits.layout();
+        let layout = L::layout(self.shape.limits);
         if layout.writes_of(word) >= self.shape.limits.versions() {
             return Err(PutFault::Spent(word));
         }

@@ -39,7 +39,7 @@ unlock_write_wins limits s loaded found v w lost =
     sym (held_word limits s found v w.known lost.at_second lost.second_appends))
 
 pub never_loses : (limits : Bounds) (call : Call) (loaded found : ℕ) (v w : LockPassView) →
-    NeverLoses call → LostExchange limits (try_form call) loaded found v w → ⊥
+    NeverLoses call → LostExchange limits call loaded found v w → ⊥
 never_loses limits Optimistic loaded found v w is lost =
     asks_only limits lost.first Optimistic refl lost.first_appends
 never_loses limits (Validate s) loaded found v w is lost =

@@ -6,7 +6,7 @@ ghost use Rattle.stamp_threads.specs.RecordPass.{HasEntered};
 use crate::cell_handle::CellHandle;
 use crate::in_words::InWords;
 use crate::record::StampedRecord;
-use stamp_core::{Layout, Limits};
+use stamp_core::{KnownLayout, Layout, LayoutOne, Limits};
 use stamp_threads::{ContentRule, LockError};
 use std::alloc::Global;
 use std::marker::{Model, PhantomData};
@@ -25,12 +25,14 @@ impl<const N: usize, T: InWords<N>> ContentRule for WordsOf<N, T> {
 /// A value of a type of your own that threads share by reference, and that each reads and changes as a
 /// whole: a record of the `N` words (1 to 16) in which the type is written. Threads get, put and update
 /// values by their handles.
+///
+/// `L` says what is known of its layout, as in `StampedLock`.
 #[derive(Drop)]
-pub struct StampedCell<const N: usize, T: InWords<N>> {
-    record: StampedRecord<N, WordsOf<N, T>>,
+pub struct StampedCell<const N: usize, T: InWords<N>, L: KnownLayout = LayoutOne> {
+    record: StampedRecord<N, WordsOf<N, T>, L>,
 }
 
-impl<const N: usize, T: InWords<N>> Model for StampedCell<N, T> {
+impl<const N: usize, T: InWords<N>, L: KnownLayout> Model for StampedCell<N, T, L> {
     ghost use Rattle.stamp_threads.specs.RecordPass.{RecordView};
 
     ghost Value = { RecordView };
@@ -50,23 +52,42 @@ impl<const N: usize, T: InWords<N>> StampedCell<N, T> {
         Ok(StampedCell { record })
     }
 
-    /// A cell of these limits and this value. Of the limits the versions count, of which the first value
-    /// takes one; the readers don't matter. It refuses only for want of memory; nothing was made then.
+    /// A cell of these limits, which are of layout 1, and this value. Of the limits the versions count, of
+    /// which the first value takes one; the readers don't matter. It refuses only for want of memory;
+    /// nothing was made then.
     pub fn with_limits(
         alloc: Global,
         limits: Limits,
         first: T,
     ) -> Result<StampedCell<N, T>, LockError>
         requires width { (1 ≤ N) × (N ≤ 16) }
+        requires layout { limits.layout ≡ Layout.One }
         requires version { 1 ≤ limits.versions }
         ensures { IfOk result (λ c. c.shape ≡ record { limits = limits; width = N }) }
     {
         let record = StampedRecord::with_limits(alloc, limits, first.to_words())?;
         Ok(StampedCell { record })
     }
+}
+
+impl<const N: usize, T: InWords<N>, L: KnownLayout> StampedCell<N, T, L> {
+    /// As `with_limits`, of a layout that `L` stands for.
+    pub fn in_layout(
+        alloc: Global,
+        limits: Limits,
+        first: T,
+    ) -> Result<StampedCell<N, T, L>, LockError>
+        requires width { (1 ≤ N) × (N ≤ 16) }
+        requires layout { L.seen limits.layout ≡ limits.layout }
+        requires version { 1 ≤ limits.versions }
+        ensures { IfOk result (λ c. c.shape ≡ record { limits = limits; width = N }) }
+    {
+        let record = StampedRecord::in_layout(alloc, limits, first.to_words())?;
+        Ok(StampedCell { record })
+    }
 
     /// A handle, for one thread at a time. It has made no call. It takes one load and no memory.
-    pub fn enter(&self) -> CellHandle<'_, N, T>
+    pub fn enter(&self) -> CellHandle<'_, N, T, L>
         ensures running { result.running ≡ self.now }
         ensures entered { HasEntered self.now.shape result.pass }
     {

@@ -13,6 +13,7 @@ use crate::in_words::InWords;
 use crate::record_calls;
 use crate::spent::Spent;
 use crate::update_error::UpdateError;
+use stamp_core::{KnownLayout, LayoutOne};
 use stamp_threads::{RecordPass, RuledRecord};
 use std::marker::Model;
 use std::sync::Wait;
@@ -20,14 +21,14 @@ use std::sync::Wait;
 /// One thread's way to the cell. A handle can be moved to another thread, and can't be copied; `split`
 /// makes another one. It has no bytes but the cell's reference.
 #[derive(Drop)]
-pub struct CellHandle<'a, const N: usize, T: InWords<N>> {
-    running: &'a RuledRecord<WordsOf<N, T>>,
+pub struct CellHandle<'a, const N: usize, T: InWords<N>, L: KnownLayout = LayoutOne> {
+    running: &'a RuledRecord<WordsOf<N, T>, L>,
     pass: RecordPass,
     ghost table: { pass.table ≡ running.now.table },
     ghost width: { (running.now.shape.width ≡ N) × (1 ≤ N) × (N ≤ 16) },
 }
 
-impl<'a, const N: usize, T: InWords<N>> Model for CellHandle<'a, N, T> {
+impl<'a, const N: usize, T: InWords<N>, L: KnownLayout> Model for CellHandle<'a, N, T, L> {
     ghost use Rattle.std.specs.Prelude.{◌≡◌};
     ghost use Rattle.stamped_lock.specs.RecordCalls.{RecordHandleView};
 
@@ -36,12 +37,12 @@ impl<'a, const N: usize, T: InWords<N>> Model for CellHandle<'a, N, T> {
     ghost view = { λ h. record { running = h.running.now; pass = h.pass.view } };
 }
 
-impl<'a, const N: usize, T: InWords<N>> CellHandle<'a, N, T> {
+impl<'a, const N: usize, T: InWords<N>, L: KnownLayout> CellHandle<'a, N, T, L> {
     /// The handle of a cell's record and a pass of it.
     pub(crate) fn new(
-        running: &'a RuledRecord<WordsOf<N, T>>,
+        running: &'a RuledRecord<WordsOf<N, T>, L>,
         pass: RecordPass,
-    ) -> CellHandle<'a, N, T>
+    ) -> CellHandle<'a, N, T, L>
         requires table { pass.table ≡ running.now.table }
         requires width { HasWidth N running.now.shape }
         ensures running { result.running ≡ running.now }
@@ -118,7 +119,7 @@ impl<'a, const N: usize, T: InWords<N>> CellHandle<'a, N, T> {
     }
 
     /// One more handle of the same cell, which knows as much as this one and has made no call.
-    pub fn split(&mut self) -> CellHandle<'a, N, T>
+    pub fn split(&mut self) -> CellHandle<'a, N, T, L>
         ensures running { (self.new.running ≡ self.old.running)
             × (result.running ≡ self.old.running) }
         ensures given { self.new.pass ≡ after_split self.old.pass }

@@ -18,11 +18,12 @@ ghost use Rattle.stamped_lock.specs.Made.{Made, MadeOrLost};
 ghost use Rattle.stamped_lock.specs.Replies.{stamped, tested, released, NeverLoses};
 
 use crate::answers::{count_in, some_stamp_in, stamp_unless_zero, test_in, was_released};
+use crate::entered::Entered;
 use crate::mismatch::Mismatch;
 use crate::stamp::Stamp;
-use stamp_core::{Call, Reply, StampKind};
+use stamp_core::{Call, KnownLayout, LayoutOne, Reply, StampKind};
 use stamp_threads::{Lost, Pass, RunningLock};
-use std::marker::Model;
+use std::marker::{Model, PhantomData};
 use std::sync::Wait;
 
 /// One thread's way to the lock. A handle can be moved to another thread, and can't be copied;
@@ -30,53 +31,57 @@ use std::sync::Wait;
 ///
 /// It has no bytes but the lock's reference. What a thread acquires belongs to the stamp, and not to
 /// the handle: dropping a handle releases nothing.
+///
+/// `L` says what is known of the lock's layout, as in `StampedLock`.
 #[derive(Drop)]
-pub struct LockHandle<'a> {
-    running: &'a RunningLock,
-    pass: Pass,
-    ghost table: { pass.table ≡ running.now.table },
+pub struct LockHandle<'a, L: KnownLayout = LayoutOne> {
+    entered: Entered<'a>,
+    known: PhantomData<L>,
+    ghost layout: { L.seen entered.running.limits.layout ≡ entered.running.limits.layout },
 }
 
-impl<'a> Model for LockHandle<'a> {
+impl<'a, L: KnownLayout> Model for LockHandle<'a, L> {
     ghost use Rattle.std.specs.Prelude.{◌≡◌};
     ghost use Rattle.stamped_lock.specs.LockHandleView.{LockHandleView};
 
     ghost Value = { LockHandleView };
 
-    ghost view = { λ h. record { running = h.running.now; pass = h.pass.view } };
+    ghost view = { λ h. h.entered };
 }
 
-impl<'a> LockHandle<'a> {
+impl<'a, L: KnownLayout> LockHandle<'a, L> {
     /// The handle of a lock and a pass of it.
-    pub(crate) fn new(running: &'a RunningLock, pass: Pass) -> LockHandle<'a>
-        requires { pass.table ≡ running.now.table }
+    pub(crate) fn new(running: &'a RunningLock, pass: Pass) -> LockHandle<'a, L>
+        requires table { pass.table ≡ running.now.table }
+        requires layout { L.seen running.now.limits.layout ≡ running.now.limits.layout }
         ensures running { result.running ≡ running.now }
         ensures pass { result.pass ≡ pass.view }
     {
-        LockHandle { running, pass }
-    }
-
-    /// Makes a call that waits for nobody. `RunningLock::once` is tried first, since its code is inlined
-    /// and makes nearly all calls. Where it lost, `RunningLock::call` goes on: it tries again until an
-    /// exchange wins, or a word that was found answers the call.
-    #[inline(always)]
-    pub(crate) fn once_or_call<R: Wait>(&mut self, rt: &R, call: Call) -> Reply
-        requires lock_call { IsTrue (is_lock_call call) }
-        requires at_once { try_form call ≡ call }
-        ensures made { Made call result self.old self.new }
-        ensures reply { MayReply call result }
-    {
-        // A copy, since the borrow checker covers no struct that is passed by value and used again.
-        let again = call;
-        match self.by_once(call) {
-            Ok(reply) => reply,
-            Err(_) => self.by_call(rt, again),
+        LockHandle {
+            entered: Entered::new(running, pass),
+            known: PhantomData,
         }
     }
 
-    /// Makes the call by `RunningLock::once`; the calls that are tried once go by it too. This and `by_call`
-    /// are functions of their own, built in, for speed: so a call that `once_or_call` might need again is
-    /// put into memory only where it lost.
+    /// What it stands on.
+    #[inline(always)]
+    pub(crate) fn entered(&self) -> &Entered<'a>
+        ensures { result.now ≡ self.now }
+    {
+        &self.entered
+    }
+
+    /// Makes the call: it waits where the call does, and tries again where its exchange lost.
+    #[inline(always)]
+    pub(crate) fn call<R: Wait>(&mut self, rt: &R, call: Call) -> Reply
+        requires { IsTrue (is_lock_call call) }
+        ensures made { Made call result self.old self.new }
+        ensures reply { MayReply call result }
+    {
+        self.entered.call::<L, R>(rt, call)
+    }
+
+    /// Makes a call that waits for nobody, and isn't tried again.
     #[inline(always)]
     pub(crate) fn by_once(&mut self, call: Call) -> Result<Reply, Lost>
         requires lock_call { IsTrue (is_lock_call call) }
@@ -84,27 +89,17 @@ impl<'a> LockHandle<'a> {
         ensures made { MadeOrLost call (λ r. r) result self.old self.new }
         ensures reply { IfOk result (λ r. MayReply call r) }
     {
-        self.running.once(&mut self.pass, call)
+        self.entered.once::<L>(call)
     }
 
-    /// Makes the call by `RunningLock::call`.
-    #[inline(always)]
-    fn by_call<R: Wait>(&mut self, rt: &R, call: Call) -> Reply
-        requires { IsTrue (is_lock_call call) }
-        ensures made { Made call result self.old self.new }
-        ensures reply { MayReply call result }
-    {
-        self.running.call(rt, &mut self.pass, call)
-    }
-
-    /// Makes a call that can't lose, by `RunningLock::once`: by one load and at most one exchange.
+    /// Makes a call that can't lose, by one load and at most one exchange.
     #[inline(always)]
     fn once_surely(&mut self, call: Call) -> Reply
         requires { NeverLoses call }
         ensures made { Made call result self.old self.new }
         ensures reply { MayReply call result }
     {
-        match self.running.once(&mut self.pass, call) {
+        match self.entered.once::<L>(call) {
             Ok(reply) => reply,
             Err(_) => unreachable!(),
         }
@@ -112,33 +107,37 @@ impl<'a> LockHandle<'a> {
 
     /// Acquires write mode (`writeLock`). It waits while anybody holds the lock. None where no version
     /// is left: a lock of `StampedLock::new` has 2^55-2 of them.
+    #[inline(always)]
     pub fn write<R: Wait>(&mut self, rt: &R) -> Option<Stamp>
         ensures { Made WriteLock (stamped result) self.old self.new }
     {
-        stamp_unless_zero(self.running.call(rt, &mut self.pass, Call::WriteLock))
+        stamp_unless_zero(self.call(rt, Call::WriteLock))
     }
 
     /// Acquires write mode if nobody holds the lock (`tryWriteLock`). None where somebody does, or no
     /// version is left. It waits for no holder.
+    #[inline(always)]
     pub fn try_write<R: Wait>(&mut self, rt: &R) -> Option<Stamp>
         ensures { Made TryWrite (stamped result) self.old self.new }
     {
-        stamp_unless_zero(self.once_or_call(rt, Call::TryWrite))
+        stamp_unless_zero(self.call(rt, Call::TryWrite))
     }
 
     /// Acquires read mode (`readLock`). It waits while there is a writer, or no room for a reader.
+    #[inline(always)]
     pub fn read<R: Wait>(&mut self, rt: &R) -> Stamp
         ensures { Made ReadLock (stamped (Some result)) self.old self.new }
     {
-        some_stamp_in(self.running.call(rt, &mut self.pass, Call::ReadLock))
+        some_stamp_in(self.call(rt, Call::ReadLock))
     }
 
     /// Acquires read mode if there is no writer, and room for a reader (`tryReadLock`). It waits for no
     /// holder.
+    #[inline(always)]
     pub fn try_read<R: Wait>(&mut self, rt: &R) -> Option<Stamp>
         ensures { Made TryRead (stamped result) self.old self.new }
     {
-        stamp_unless_zero(self.once_or_call(rt, Call::TryRead))
+        stamp_unless_zero(self.call(rt, Call::TryRead))
     }
 
     /// A stamp to be validated later (`tryOptimisticRead`). None while there is a writer. It holds
@@ -171,18 +170,20 @@ impl<'a> LockHandle<'a> {
 
     /// Releases one hold of read mode (`unlockRead`). `Mismatch` where the stamp doesn't match one:
     /// the lock is as it was.
+    #[inline(always)]
     pub fn unlock_read<R: Wait>(&mut self, rt: &R, stamp: Stamp) -> Result<(), Mismatch>
         ensures { Made (UnlockRead stamp) (released result) self.old self.new }
     {
-        was_released(self.once_or_call(rt, Call::UnlockRead(stamp.number())))
+        was_released(self.call(rt, Call::UnlockRead(stamp.number())))
     }
 
     /// Releases the mode that the stamp matches (`unlock`). `Mismatch` where it matches none that
     /// is held: the lock is as it was.
+    #[inline(always)]
     pub fn unlock<R: Wait>(&mut self, rt: &R, stamp: Stamp) -> Result<(), Mismatch>
         ensures { Made (Unlock stamp) (released result) self.old self.new }
     {
-        was_released(self.once_or_call(rt, Call::Unlock(stamp.number())))
+        was_released(self.call(rt, Call::Unlock(stamp.number())))
     }
 
     /// Converts a stamp to write mode (`tryConvertToWriteLock`): from write mode with the same stamp, from
@@ -192,7 +193,7 @@ impl<'a> LockHandle<'a> {
     pub fn try_convert_to_write<R: Wait>(&mut self, rt: &R, stamp: Stamp) -> Option<Stamp>
         ensures { Made (ToWrite stamp) (stamped result) self.old self.new }
     {
-        stamp_unless_zero(self.once_or_call(rt, Call::ToWrite(stamp.number())))
+        stamp_unless_zero(self.call(rt, Call::ToWrite(stamp.number())))
     }
 
     /// Converts a stamp to read mode (`tryConvertToReadLock`): from write mode, from read mode with the
@@ -202,7 +203,7 @@ impl<'a> LockHandle<'a> {
     pub fn try_convert_to_read<R: Wait>(&mut self, rt: &R, stamp: Stamp) -> Option<Stamp>
         ensures { Made (ToRead stamp) (stamped result) self.old self.new }
     {
-        stamp_unless_zero(self.once_or_call(rt, Call::ToRead(stamp.number())))
+        stamp_unless_zero(self.call(rt, Call::ToRead(stamp.number())))
     }
 
     /// Converts a stamp to an optimistic one (`tryConvertToOptimisticRead`): it releases the mode that the
@@ -211,7 +212,7 @@ impl<'a> LockHandle<'a> {
     pub fn try_convert_to_optimistic<R: Wait>(&mut self, rt: &R, stamp: Stamp) -> Option<Stamp>
         ensures { Made (ToOptimistic stamp) (stamped result) self.old self.new }
     {
-        stamp_unless_zero(self.once_or_call(rt, Call::ToOptimistic(stamp.number())))
+        stamp_unless_zero(self.call(rt, Call::ToOptimistic(stamp.number())))
     }
 
     /// Releases write mode without a stamp, if it is held (`tryUnlockWrite`). False where it isn't. It
@@ -219,7 +220,7 @@ impl<'a> LockHandle<'a> {
     pub fn try_unlock_write<R: Wait>(&mut self, rt: &R) -> bool
         ensures { Made TryUnlockWrite (tested result) self.old self.new }
     {
-        test_in(self.once_or_call(rt, Call::TryUnlockWrite))
+        test_in(self.call(rt, Call::TryUnlockWrite))
     }
 
     /// Releases one hold of read mode without a stamp, if there is one (`tryUnlockRead`). False where
@@ -227,7 +228,7 @@ impl<'a> LockHandle<'a> {
     pub fn try_unlock_read<R: Wait>(&mut self, rt: &R) -> bool
         ensures { Made TryUnlockRead (tested result) self.old self.new }
     {
-        test_in(self.once_or_call(rt, Call::TryUnlockRead))
+        test_in(self.call(rt, Call::TryUnlockRead))
     }
 
     /// Whether write mode is held (`isWriteLocked`). One load.
@@ -260,20 +261,19 @@ impl<'a> LockHandle<'a> {
     pub fn kind(&self, stamp: Stamp) -> StampKind
         ensures { HasKind (units_of self.now.running.limits.layout) stamp result }
     {
-        stamp.kind_in(self.running.limits().layout())
+        stamp.kind_in(self.entered.limits().layout())
     }
 
     /// One more handle of the same lock, which knows as much as this one and has made no call.
-    pub fn split(&mut self) -> LockHandle<'a>
+    pub fn split(&mut self) -> LockHandle<'a, L>
         ensures running { (self.new.running ≡ self.old.running)
             × (result.running ≡ self.old.running) }
         ensures given { self.new.pass ≡ after_split self.old.pass }
         ensures new { result.pass ≡ split_off self.old.pass }
     {
-        let pass = self.running.split_off(&mut self.pass);
         LockHandle {
-            running: self.running,
-            pass,
+            entered: self.entered.split(),
+            known: PhantomData,
         }
     }
 }

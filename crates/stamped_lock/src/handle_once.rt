@@ -11,10 +11,10 @@ use crate::answers::{stamp_unless_zero, test_in, was_released};
 use crate::handle::LockHandle;
 use crate::stamp::Stamp;
 use crate::unlock_error::UnlockError;
-use stamp_core::Call;
+use stamp_core::{Call, KnownLayout};
 use stamp_threads::Lost;
 
-impl<'a> LockHandle<'a> {
+impl<'a, L: KnownLayout> LockHandle<'a, L> {
     /// `try_write`, tried once. Where it fails as `Lost`, nothing was acquired.
     #[inline(always)]
     pub fn try_write_once(&mut self) -> Result<Option<Stamp>, Lost>

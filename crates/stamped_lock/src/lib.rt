@@ -26,6 +26,7 @@
 mod answers;
 mod cell;
 mod cell_handle;
+mod entered;
 mod handle;
 mod handle_once;
 mod in_words;
@@ -47,6 +48,7 @@ mod write_if;
 
 pub use cell::{StampedCell, WordsOf};
 pub use cell_handle::CellHandle;
+pub use entered::Entered;
 pub use handle::LockHandle;
 pub use in_words::{InWord, InWords};
 pub use lock::StampedLock;
@@ -55,7 +57,7 @@ pub use record::StampedRecord;
 pub use record_handle::RecordHandle;
 pub use spent::Spent;
 pub use stamp::Stamp;
-pub use stamp_core::{Layout, Limits, StampKind};
+pub use stamp_core::{EitherLayout, KnownLayout, Layout, LayoutOne, LayoutTwo, Limits, StampKind};
 pub use stamp_threads::{AnyContent, ContentRule, GetFault, LockError, Lost, PutFault};
 pub use unlock_error::UnlockError;
 pub use update_error::UpdateError;

@@ -5,7 +5,7 @@ ghost use Rattle.stamp_threads.specs.RecordPass.{HasEntered};
 ghost use Rattle.stamped_lock.specs.RecordCalls.{HasWidth};
 
 use crate::record_handle::RecordHandle;
-use stamp_core::{Layout, Limits, Words};
+use stamp_core::{KnownLayout, Layout, LayoutOne, Limits, Words};
 use stamp_threads::{ContentRule, LockError, RuledRecord};
 use std::alloc::Global;
 use std::marker::Model;
@@ -13,12 +13,14 @@ use std::marker::Model;
 /// `N` words (1 to 16) that threads share by reference, and that keep to a rule whenever they are read:
 /// each content that is put has to keep to it. `AnyContent` asks nothing. Threads put and get by their
 /// handles.
+///
+/// `L` says what is known of its layout, as in `StampedLock`.
 #[derive(Drop)]
-pub struct StampedRecord<const N: usize, P: ContentRule> {
-    running: RuledRecord<P>,
+pub struct StampedRecord<const N: usize, P: ContentRule, L: KnownLayout = LayoutOne> {
+    running: RuledRecord<P, L>,
 }
 
-impl<const N: usize, P: ContentRule> Model for StampedRecord<N, P> {
+impl<const N: usize, P: ContentRule, L: KnownLayout> Model for StampedRecord<N, P, L> {
     ghost use Rattle.std.specs.Prelude.{◌≡◌, ◌≤◌, true};
     ghost use Rattle.stamp_threads.specs.RecordPass.{RecordView};
 
@@ -43,14 +45,33 @@ impl<const N: usize, P: ContentRule> StampedRecord<N, P> {
         StampedRecord::with_limits(alloc, Limits::widest(Layout::One), first)
     }
 
-    /// A record of these limits and words. Of the limits the versions count, of which the first content
-    /// takes one; the readers don't matter. It refuses only for want of memory; nothing was made then.
+    /// A record of these limits, which are of layout 1, and words. Of the limits the versions count, of
+    /// which the first content takes one; the readers don't matter. It refuses only for want of memory;
+    /// nothing was made then.
     pub fn with_limits(
         alloc: Global,
         limits: Limits,
         first: [u64; N],
     ) -> Result<StampedRecord<N, P>, LockError>
         requires width { (1 ≤ N) × (N ≤ 16) }
+        requires layout { limits.layout ≡ Layout.One }
+        requires version { 1 ≤ limits.versions }
+        requires rule { P.holds first }
+        ensures { IfOk result (λ r. r.shape ≡ record { limits = limits; width = N }) }
+    {
+        StampedRecord::in_layout(alloc, limits, first)
+    }
+}
+
+impl<const N: usize, P: ContentRule, L: KnownLayout> StampedRecord<N, P, L> {
+    /// As `with_limits`, of a layout that `L` stands for.
+    pub fn in_layout(
+        alloc: Global,
+        limits: Limits,
+        first: [u64; N],
+    ) -> Result<StampedRecord<N, P, L>, LockError>
+        requires width { (1 ≤ N) × (N ≤ 16) }
+        requires layout { L.seen limits.layout ≡ limits.layout }
         requires version { 1 ≤ limits.versions }
         requires rule { P.holds first }
         ensures { IfOk result (λ r. r.shape ≡ record { limits = limits; width = N }) }
@@ -58,13 +79,13 @@ impl<const N: usize, P: ContentRule> StampedRecord<N, P> {
         let Some(words) = Words::new(&first) else {
             unreachable!()
         };
-        let (running, pass) = RuledRecord::holding_enterable(alloc, limits, words)?;
+        let (running, pass) = RuledRecord::enterable_in(alloc, limits, words)?;
         drop(pass);
         Ok(StampedRecord { running })
     }
 
     /// A handle, for one thread at a time. It has made no call. It takes one load and no memory.
-    pub fn enter(&self) -> RecordHandle<'_, N, P>
+    pub fn enter(&self) -> RecordHandle<'_, N, P, L>
         ensures running { result.running ≡ self.now }
         ensures entered { HasEntered self.now.shape result.pass }
     {
@@ -72,7 +93,7 @@ impl<const N: usize, P: ContentRule> StampedRecord<N, P> {
     }
 
     /// The record that it stands on.
-    pub(crate) fn running(&self) -> &RuledRecord<P>
+    pub(crate) fn running(&self) -> &RuledRecord<P, L>
         ensures running { result.now ≡ self.now }
         ensures width { HasWidth N self.now.shape }
         ensures enterable { self.now.enterable ≡ true }

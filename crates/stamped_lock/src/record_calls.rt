@@ -16,15 +16,15 @@ ghost use Rattle.stamped_lock.specs.RecordCalls.{Attempted, SeenAtLast, RefusesT
 use crate::in_words::InWords;
 use crate::spent::Spent;
 use crate::update_error::UpdateError;
-use stamp_core::Words;
+use stamp_core::{KnownLayout, Words};
 use stamp_threads::{ContentRule, GetFault, PutFault, RecordPass, RuledRecord};
 use std::sync::Wait;
 use std::thread;
 
 /// Gets the words if nobody is putting.
 #[inline(always)]
-pub fn get_once<const N: usize, P: ContentRule>(
-    running: &RuledRecord<P>,
+pub fn get_once<const N: usize, P: ContentRule, L: KnownLayout>(
+    running: &RuledRecord<P, L>,
     pass: &mut RecordPass,
 ) -> Result<[u64; N], GetFault>
     requires table { pass.old.table ≡ running.now.table }
@@ -43,9 +43,9 @@ pub fn get_once<const N: usize, P: ContentRule>(
 
 /// Gets the words. Where it is refused it lets other threads run, and tries again.
 #[inline(always)]
-pub fn get<const N: usize, P: ContentRule, R: Wait>(
+pub fn get<const N: usize, P: ContentRule, L: KnownLayout, R: Wait>(
     rt: &R,
-    running: &RuledRecord<P>,
+    running: &RuledRecord<P, L>,
     pass: &mut RecordPass,
 ) -> [u64; N]
     requires table { pass.old.table ≡ running.now.table }
@@ -66,8 +66,8 @@ pub fn get<const N: usize, P: ContentRule, R: Wait>(
 
 /// Puts the words if nobody else is putting.
 #[inline(always)]
-pub fn put_once<const N: usize, P: ContentRule>(
-    running: &RuledRecord<P>,
+pub fn put_once<const N: usize, P: ContentRule, L: KnownLayout>(
+    running: &RuledRecord<P, L>,
     pass: &mut RecordPass,
     words: &[u64; N],
 ) -> Result<(), PutFault>
@@ -88,9 +88,9 @@ pub fn put_once<const N: usize, P: ContentRule>(
 
 /// Puts the words. Where it is refused as `Busy` or as `Lost` it lets other threads run, and tries again.
 #[inline(always)]
-pub fn put<const N: usize, P: ContentRule, R: Wait>(
+pub fn put<const N: usize, P: ContentRule, L: KnownLayout, R: Wait>(
     rt: &R,
-    running: &RuledRecord<P>,
+    running: &RuledRecord<P, L>,
     pass: &mut RecordPass,
     words: &[u64; N],
 ) -> Result<(), Spent>
@@ -115,8 +115,8 @@ pub fn put<const N: usize, P: ContentRule, R: Wait>(
 
 /// Sees the value, and makes no call: gives the lock word at which its words stood, too.
 #[inline(always)]
-fn see<const N: usize, P: ContentRule, T: InWords<N>>(
-    running: &RuledRecord<P>,
+fn see<const N: usize, P: ContentRule, L: KnownLayout, T: InWords<N>>(
+    running: &RuledRecord<P, L>,
     pass: &mut RecordPass,
 ) -> Result<(u64, T), GetFault>
     requires table { pass.old.table ≡ running.now.table }
@@ -136,8 +136,8 @@ fn see<const N: usize, P: ContentRule, T: InWords<N>>(
 
 /// Puts the value over the one that was seen at this lock word.
 #[inline(always)]
-fn replace<const N: usize, P: ContentRule, T: InWords<N>>(
-    running: &RuledRecord<P>,
+fn replace<const N: usize, P: ContentRule, L: KnownLayout, T: InWords<N>>(
+    running: &RuledRecord<P, L>,
     pass: &mut RecordPass,
     word: u64,
     value: &T,
@@ -162,8 +162,8 @@ fn replace<const N: usize, P: ContentRule, T: InWords<N>>(
 
 /// Puts what the closure answers on the value over it, as one call, and gives the old value.
 #[inline(always)]
-pub fn update_once<const N: usize, P: ContentRule, T: InWords<N>, F: Fn(&T) -> T>(
-    running: &RuledRecord<P>,
+pub fn update_once<const N: usize, P: ContentRule, L: KnownLayout, T: InWords<N>, F: Fn(&T) -> T>(
+    running: &RuledRecord<P, L>,
     pass: &mut RecordPass,
     f: &F,
 ) -> Result<T, PutFault>
@@ -183,7 +183,7 @@ pub fn update_once<const N: usize, P: ContentRule, T: InWords<N>, F: Fn(&T) -> T
     ensures err { let h = handle_of running.now pass.old.view in
         IfErr result (λ fault. RefusesUpdate P.holds fault h (handle_of running.now pass.new.view)) }
 {
-    let (word, old) = see::<N, P, T>(running, pass)?;
+    let (word, old) = see::<N, P, L, T>(running, pass)?;
     let value = f(&old);
     replace(running, pass, word, &value)?;
     Ok(old)
@@ -192,12 +192,14 @@ pub fn update_once<const N: usize, P: ContentRule, T: InWords<N>, F: Fn(&T) -> T
 /// Puts what the closure answers on the value, and gives the old value. Where it is refused as `Busy` or as
 /// `Lost` it lets other threads run, and tries again.
 #[inline(always)]
-pub fn update<const N: usize, P: ContentRule, T: InWords<N>, R: Wait, F: Fn(&T) -> T>(
-    rt: &R,
-    running: &RuledRecord<P>,
-    pass: &mut RecordPass,
-    f: &F,
-) -> Result<T, Spent>
+pub fn update<
+    const N: usize,
+    P: ContentRule,
+    L: KnownLayout,
+    T: InWords<N>,
+    R: Wait,
+    F: Fn(&T) -> T,
+>(rt: &R, running: &RuledRecord<P, L>, pass: &mut RecordPass, f: &F) -> Result<T, Spent>
     requires table { pass.old.table ≡ running.now.table }
     requires width { HasWidth N running.now.shape }
     requires spelled { (row : List ℕ) → P.holds row → AreWordsOf T.is_value T.words row }
@@ -226,11 +228,13 @@ pub fn update<const N: usize, P: ContentRule, T: InWords<N>, R: Wait, F: Fn(&T) 
 
 /// As `update_once`, by a closure that may decline: gives the old value, in an `Err` where it was declined.
 #[inline(always)]
-fn try_update_once<const N: usize, P: ContentRule, T: InWords<N>, F: Fn(&T) -> Option<T>>(
-    running: &RuledRecord<P>,
-    pass: &mut RecordPass,
-    f: &F,
-) -> Result<Result<T, T>, PutFault>
+fn try_update_once<
+    const N: usize,
+    P: ContentRule,
+    L: KnownLayout,
+    T: InWords<N>,
+    F: Fn(&T) -> Option<T>,
+>(running: &RuledRecord<P, L>, pass: &mut RecordPass, f: &F) -> Result<Result<T, T>, PutFault>
     requires table { pass.old.table ≡ running.now.table }
     requires width { HasWidth N running.now.shape }
     requires spelled { (row : List ℕ) → P.holds row → AreWordsOf T.is_value T.words row }
@@ -247,7 +251,7 @@ fn try_update_once<const N: usize, P: ContentRule, T: InWords<N>, F: Fn(&T) -> O
         IfErr result (λ fault. RefusesTry (FnReturnsAt F.Fn f.now) P.holds T.words fault h
         (handle_of running.now pass.new.view)) }
 {
-    let (word, old) = see::<N, P, T>(running, pass)?;
+    let (word, old) = see::<N, P, L, T>(running, pass)?;
     let Some(new) = f(&old) else {
         return Ok(Err(old));
     };
@@ -259,12 +263,14 @@ fn try_update_once<const N: usize, P: ContentRule, T: InWords<N>, F: Fn(&T) -> O
 
 /// As `update`, by a closure that may decline.
 #[inline(always)]
-pub fn try_update<const N: usize, P: ContentRule, T: InWords<N>, R: Wait, F: Fn(&T) -> Option<T>>(
-    rt: &R,
-    running: &RuledRecord<P>,
-    pass: &mut RecordPass,
-    f: &F,
-) -> Result<T, UpdateError<T>>
+pub fn try_update<
+    const N: usize,
+    P: ContentRule,
+    L: KnownLayout,
+    T: InWords<N>,
+    R: Wait,
+    F: Fn(&T) -> Option<T>,
+>(rt: &R, running: &RuledRecord<P, L>, pass: &mut RecordPass, f: &F) -> Result<T, UpdateError<T>>
     requires table { pass.old.table ≡ running.now.table }
     requires width { HasWidth N running.now.shape }
     requires spelled { (row : List ℕ) → P.holds row → AreWordsOf T.is_value T.words row }
@@ -295,8 +301,8 @@ pub fn try_update<const N: usize, P: ContentRule, T: InWords<N>, R: Wait, F: Fn(
 
 /// Puts the second words if the record holds the first, and says whether it did.
 #[inline(always)]
-pub fn put_if_once<const N: usize, P: ContentRule>(
-    running: &RuledRecord<P>,
+pub fn put_if_once<const N: usize, P: ContentRule, L: KnownLayout>(
+    running: &RuledRecord<P, L>,
     pass: &mut RecordPass,
     expected: &[u64; N],
     words: &[u64; N],
@@ -319,9 +325,9 @@ pub fn put_if_once<const N: usize, P: ContentRule>(
 
 /// As `put_if_once`. Where it is refused as `Busy` or as `Lost` it lets other threads run, and tries again.
 #[inline(always)]
-pub fn put_if<const N: usize, P: ContentRule, R: Wait>(
+pub fn put_if<const N: usize, P: ContentRule, L: KnownLayout, R: Wait>(
     rt: &R,
-    running: &RuledRecord<P>,
+    running: &RuledRecord<P, L>,
     pass: &mut RecordPass,
     expected: &[u64; N],
     words: &[u64; N],

@@ -14,6 +14,7 @@ use crate::in_words::InWords;
 use crate::record_calls;
 use crate::spent::Spent;
 use crate::update_error::UpdateError;
+use stamp_core::{KnownLayout, LayoutOne};
 use stamp_threads::{ContentRule, GetFault, PutFault, RecordPass, RuledRecord};
 use std::marker::Model;
 use std::sync::Wait;
@@ -21,14 +22,14 @@ use std::sync::Wait;
 /// One thread's way to the record. A handle can be moved to another thread, and can't be copied;
 /// `split` makes another one. It has no bytes but the record's reference.
 #[derive(Drop)]
-pub struct RecordHandle<'a, const N: usize, P: ContentRule> {
-    running: &'a RuledRecord<P>,
+pub struct RecordHandle<'a, const N: usize, P: ContentRule, L: KnownLayout = LayoutOne> {
+    running: &'a RuledRecord<P, L>,
     pass: RecordPass,
     ghost table: { pass.table ≡ running.now.table },
     ghost width: { (running.now.shape.width ≡ N) × (1 ≤ N) × (N ≤ 16) },
 }
 
-impl<'a, const N: usize, P: ContentRule> Model for RecordHandle<'a, N, P> {
+impl<'a, const N: usize, P: ContentRule, L: KnownLayout> Model for RecordHandle<'a, N, P, L> {
     ghost use Rattle.std.specs.Prelude.{◌≡◌};
     ghost use Rattle.stamped_lock.specs.RecordCalls.{RecordHandleView};
 
@@ -37,9 +38,9 @@ impl<'a, const N: usize, P: ContentRule> Model for RecordHandle<'a, N, P> {
     ghost view = { λ h. record { running = h.running.now; pass = h.pass.view } };
 }
 
-impl<'a, const N: usize, P: ContentRule> RecordHandle<'a, N, P> {
+impl<'a, const N: usize, P: ContentRule, L: KnownLayout> RecordHandle<'a, N, P, L> {
     /// The handle of a record and a pass of it.
-    pub(crate) fn new(running: &'a RuledRecord<P>, pass: RecordPass) -> RecordHandle<'a, N, P>
+    pub(crate) fn new(running: &'a RuledRecord<P, L>, pass: RecordPass) -> RecordHandle<'a, N, P, L>
         requires table { pass.table ≡ running.now.table }
         requires width { HasWidth N running.now.shape }
         ensures running { result.running ≡ running.now }
@@ -194,7 +195,7 @@ impl<'a, const N: usize, P: ContentRule> RecordHandle<'a, N, P> {
     }
 
     /// One more handle of the same record, which knows as much as this one and has made no call.
-    pub fn split(&mut self) -> RecordHandle<'a, N, P>
+    pub fn split(&mut self) -> RecordHandle<'a, N, P, L>
         ensures running { (self.new.running ≡ self.old.running)
             × (result.running ≡ self.old.running) }
         ensures given { self.new.pass ≡ after_split self.old.pass }

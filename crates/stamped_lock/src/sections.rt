@@ -3,19 +3,21 @@ ghost use Rattle.std.specs.Fn.{FnOnceReturnsAt, FnReturnsAt, CalledAt};
 ghost use Rattle.stamped_lock.specs.Sections.{WriteSection, ReadSection, OptimisticSection};
 ghost use Rattle.stamped_lock.specs.Sections.{OptimisticSectionMut};
 
+use crate::entered::Entered;
 use crate::handle::LockHandle;
 use crate::mismatch::Mismatch;
 use crate::write_error::WriteError;
+use stamp_core::KnownLayout;
 use std::sync::Wait;
 
-impl<'a> LockHandle<'a> {
+impl<'a, L: KnownLayout> LockHandle<'a, L> {
     /// Runs the closure in write mode: acquires it (it waits as `write` does), runs the closure and
-    /// releases. The closure gets the handle as it is in between.
+    /// releases. The closure gets what the handle stands on, as it is in between.
     ///
     /// `Spent` where no version was left: the closure has not run. `Mismatch` where another thread had
     /// released the lock before the closure ended, by this stamp or without one: the closure was not
     /// alone then, so its answer is dropped.
-    pub fn write_with<T: Drop, R: Wait, F: FnOnce(&LockHandle<'a>) -> T>(
+    pub fn write_with<T: Drop, R: Wait, F: FnOnce(&Entered<'a>) -> T>(
         &mut self,
         rt: &R,
         f: F,
@@ -26,7 +28,7 @@ impl<'a> LockHandle<'a> {
         let Some(stamp) = self.write(rt) else {
             return Err(WriteError::Spent);
         };
-        let answer = f(self);
+        let answer = f(self.entered());
         match self.unlock_write(stamp) {
             Ok(()) => Ok(answer),
             Err(_) => Err(WriteError::Mismatch),
@@ -34,11 +36,11 @@ impl<'a> LockHandle<'a> {
     }
 
     /// Runs the closure in read mode: acquires it (it waits as `read` does), runs the closure and
-    /// releases. The closure gets the handle as it is in between.
+    /// releases. The closure gets what the handle stands on, as it is in between.
     ///
     /// `Mismatch` where others had released every read hold before the closure ended: a writer may have
     /// come then, so its answer is dropped.
-    pub fn read_with<T: Drop, R: Wait, F: FnOnce(&LockHandle<'a>) -> T>(
+    pub fn read_with<T: Drop, R: Wait, F: FnOnce(&Entered<'a>) -> T>(
         &mut self,
         rt: &R,
         f: F,
@@ -47,7 +49,7 @@ impl<'a> LockHandle<'a> {
         ensures { ReadSection (λ t m. FnOnceReturnsAt F.FnOnce f m t) result self.old self.new }
     {
         let stamp = self.read(rt);
-        let answer = f(self);
+        let answer = f(self.entered());
         self.unlock_read(rt, stamp)?;
         Ok(answer)
     }
@@ -57,7 +59,7 @@ impl<'a> LockHandle<'a> {
     /// mode, as in `read_with`: it may run twice, and what it reads first may be torn.
     ///
     /// It waits and refuses as `read_with` does, and only then.
-    pub fn read_optimistically<T: Drop, R: Wait, F: Fn(&LockHandle<'a>) -> T>(
+    pub fn read_optimistically<T: Drop, R: Wait, F: Fn(&Entered<'a>) -> T>(
         &mut self,
         rt: &R,
         f: F,
@@ -71,7 +73,7 @@ impl<'a> LockHandle<'a> {
     /// As `read_optimistically`, by a closure that may change what it captures, as a buffer that it fills, and
     /// that is lent. Its last run is the one whose answer is given. Where it runs again, it finds what its first
     /// run left, which may come of torn reads.
-    pub fn read_optimistically_mut<T: Drop, R: Wait, F: FnMut(&LockHandle<'a>) -> T>(
+    pub fn read_optimistically_mut<T: Drop, R: Wait, F: FnMut(&Entered<'a>) -> T>(
         &mut self,
         rt: &R,
         f: &mut F,
@@ -82,7 +84,7 @@ impl<'a> LockHandle<'a> {
         let Some(stamp) = self.try_optimistic_read() else {
             return self.read_with_mut(rt, f);
         };
-        let filled = f(self);
+        let filled = f(self.entered());
         let unwritten = self.validate(stamp);
         if unwritten {
             return Ok(filled);
@@ -91,7 +93,7 @@ impl<'a> LockHandle<'a> {
     }
 
     /// `read_with`, by a closure that may change what it captures, and that is lent.
-    fn read_with_mut<T: Drop, R: Wait, F: FnMut(&LockHandle<'a>) -> T>(
+    fn read_with_mut<T: Drop, R: Wait, F: FnMut(&Entered<'a>) -> T>(
         &mut self,
         rt: &R,
         f: &mut F,
@@ -100,13 +102,13 @@ impl<'a> LockHandle<'a> {
         ensures { ReadSection (λ t m. CalledAt F.FnMut f.old m t f.new) result self.old self.new }
     {
         let held = self.read(rt);
-        let answer = f(self);
+        let answer = f(self.entered());
         self.unlock_read(rt, held)?;
         Ok(answer)
     }
 
     /// `read_optimistically`, by a closure that is lent.
-    pub(crate) fn read_lent<T: Drop, R: Wait, F: Fn(&LockHandle<'a>) -> T>(
+    pub(crate) fn read_lent<T: Drop, R: Wait, F: Fn(&Entered<'a>) -> T>(
         &mut self,
         rt: &R,
         f: &F,
@@ -117,7 +119,7 @@ impl<'a> LockHandle<'a> {
         let Some(stamp) = self.try_optimistic_read() else {
             return self.read_with_lent(rt, f);
         };
-        let answer = f(self);
+        let answer = f(self.entered());
         let valid = self.validate(stamp);
         if valid {
             return Ok(answer);
@@ -126,7 +128,7 @@ impl<'a> LockHandle<'a> {
     }
 
     /// `read_with`, by a closure that is lent.
-    fn read_with_lent<T: Drop, R: Wait, F: Fn(&LockHandle<'a>) -> T>(
+    fn read_with_lent<T: Drop, R: Wait, F: Fn(&Entered<'a>) -> T>(
         &mut self,
         rt: &R,
         f: &F,
@@ -135,7 +137,7 @@ impl<'a> LockHandle<'a> {
         ensures { ReadSection (λ t m. FnReturnsAt F.Fn f.now m t) result self.old self.new }
     {
         let held = self.read(rt);
-        let answer = f(self);
+        let answer = f(self.entered());
         self.unlock_read(rt, held)?;
         Ok(answer)
     }

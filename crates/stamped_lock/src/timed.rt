@@ -9,12 +9,12 @@ ghost use Rattle.stamped_lock.specs.Timed.{TriedAtLast};
 use crate::answers::stamp_unless_zero;
 use crate::handle::LockHandle;
 use crate::stamp::Stamp;
-use stamp_core::Call;
+use stamp_core::{Call, KnownLayout};
 use std::sync::Wait;
 use std::time::{Clock, Duration, Instant};
 use std::{io, thread};
 
-impl<'a> LockHandle<'a> {
+impl<'a, L: KnownLayout> LockHandle<'a, L> {
     /// Acquires write mode as `try_write` does, and tries again for this long while somebody holds the lock
     /// (`tryWriteLock(time, unit)`). None where each try found it held, or no version left. Between two
     /// tries it lets other threads run; so it ends by one try, and by a turn of theirs, later than the time.
@@ -81,6 +81,6 @@ impl<'a> LockHandle<'a> {
         requires { (call ≡ TryWrite) ⊎ (call ≡ TryRead) }
         ensures { Made call (stamped result) self.old self.new }
     {
-        stamp_unless_zero(self.once_or_call(rt, call))
+        stamp_unless_zero(self.call(rt, call))
     }
 }

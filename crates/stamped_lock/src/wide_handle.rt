@@ -8,6 +8,7 @@ ghost use Rattle.stamped_lock.specs.RecordCalls.{MadeAtLast, SpentAtLast};
 ghost use Rattle.stamped_lock.specs.RecordCalls.{RefusesUpdate, UpdateSpent, SeenAtLast};
 
 use crate::spent::Spent;
+use stamp_core::{KnownLayout, LayoutOne};
 use stamp_threads::{ContentRule, GetFault, PutFault, RecordPass, WideRecord};
 use std::marker::Model;
 use std::sync::Wait;
@@ -16,14 +17,14 @@ use std::thread;
 /// One thread's way to a record of many words. A handle can be moved to another thread, and can't be
 /// copied; `split` makes another one. It has no bytes but the record's reference.
 #[derive(Drop)]
-pub struct WideHandle<'a, const N: usize, P: ContentRule> {
-    running: &'a WideRecord<P>,
+pub struct WideHandle<'a, const N: usize, P: ContentRule, L: KnownLayout = LayoutOne> {
+    running: &'a WideRecord<P, L>,
     pass: RecordPass,
     ghost table: { pass.table ≡ running.now.table },
     ghost width: { (running.now.shape.width ≡ N) × (1 ≤ N) × (N ≤ 4096) },
 }
 
-impl<'a, const N: usize, P: ContentRule> Model for WideHandle<'a, N, P> {
+impl<'a, const N: usize, P: ContentRule, L: KnownLayout> Model for WideHandle<'a, N, P, L> {
     ghost use Rattle.std.specs.Prelude.{◌≡◌};
     ghost use Rattle.stamped_lock.specs.RecordCalls.{RecordHandleView};
 
@@ -32,9 +33,9 @@ impl<'a, const N: usize, P: ContentRule> Model for WideHandle<'a, N, P> {
     ghost view = { λ h. record { running = h.running.now; pass = h.pass.view } };
 }
 
-impl<'a, const N: usize, P: ContentRule> WideHandle<'a, N, P> {
+impl<'a, const N: usize, P: ContentRule, L: KnownLayout> WideHandle<'a, N, P, L> {
     /// The handle of a record and a pass of it.
-    pub(crate) fn new(running: &'a WideRecord<P>, pass: RecordPass) -> WideHandle<'a, N, P>
+    pub(crate) fn new(running: &'a WideRecord<P, L>, pass: RecordPass) -> WideHandle<'a, N, P, L>
         requires table { pass.table ≡ running.now.table }
         requires width { (running.now.shape.width ≡ N) × (1 ≤ N) × (N ≤ 4096) }
         ensures running { result.running ≡ running.now }
@@ -195,7 +196,7 @@ impl<'a, const N: usize, P: ContentRule> WideHandle<'a, N, P> {
     }
 
     /// One more handle of the same record, which knows as much as this one and has made no call.
-    pub fn split(&mut self) -> WideHandle<'a, N, P>
+    pub fn split(&mut self) -> WideHandle<'a, N, P, L>
         ensures running { (self.new.running ≡ self.old.running)
             × (result.running ≡ self.old.running) }
         ensures given { self.new.pass ≡ after_split self.old.pass }

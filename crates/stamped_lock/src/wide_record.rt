@@ -4,7 +4,7 @@ ghost use Rattle.stamp_core.specs.Limits.{widest};
 ghost use Rattle.stamp_threads.specs.RecordPass.{HasEntered};
 
 use crate::wide_handle::WideHandle;
-use stamp_core::{Layout, Limits};
+use stamp_core::{KnownLayout, Layout, LayoutOne, Limits};
 use stamp_threads::{ContentRule, LockError, WideRecord};
 use std::alloc::Global;
 use std::marker::Model;
@@ -13,12 +13,14 @@ use std::marker::Model;
 /// read, as those of a `StampedRecord` do. Its calls take slices of `N` words. The more words, the longer
 /// a call takes, and the oftener a get or an update loses to a put and is tried again. A history with
 /// more than 16 words has no text.
+///
+/// `L` says what is known of its layout, as in `StampedLock`.
 #[derive(Drop)]
-pub struct StampedWideRecord<const N: usize, P: ContentRule> {
-    running: WideRecord<P>,
+pub struct StampedWideRecord<const N: usize, P: ContentRule, L: KnownLayout = LayoutOne> {
+    running: WideRecord<P, L>,
 }
 
-impl<const N: usize, P: ContentRule> Model for StampedWideRecord<N, P> {
+impl<const N: usize, P: ContentRule, L: KnownLayout> Model for StampedWideRecord<N, P, L> {
     ghost use Rattle.std.specs.Prelude.{◌≡◌, ◌≤◌, true};
     ghost use Rattle.stamp_threads.specs.RecordPass.{RecordView};
 
@@ -44,8 +46,9 @@ impl<const N: usize, P: ContentRule> StampedWideRecord<N, P> {
         StampedWideRecord::with_limits(alloc, Limits::widest(Layout::One), first)
     }
 
-    /// A record of these limits and words. Of the limits the versions count, of which the first content
-    /// takes one; the readers don't matter. It refuses only for want of memory; nothing was made then.
+    /// A record of these limits, which are of layout 1, and words. Of the limits the versions count, of
+    /// which the first content takes one; the readers don't matter. It refuses only for want of memory;
+    /// nothing was made then.
     pub fn with_limits(
         alloc: Global,
         limits: Limits,
@@ -53,17 +56,36 @@ impl<const N: usize, P: ContentRule> StampedWideRecord<N, P> {
     ) -> Result<StampedWideRecord<N, P>, LockError>
         requires width { (1 ≤ N) × (N ≤ 4096) }
         requires long { length first.now ≡ N }
+        requires layout { limits.layout ≡ Layout.One }
         requires version { 1 ≤ limits.versions }
         requires rule { P.holds first.now }
         ensures { IfOk result (λ r. r.shape ≡ record { limits = limits; width = N }) }
     {
-        let (running, pass) = WideRecord::holding_enterable(alloc, limits, first)?;
+        StampedWideRecord::in_layout(alloc, limits, first)
+    }
+}
+
+impl<const N: usize, P: ContentRule, L: KnownLayout> StampedWideRecord<N, P, L> {
+    /// As `with_limits`, of a layout that `L` stands for.
+    pub fn in_layout(
+        alloc: Global,
+        limits: Limits,
+        first: &[u64],
+    ) -> Result<StampedWideRecord<N, P, L>, LockError>
+        requires width { (1 ≤ N) × (N ≤ 4096) }
+        requires long { length first.now ≡ N }
+        requires layout { L.seen limits.layout ≡ limits.layout }
+        requires version { 1 ≤ limits.versions }
+        requires rule { P.holds first.now }
+        ensures { IfOk result (λ r. r.shape ≡ record { limits = limits; width = N }) }
+    {
+        let (running, pass) = WideRecord::enterable_in(alloc, limits, first)?;
         drop(pass);
         Ok(StampedWideRecord { running })
     }
 
     /// A handle, for one thread at a time. It has made no call. It takes one load and no memory.
-    pub fn enter(&self) -> WideHandle<'_, N, P>
+    pub fn enter(&self) -> WideHandle<'_, N, P, L>
         ensures running { result.running ≡ self.now }
         ensures entered { HasEntered self.now.shape result.pass }
     {

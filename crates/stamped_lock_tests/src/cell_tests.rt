@@ -2,7 +2,10 @@
 ghost use Rattle.std.specs.Prelude.{◌≡◌, ◌≤◌, ◌≤ℤ◌, ◌∷◌, []};
 ghost use Rattle.stamped_lock.specs.InWords.{i64_word, f64_word, bool_word, IsI64, IsF64};
 
-use stamped_lock::{CellHandle, InWord, InWords, Layout, Limits, Spent, StampedCell, UpdateError};
+use stamped_lock::{
+    CellHandle, InWord, InWords, KnownLayout, Layout, LayoutTwo, Limits, Spent, StampedCell,
+    UpdateError,
+};
 use std::sync::Wait;
 use std::test::Fail;
 use std::thread::join;
@@ -99,7 +102,10 @@ fn two_threads_grow_a_range_that_a_third_reads(rt: HostRuntime) -> Result<(), Fa
 }
 
 /// Stops growing, where it still grows.
-fn stop<R: Wait>(rt: &R, cell: &mut RangeHandle<'_>) -> Result<Range, UpdateError<Range>> {
+fn stop<L: KnownLayout, R: Wait>(
+    rt: &R,
+    cell: &mut CellHandle<'_, 4, Range, L>,
+) -> Result<Range, UpdateError<Range>> {
     cell.try_update(rt, |r: &Range| -> Option<Range> {
         if r.grows {
             Some(of_bounds(r.low, r.high, r.step, false))
@@ -109,26 +115,37 @@ fn stop<R: Wait>(rt: &R, cell: &mut RangeHandle<'_>) -> Result<Range, UpdateErro
     })
 }
 
-#[test]
-fn a_cell_gives_what_was_put(rt: HostRuntime) -> Result<(), Fail> {
-    let limits = Limits::in_layout(Layout::Two, 1, 4)?;
+/// What a cell of four versions that begins as -7 to 9 gives and refuses.
+fn gives_what_was_put<L: KnownLayout, R: Wait>(
+    rt: &R,
+    mut cell: CellHandle<'_, 4, Range, L>,
+) -> bool {
     let (first, second) = (
         of_bounds(-7, 9, -0.25, true),
         of_bounds(i64::MIN, i64::MAX, 1e300, true),
     );
-    let Ok(cell) = RangeCell::with_limits(rt.alloc(), limits, first) else {
+    let stopped = of_bounds(-7, 9, -0.25, false);
+    let put = cell.get(rt) == first
+        && cell.put(rt, second).is_ok()
+        && cell.put_if(rt, first, first) == Ok(false)
+        && cell.put_if(rt, second, first) == Ok(true);
+    let updated = stop(rt, &mut cell) == Ok(first)
+        && stop(rt, &mut cell) == Err(UpdateError::Declined(stopped));
+    put && updated && cell.put(rt, first).is_err() && cell.split().get(rt) == stopped
+}
+
+#[test]
+fn a_cell_gives_what_was_put(rt: HostRuntime) -> Result<(), Fail> {
+    let (one, two) = (Limits::new(1, 4)?, Limits::in_layout(Layout::Two, 1, 4)?);
+    let first = of_bounds(-7, 9, -0.25, true);
+    let (Ok(cell), Ok(in_two)) = (
+        RangeCell::with_limits(rt.alloc(), one, first),
+        StampedCell::<4, Range, LayoutTwo>::in_layout(rt.alloc(), two, first),
+    ) else {
         return Err(Fail::from("no memory for the cell"));
     };
-    let mut handle = cell.enter();
-    assert!(rt; handle.get(&rt) == first);
-    assert!(rt; handle.put(&rt, second).is_ok());
-    assert!(rt; handle.put_if(&rt, first, first) == Ok(false));
-    assert!(rt; handle.put_if(&rt, second, first) == Ok(true));
-    assert!(rt; stop(&rt, &mut handle) == Ok(first));
-    let stopped = of_bounds(-7, 9, -0.25, false);
-    assert!(rt; stop(&rt, &mut handle) == Err(UpdateError::Declined(stopped)));
-    assert!(rt; handle.put(&rt, first).is_err());
-    assert!(rt; handle.split().get(&rt) == stopped);
+    assert!(rt; gives_what_was_put(&rt, cell.enter()));
+    assert!(rt; gives_what_was_put(&rt, in_two.enter()));
     Ok(())
 }
 

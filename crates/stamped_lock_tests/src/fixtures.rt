@@ -1,5 +1,7 @@
 //! A lock, and calls by its handles as a table.
-use stamped_lock::{Layout, Limits, LockHandle, Stamp, StampedLock, UnlockError};
+ghost use Rattle.std.specs.Prelude.{◌≡◌};
+
+use stamped_lock::{KnownLayout, Layout, Limits, LockHandle, Stamp, StampedLock, UnlockError};
 use std::alloc::Global;
 use std::sync::Wait;
 use std::sync::atomic::{AtomicU64, Ordering};
@@ -15,15 +17,33 @@ pub fn made(alloc: Global) -> Result<StampedLock, Fail> {
     }
 }
 
-/// A lock's layout, readers and versions.
-pub type Shape = (Layout, u64, u64);
+/// The most readers at a time, and the most write acquisitions.
+pub type Most = (u64, u64);
 
-/// A lock of this shape.
-pub fn made_with(alloc: Global, (layout, readers, versions): Shape) -> Result<StampedLock, Fail> {
-    let Ok(limits) = Limits::in_layout(layout, readers, versions) else {
+/// A lock of layout 1 with these limits, as a caller has it who names no layout.
+pub fn made_with(alloc: Global, (readers, versions): Most) -> Result<StampedLock, Fail> {
+    let Ok(limits) = Limits::new(readers, versions) else {
         return Err(Fail::from("limits"));
     };
     match StampedLock::with_limits(alloc, limits) {
+        Ok(lock) => Ok(lock),
+        Err(_) => Err(Fail::from("no memory for the lock")),
+    }
+}
+
+/// A lock of a layout with these limits, whose type stands for the layout.
+pub fn made_in<L: KnownLayout>(
+    alloc: Global,
+    layout: Layout,
+    most: Most,
+) -> Result<StampedLock<L>, Fail>
+    requires { L.seen layout ≡ layout }
+{
+    let (readers, versions) = most;
+    let Ok(limits) = Limits::in_layout(layout, readers, versions) else {
+        return Err(Fail::from("limits"));
+    };
+    match StampedLock::in_layout(alloc, limits) {
         Ok(lock) => Ok(lock),
         Err(_) => Err(Fail::from("no memory for the lock")),
     }
@@ -82,9 +102,9 @@ fn released(answer: Result<(), UnlockError>) -> Option<u64> {
 }
 
 /// What a call with this stamp answers; none where it wants a stamp and there is none, or its exchange was lost.
-pub fn answer<R: Wait>(
+pub fn answer<L: KnownLayout, R: Wait>(
     rt: &R,
-    lock: &mut LockHandle<'_>,
+    lock: &mut LockHandle<'_, L>,
     ask: Ask,
     stamp: Option<Stamp>,
 ) -> Option<u64> {
@@ -121,7 +141,12 @@ pub fn answer<R: Wait>(
 
 /// Makes the calls of a table one after another, up to the first that answers otherwise: how many answered so.
 /// They are made by one handle, or each by a handle that enters for it.
-pub fn right_rows<R: Wait>(rt: &R, lock: &StampedLock, rows: &[Row], enters_anew: bool) -> usize {
+pub fn right_rows<L: KnownLayout, R: Wait>(
+    rt: &R,
+    lock: &StampedLock<L>,
+    rows: &[Row],
+    enters_anew: bool,
+) -> usize {
     let mut handle = lock.enter();
     for (at, (ask, taken, want)) in rows.iter().enumerate() {
         if enters_anew {

@@ -1,28 +1,37 @@
 //! Calls of one thread, by worked rows.
-use crate::fixtures::{Ask, Row, Shape, made_with, right_rows};
-use stamped_lock::Layout;
+use crate::fixtures::{Ask, Most, Row, made_in, made_with, right_rows};
+use stamped_lock::{EitherLayout, KnownLayout, Layout, LayoutTwo, StampedLock};
 use std::alloc::Global;
 use std::process::Abort;
 use std::sync::Wait;
 use std::test::Fail;
 
-/// Makes the calls of a table on a new lock of this shape: all by one handle, and then each by a handle that enters
+/// Makes the calls of a table on a new lock: all by one handle, or each by a handle that enters for it.
+fn assert_rows<L: KnownLayout>(
+    rt: &(impl Abort + Wait),
+    lock: &StampedLock<L>,
+    rows: &[Row],
+    enters_anew: bool,
+) {
+    let right = right_rows(rt, lock, rows, enters_anew);
+    assert!(rt; right == rows.len(), "row {right}");
+}
+
+/// Makes the calls of a table on new locks of layout 1: all by one handle, and then each by a handle that enters
 /// for it.
 fn assert_answered(
     rt: &(impl Abort + Wait),
     alloc: Global,
-    shape: Shape,
+    most: Most,
     rows: &[Row],
 ) -> Result<(), Fail> {
     for enters_anew in [false, true] {
-        let lock = made_with(alloc, shape)?;
-        let right = right_rows(rt, &lock, rows, enters_anew);
-        assert!(rt; right == rows.len(), "row {right}");
+        assert_rows(rt, &made_with(alloc, most)?, rows, enters_anew);
     }
     Ok(())
 }
 
-const WIDE: Shape = (Layout::One, 127, 1_000_000);
+const WIDE: Most = (127, 1_000_000);
 
 const WRITTEN: [Row; 15] = [
     (Ask::Optimistic, 0, 256),
@@ -110,24 +119,54 @@ const AT_ITS_LIMITS: [Row; 7] = [
 
 #[test]
 fn beyond_its_limits_a_lock_answers_none(rt: HostRuntime) -> Result<(), Fail> {
-    assert_answered(&rt, rt.alloc(), (Layout::One, 1, 1), &AT_ITS_LIMITS)
+    assert_answered(&rt, rt.alloc(), (1, 1), &AT_ITS_LIMITS)
 }
 
-const IN_LAYOUT_TWO: [Row; 4] = [
+const IN_LAYOUT_TWO: [Row; 22] = [
     (Ask::Optimistic, 0, 131_072),
+    (Ask::ToRead, 131_072, 131_073),
+    (Ask::Read, 0, 131_074),
+    (Ask::TryReadOnce, 0, 0),
+    (Ask::Unlock, 131_073, 1),
+    (Ask::UnlockRead, 131_074, 1),
+    (Ask::TryReadOnce, 0, 131_073),
+    (Ask::UnlockReadOnce, 131_073, 1),
     (Ask::Write, 0, 196_608),
+    (Ask::IsWriteLocked, 0, 1),
+    (Ask::Validate, 131_072, 0),
     (Ask::UnlockWrite, 196_608, 1),
     (Ask::Read, 0, 262_145),
+    (Ask::IsReadLocked, 0, 1),
+    (Ask::ReadCount, 0, 1),
+    (Ask::ToWrite, 262_145, 327_680),
+    (Ask::ToOptimistic, 327_680, 393_216),
+    (Ask::TryWrite, 0, 0),
+    (Ask::TryRead, 0, 393_217),
+    (Ask::TryUnlockRead, 0, 1),
+    (Ask::TryUnlockWrite, 0, 0),
+    (Ask::Validate, 393_216, 1),
 ];
 
+/// By a type that knows the layout, and by one that looks.
 #[test]
 fn the_second_layout_has_stamps_of_its_own(rt: HostRuntime) -> Result<(), Fail> {
-    assert_answered(
-        &rt,
-        rt.alloc(),
-        (Layout::Two, 65_535, 1_000_000),
-        &IN_LAYOUT_TWO,
-    )
+    let (layout, most) = (Layout::Two, (2, 2));
+    for enters_anew in [false, true] {
+        let known = made_in::<LayoutTwo>(rt.alloc(), layout, most)?;
+        assert_rows(&rt, &known, &IN_LAYOUT_TWO, enters_anew);
+        let either = made_in::<EitherLayout>(rt.alloc(), layout, most)?;
+        assert_rows(&rt, &either, &IN_LAYOUT_TWO, enters_anew);
+    }
+    Ok(())
+}
+
+#[test]
+fn a_lock_of_either_layout_may_be_of_the_first(rt: HostRuntime) -> Result<(), Fail> {
+    for enters_anew in [false, true] {
+        let lock = made_in::<EitherLayout>(rt.alloc(), Layout::One, (1, 1))?;
+        assert_rows(&rt, &lock, &AT_ITS_LIMITS, enters_anew);
+    }
+    Ok(())
 }
 
 const CONVERTED: [Row; 42] = [

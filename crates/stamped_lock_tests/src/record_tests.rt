@@ -2,7 +2,10 @@
 ghost use Rattle.std.specs.Prelude.{◌≡◌, ◌<◌, slice_index};
 
 use crate::fixtures::both_end;
-use stamped_lock::{ContentRule, Layout, Limits, PutFault, RecordHandle, Spent, StampedRecord};
+use stamped_lock::{
+    ContentRule, EitherLayout, KnownLayout, Layout, LayoutTwo, Limits, PutFault, RecordHandle,
+    Spent, StampedRecord,
+};
 use std::sync::atomic::{AtomicU64, Ordering};
 use std::sync::{Arc, Barrier, Wait};
 use std::test::Fail;
@@ -113,17 +116,32 @@ fn two_who_put_at_once_come_back(rt: HostRuntime) -> Result<(), Fail> {
     Ok(())
 }
 
+/// Two versions: the second put finds none left, and its word is told.
+fn first_takes_a_version<L: KnownLayout, R: Wait>(
+    rt: &R,
+    mut board: RecordHandle<'_, 2, BidBelowAsk, L>,
+    last: u64,
+) -> bool {
+    board.get_once() == Ok([3, 5])
+        && board.put_once([4, 6]).is_ok()
+        && board.put_once([5, 7]) == Err(PutFault::Spent(last))
+        && board.put(rt, [5, 7]).is_err()
+        && board.split().get(rt) == [4, 6]
+}
+
 #[test]
 fn the_first_content_takes_a_version(rt: HostRuntime) -> Result<(), Fail> {
-    let limits = Limits::in_layout(Layout::Two, 1, 2)?;
-    let Ok(board) = Board::with_limits(rt.alloc(), limits, [3, 5]) else {
+    let (one, two) = (Limits::new(1, 2)?, Limits::in_layout(Layout::Two, 1, 2)?);
+    let alloc = rt.alloc();
+    let (Ok(first), Ok(second), Ok(either)) = (
+        Board::with_limits(alloc, one, [3, 5]),
+        StampedRecord::<2, BidBelowAsk, LayoutTwo>::in_layout(alloc, two, [3, 5]),
+        StampedRecord::<2, BidBelowAsk, EitherLayout>::in_layout(alloc, two, [3, 5]),
+    ) else {
         return Err(Fail::from("no memory for the record"));
     };
-    let mut handle = board.enter();
-    assert!(rt; handle.get_once() == Ok([3, 5]));
-    assert!(rt; handle.put_once([4, 6]).is_ok());
-    assert!(rt; handle.put_once([5, 7]) == Err(PutFault::Spent(393_216)));
-    assert!(rt; handle.put(&rt, [5, 7]).is_err());
-    assert!(rt; handle.split().get(&rt) == [4, 6]);
+    assert!(rt; first_takes_a_version(&rt, first.enter(), 768));
+    assert!(rt; first_takes_a_version(&rt, second.enter(), 393_216));
+    assert!(rt; first_takes_a_version(&rt, either.enter(), 393_216));
     Ok(())
 }

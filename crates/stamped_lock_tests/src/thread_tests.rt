@@ -1,11 +1,12 @@
 //! Threads that really share a lock, each by a handle.
-use crate::fixtures::{Ask, Row, both_end, made, number, right_rows};
-use stamped_lock::{Mismatch, StampedLock};
+use crate::fixtures::{Ask, Row, both_end, made, made_in, number, right_rows};
+use stamped_lock::{KnownLayout, Layout, LayoutTwo, Mismatch, StampedLock};
+use std::process::Abort;
 use std::sync::atomic::{AtomicBool, AtomicU64, Ordering};
 use std::sync::{Arc, Barrier, Wait};
 use std::test::Fail;
 use std::thread;
-use std::thread::join;
+use std::thread::{Threads, join};
 use std::time::{Clock, Duration};
 
 /// Adds one this many times, each time by a load and a store that no other writer may come between.
@@ -119,9 +120,9 @@ fn calls_that_lose_exchanges_come_back(rt: HostRuntime) -> Result<(), Fail> {
 }
 
 /// Reads, and lets the other thread come in its first run. Answers which run it was, from 0.
-fn read_beside<R: Wait>(
+fn read_beside<L: KnownLayout, R: Wait>(
     rt: &R,
-    lock: &StampedLock,
+    lock: &StampedLock<L>,
     runs: &AtomicU64,
     meeting: &Barrier,
 ) -> Result<u64, Mismatch> {
@@ -136,29 +137,49 @@ fn read_beside<R: Wait>(
 }
 
 /// Makes these calls while the reader is in its closure. Answers how many were answered as they should.
-fn come_between<R: Wait>(rt: &R, lock: &StampedLock, rows: &[Row], meeting: &Barrier) -> usize {
+fn come_between<L: KnownLayout, R: Wait>(
+    rt: &R,
+    lock: &StampedLock<L>,
+    rows: &[Row],
+    meeting: &Barrier,
+) -> usize {
     meeting.wait(rt);
     let right = right_rows(rt, lock, rows, false);
     meeting.wait(rt);
     right
 }
 
+/// Reads on a new lock beside these calls: the last run of the closure has this number, and no run follows it.
+fn assert_read_beside<L: KnownLayout + Sync, R: Abort + Threads + Wait + Sync>(
+    rt: &R,
+    lock: &StampedLock<L>,
+    rows: &[Row; 2],
+    last: u64,
+) {
+    let (runs, meeting) = (AtomicU64::new(0), Barrier::new(2));
+    let (run, right) = join(
+        rt,
+        || read_beside(rt, lock, &runs, &meeting),
+        || come_between(rt, lock, rows, &meeting),
+    );
+    assert!(rt; run == Ok(last));
+    assert!(rt; (runs.load(Ordering::SeqCst), right) == (last.wrapping_add(1), 2));
+}
+
 const READER: [Row; 2] = [(Ask::Read, 0, 257), (Ask::UnlockRead, 257, 1)];
 
 const WRITER: [Row; 2] = [(Ask::Write, 0, 384), (Ask::UnlockWrite, 384, 1)];
 
+const READER_IN_TWO: [Row; 2] = [(Ask::Read, 0, 131_073), (Ask::UnlockRead, 131_073, 1)];
+
+const WRITER_IN_TWO: [Row; 2] = [(Ask::Write, 0, 196_608), (Ask::UnlockWrite, 196_608, 1)];
+
 #[test]
 fn an_optimistic_read_that_a_writer_came_into_runs_again(rt: HostRuntime) -> Result<(), Fail> {
-    for (rows, last) in [(&READER, 0), (&WRITER, 1)] {
-        let lock = made(rt.alloc())?;
-        let (runs, meeting) = (AtomicU64::new(0), Barrier::new(2));
-        let (run, right) = join(
-            &rt,
-            || read_beside(&rt, &lock, &runs, &meeting),
-            || come_between(&rt, &lock, rows, &meeting),
-        );
-        assert!(rt; run == Ok(last));
-        assert!(rt; (runs.load(Ordering::SeqCst), right) == (last + 1, 2));
+    for (rows, in_two, last) in [(&READER, &READER_IN_TWO, 0), (&WRITER, &WRITER_IN_TWO, 1)] {
+        let two = made_in::<LayoutTwo>(rt.alloc(), Layout::Two, (127, 1))?;
+        assert_read_beside(&rt, &made(rt.alloc())?, rows, last);
+        assert_read_beside(&rt, &two, in_two, last);
     }
     Ok(())
 }

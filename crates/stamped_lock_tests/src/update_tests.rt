@@ -2,8 +2,8 @@
 ghost use Rattle.std.specs.Prelude.{◌≡◌, ◌<◌, slice_index, IfSome};
 
 use stamped_lock::{
-    AnyContent, ContentRule, Layout, Limits, PutFault, RecordHandle, Spent, StampedRecord,
-    UpdateError,
+    AnyContent, ContentRule, KnownLayout, Layout, LayoutTwo, Limits, PutFault, RecordHandle, Spent,
+    StampedRecord, UpdateError,
 };
 use std::sync::Wait;
 use std::sync::atomic::{AtomicU64, Ordering};
@@ -58,10 +58,11 @@ impl ContentRule for BidBelowAsk {
 
 type Board = StampedRecord<2, BidBelowAsk>;
 
-type BoardHandle<'a> = RecordHandle<'a, 2, BidBelowAsk>;
-
 /// Moves the bid halfway to the ask.
-fn to_the_middle<R: Wait>(rt: &R, board: &mut BoardHandle<'_>) -> Result<[u64; 2], Spent> {
+fn to_the_middle<L: KnownLayout, R: Wait>(
+    rt: &R,
+    board: &mut RecordHandle<'_, 2, BidBelowAsk, L>,
+) -> Result<[u64; 2], Spent> {
     board.update(
         rt,
         |row: &[u64; 2]| -> [u64; 2]
@@ -72,7 +73,10 @@ fn to_the_middle<R: Wait>(rt: &R, board: &mut BoardHandle<'_>) -> Result<[u64; 2
 }
 
 /// Takes one from the ask, where it stays above the bid.
-fn lower<R: Wait>(rt: &R, board: &mut BoardHandle<'_>) -> Result<[u64; 2], UpdateError<[u64; 2]>> {
+fn lower<L: KnownLayout, R: Wait>(
+    rt: &R,
+    board: &mut RecordHandle<'_, 2, BidBelowAsk, L>,
+) -> Result<[u64; 2], UpdateError<[u64; 2]>> {
     board.try_update(
         rt,
         |row: &[u64; 2]| -> Option<[u64; 2]>
@@ -91,7 +95,11 @@ fn lower<R: Wait>(rt: &R, board: &mut BoardHandle<'_>) -> Result<[u64; 2], Updat
 #[test]
 fn an_update_gives_the_old_words(rt: HostRuntime) -> Result<(), Fail> {
     let limits = Limits::in_layout(Layout::Two, 1, 4)?;
-    let Ok(board) = Board::with_limits(rt.alloc(), limits, [3, 9]) else {
+    let Ok(board) = StampedRecord::<2, BidBelowAsk, LayoutTwo>::in_layout(
+        rt.alloc(),
+        limits,
+        [3, 9],
+    ) else {
         return Err(Fail::from("no memory for the record"));
     };
     let mut handle = board.enter();

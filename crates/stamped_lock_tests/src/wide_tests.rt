@@ -1,7 +1,10 @@
 //! Records of many words.
 ghost use Rattle.std.specs.Prelude.{◌≡◌, length};
 
-use stamped_lock::{AnyContent, Layout, Limits, PutFault, Spent, StampedWideRecord, WideHandle};
+use stamped_lock::{
+    AnyContent, KnownLayout, Layout, LayoutTwo, Limits, PutFault, Spent, StampedWideRecord,
+    WideHandle,
+};
 use std::sync::Wait;
 use std::test::Fail;
 use std::thread::join;
@@ -79,14 +82,8 @@ fn the_widest_record_holds_what_was_put(rt: HostRuntime) -> Result<(), Fail> {
     Ok(())
 }
 
-#[test]
-fn an_update_leaves_the_old_words_and_the_new(rt: HostRuntime) -> Result<(), Fail> {
-    let limits = Limits::in_layout(Layout::Two, 1, 2)?;
-    let Ok(row) = StampedWideRecord::<3, AnyContent>::with_limits(rt.alloc(), limits, &[1, 2, 3])
-    else {
-        return Err(Fail::from("no memory for the record"));
-    };
-    let mut handle = row.enter();
+/// What a record of two versions that begins as 1, 2, 3 gives and refuses.
+fn turned<L: KnownLayout, R: Wait>(rt: &R, mut row: WideHandle<'_, 3, AnyContent, L>) -> bool {
     let mut old = [0; 3];
     let mut new = [0; 3];
     let turn = |words: &mut [u64]|
@@ -95,11 +92,25 @@ fn an_update_leaves_the_old_words_and_the_new(rt: HostRuntime) -> Result<(), Fai
     {
         words.reverse();
     };
-    assert!(rt; handle.update_in_once(&mut old, &mut new, turn) == Ok(()));
-    assert!(rt; old == [1, 2, 3] && new == [3, 2, 1]);
-    assert!(rt; matches!(handle.put_from_once(&[4, 5, 6]), Err(PutFault::Spent(_))));
-    assert!(rt; handle.update_in(&rt, &mut old, &mut new, turn) == Err(Spent));
-    assert!(rt; handle.get_into_once(&mut old) == Ok(()));
-    assert!(rt; old == [3, 2, 1]);
+    if row.update_in_once(&mut old, &mut new, turn) != Ok(()) {
+        return false;
+    }
+    let left = old == [1, 2, 3] && new == [3, 2, 1];
+    let refused = matches!(row.put_from_once(&[4, 5, 6]), Err(PutFault::Spent(_)))
+        && row.update_in(rt, &mut old, &mut new, turn) == Err(Spent);
+    left && refused && row.get_into_once(&mut old) == Ok(()) && old == [3, 2, 1]
+}
+
+#[test]
+fn an_update_leaves_the_old_words_and_the_new(rt: HostRuntime) -> Result<(), Fail> {
+    let (one, two) = (Limits::new(1, 2)?, Limits::in_layout(Layout::Two, 1, 2)?);
+    let (Ok(row), Ok(in_two)) = (
+        StampedWideRecord::<3, AnyContent>::with_limits(rt.alloc(), one, &[1, 2, 3]),
+        StampedWideRecord::<3, AnyContent, LayoutTwo>::in_layout(rt.alloc(), two, &[1, 2, 3]),
+    ) else {
+        return Err(Fail::from("no memory for the record"));
+    };
+    assert!(rt; turned(&rt, row.enter()));
+    assert!(rt; turned(&rt, in_two.enter()));
     Ok(())
 }

@@ -1,9 +1,9 @@
 //! Times pairs of calls on a running lock, by one thread and by several that mostly validate; and the
 //! same pairs by a handle of `stamped_lock`.
 //!
-//! `lock [PAIRS [ROUNDS]]` writes a line for each kind of pair and round: its name, how many threads,
-//! how many pairs each made, the nanoseconds from the first to the last, and how many pairs
-//! succeeded.
+//! `lock [PAIRS [ROUNDS [OFTEN]]]` writes a line for each kind of pair and round: its name, how many
+//! threads, how many pairs each made, the nanoseconds from the first to the last, and how many pairs
+//! succeeded. In each round what one thread makes is timed this often.
 ghost use Rattle.std.specs.Prelude.{◌≡◌, true};
 
 mod handles;
@@ -12,8 +12,8 @@ mod pairs;
 use crate::Numbers;
 use crate::line::tell;
 use crate::threads::sum_of;
-use pairs::{mostly_optimistic, optimistic_pairs, read_pairs, write_pairs};
-use stamp_core::Limits;
+use pairs::{known_pairs, mostly_optimistic, optimistic_pairs, read_pairs, write_pairs};
+use stamp_core::{EitherLayout, Layout, Limits};
 use stamp_threads::RunningLock;
 use stamped_lock::StampedLock;
 use std::io;
@@ -24,16 +24,19 @@ use std::time::{Clock, Instant};
 /// How many pairs are made where no number says so.
 const FEW: u64 = 1_000;
 
-/// How many times as many pairs each of several threads makes, since starting them takes time too.
-const MORE: u64 = 32;
+/// How many times as many pairs each of several threads makes, since starting and spreading them takes time too.
+const MORE: u64 = 1_024;
 
 /// The three pairs of one thread, one after the other.
 fn alone<R: Eprint + Clock>(rt: &R, lock: &RunningLock, pairs: u64) -> io::Result<()>
-    requires { lock.now.enterable ≡ true }
+    requires enterable { lock.now.enterable ≡ true }
+    requires layout { lock.now.limits.layout ≡ Layout.One }
 {
     let start = Instant::now(rt)?;
     let good = optimistic_pairs(lock, pairs);
     let start = tell(rt, "optimistic", 1, pairs, start, good)?;
+    let good = known_pairs(lock, pairs);
+    let start = tell(rt, "known", 1, pairs, start, good)?;
     let good = read_pairs(lock, pairs);
     let start = tell(rt, "read", 1, pairs, start, good)?;
     let good = write_pairs(lock, pairs);
@@ -41,10 +44,17 @@ fn alone<R: Eprint + Clock>(rt: &R, lock: &RunningLock, pairs: u64) -> io::Resul
     Ok(())
 }
 
-/// The same pairs by handles.
-fn by_handle<R: Eprint + Clock + Wait>(rt: &R, lock: &StampedLock, pairs: u64) -> io::Result<()> {
+/// The same pairs by handles; first those of a lock whose layout is looked at in each call.
+fn by_handle<R: Eprint + Clock + Wait>(
+    rt: &R,
+    either: &StampedLock<EitherLayout>,
+    lock: &StampedLock,
+    pairs: u64,
+) -> io::Result<()> {
     let mut handle = lock.enter();
     let start = Instant::now(rt)?;
+    let good = handles::optimistic_pairs(either.enter(), pairs);
+    let start = tell(rt, "handle_either", 1, pairs, start, good)?;
     let good = handles::optimistic_pairs(lock.enter(), pairs);
     let start = tell(rt, "handle_optimistic", 1, pairs, start, good)?;
     let good = handles::lent_pairs(&mut handle, pairs);
@@ -56,19 +66,23 @@ fn by_handle<R: Eprint + Clock + Wait>(rt: &R, lock: &StampedLock, pairs: u64) -
     Ok(())
 }
 
-/// Threads that mostly validate, from one to four of them.
-fn together<R: AllocGlobal + Eprint + Clock + Threads + Sync>(
+/// Threads that mostly validate, from one to four of them, by `once` and by handles.
+fn together<R: AllocGlobal + Eprint + Clock + Threads + Wait + Sync>(
     rt: &R,
-    lock: &RunningLock,
+    running: &RunningLock,
+    lock: &StampedLock,
     pairs: u64,
 ) -> io::Result<()>
-    requires { lock.now.enterable ≡ true }
+    requires { running.now.enterable ≡ true }
 {
-    let part = |_: usize| mostly_optimistic(lock, pairs);
+    let by_once = |_: usize| mostly_optimistic(running, pairs);
+    let by_handle = |_: usize| handles::mostly_optimistic(lock.enter(), pairs);
     for threads in 1..5usize {
         let start = Instant::now(rt)?;
-        let good = sum_of(rt, threads, &part);
-        tell(rt, "mostly", threads as u64, pairs, start, good)?;
+        let good = sum_of(rt, threads, &by_once);
+        let start = tell(rt, "mostly", threads as u64, pairs, start, good)?;
+        let good = sum_of(rt, threads, &by_handle);
+        tell(rt, "handle_mostly", threads as u64, pairs, start, good)?;
     }
     Ok(())
 }
@@ -84,14 +98,19 @@ pub fn time<R: AllocGlobal + Clock + Eprint + Threads + Wait + Sync>(
     let Ok((lock, _)) = RunningLock::new_enterable(rt.alloc(), limits) else {
         return Ok(());
     };
+    let Ok(either) = StampedLock::in_layout(rt.alloc(), limits) else {
+        return Ok(());
+    };
     let Ok(handled) = StampedLock::with_limits(rt.alloc(), limits) else {
         return Ok(());
     };
     let pairs = numbers.first.unwrap_or(FEW);
     for _ in 0..numbers.second.unwrap_or(1) {
-        alone(rt, &lock, pairs)?;
-        by_handle(rt, &handled, pairs)?;
-        together(rt, &lock, pairs.wrapping_mul(MORE))?;
+        for _ in 0..numbers.third.unwrap_or(1) {
+            alone(rt, &lock, pairs)?;
+            by_handle(rt, &either, &handled, pairs)?;
+        }
+        together(rt, &lock, &handled, pairs.wrapping_mul(MORE))?;
     }
     Ok(())
 }

@@ -1,10 +1,10 @@
 //! Times gets and puts of a running record, by one thread, and gets by several, with and without a
-//! thread that puts each 10 microseconds; gets and updates by a handle of `stamped_lock`, and updates of
-//! one record by several threads; and loads and stores of a `SeqCell` of the same words.
+//! thread that puts each 10 microseconds; gets and updates by a handle of `stamped_lock`, by one thread
+//! and by several; and loads and stores of a `SeqCell` of the same words.
 //!
-//! `record [CALLS [ROUNDS]]` writes a line for each kind of call and round: its name, how many
+//! `record [CALLS [ROUNDS [OFTEN]]]` writes a line for each kind of call and round: its name, how many
 //! threads, how many calls each made, the nanoseconds from the first to the last, and how many calls
-//! succeeded.
+//! succeeded. In each round what one thread makes is timed this often.
 ghost use Rattle.std.specs.Prelude.{◌≡◌, ◌≤◌, IfSome, true};
 
 mod alike;
@@ -35,8 +35,8 @@ use updates::{updates, updates_by};
 /// How many calls are made where no number says so.
 const FEW: u64 = 1_000;
 
-/// How many times as many calls each of several threads makes, since starting them takes time too.
-const MORE: u64 = 32;
+/// How many times as many calls each of several threads makes, since starting and spreading them takes time too.
+const MORE: u64 = 1_024;
 
 /// The same of updates, each of which takes as long as many gets.
 const MORE_UPDATES: u64 = 4;
@@ -165,6 +165,22 @@ impl<const N: usize> Timed<N> {
         tell(rt, names[8], 1, calls, start, good)?;
         Ok(())
     }
+
+    /// All that one thread makes.
+    fn tell_all<R: Eprint + Clock + Wait>(
+        &self,
+        rt: &R,
+        names: &[&str; 9],
+        calls: u64,
+    ) -> io::Result<()>
+        requires few { (1 ≤ N) × (N ≤ 16) }
+        requires running { (self.now.running.enterable ≡ true) × (self.now.running.shape.width ≡ N) }
+    {
+        self.tell_running(rt, names, calls)?;
+        self.tell_handles(rt, names, calls)?;
+        self.tell_cell(rt, names, calls)?;
+        self.tell_updates(rt, names, calls)
+    }
 }
 
 /// Threads that read two words, beside this many that put them.
@@ -208,6 +224,21 @@ fn together<R: AllocGlobal + Eprint + Clock + Threads + Sync>(
     Ok(())
 }
 
+/// One to four threads that get the same two words by handles.
+fn get_together<R: AllocGlobal + Eprint + Clock + Threads + Sync>(
+    rt: &R,
+    record: &StampedRecord<2, AnyContent>,
+    calls: u64,
+) -> io::Result<()> {
+    let part = |_: usize| handles::gets(record.enter(), calls);
+    for threads in 1..5usize {
+        let start = Instant::now(rt)?;
+        let good = sum_of(rt, threads, &part);
+        tell(rt, "handle_readers", threads as u64, calls, start, good)?;
+    }
+    Ok(())
+}
+
 /// One to four threads that update the same two words.
 fn update_together<R: AllocGlobal + Eprint + Clock + Threads + Wait + Sync>(
     rt: &R,
@@ -233,15 +264,12 @@ pub fn time<R: AllocGlobal + Clock + Eprint + Threads + Wait + Sync>(
     };
     let calls = numbers.first.unwrap_or(FEW);
     for _ in 0..numbers.second.unwrap_or(1) {
-        two.tell_running(rt, &OF_TWO, calls)?;
-        sixteen.tell_running(rt, &OF_SIXTEEN, calls)?;
-        two.tell_handles(rt, &OF_TWO, calls)?;
-        sixteen.tell_handles(rt, &OF_SIXTEEN, calls)?;
-        two.tell_cell(rt, &OF_TWO, calls)?;
-        sixteen.tell_cell(rt, &OF_SIXTEEN, calls)?;
-        two.tell_updates(rt, &OF_TWO, calls)?;
-        sixteen.tell_updates(rt, &OF_SIXTEEN, calls)?;
+        for _ in 0..numbers.third.unwrap_or(1) {
+            two.tell_all(rt, &OF_TWO, calls)?;
+            sixteen.tell_all(rt, &OF_SIXTEEN, calls)?;
+        }
         together(rt, &two.running, calls.wrapping_mul(MORE))?;
+        get_together(rt, &two.handled, calls.wrapping_mul(MORE))?;
         update_together(rt, &two.handled, calls.wrapping_mul(MORE_UPDATES))?;
     }
     Ok(())

@@ -2,11 +2,11 @@
 //! many pairs succeeded.
 ghost use Rattle.std.specs.Prelude.{◌≡◌, true};
 
-use stamp_core::{Call, Reply};
+use stamp_core::{Call, Layout, LayoutOne, Reply};
 use stamp_threads::RunningLock;
 
 /// How many pairs a thread validates before it acquires read mode once.
-const BETWEEN: u64 = 1_024;
+pub const BETWEEN: u64 = 1_024;
 
 /// Asks for an optimistic stamp, and validates it.
 pub fn optimistic_pairs(lock: &RunningLock, pairs: u64) -> u64
@@ -17,6 +17,24 @@ pub fn optimistic_pairs(lock: &RunningLock, pairs: u64) -> u64
     for _ in 0..pairs {
         if let Ok(Reply::Stamp(stamp)) = lock.once(&mut pass, Call::Optimistic) {
             if let Ok(Reply::Yes) = lock.once(&mut pass, Call::Validate(stamp)) {
+                good = good.wrapping_add(1);
+            }
+        }
+    }
+    good
+}
+
+/// The same, by calls that are told the layout.
+pub fn known_pairs(lock: &RunningLock, pairs: u64) -> u64
+    requires enterable { lock.now.enterable ≡ true }
+    requires layout { lock.now.limits.layout ≡ Layout.One }
+{
+    let mut pass = lock.enter();
+    let mut good = 0u64;
+    for _ in 0..pairs {
+        if let Ok(Reply::Stamp(stamp)) = lock.once_in::<LayoutOne>(&mut pass, Call::Optimistic) {
+            let answer = lock.once_in::<LayoutOne>(&mut pass, Call::Validate(stamp));
+            if let Ok(Reply::Yes) = answer {
                 good = good.wrapping_add(1);
             }
         }
