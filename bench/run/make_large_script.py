@@ -1,4 +1,4 @@
-"""Writes the text of the script that the program `large_run` makes: make_large_script.py > FILE.
+"""Writes the text of the script that `refused_memory large` makes: make_large_script.py > FILE.
 
 Run by run_script.py, with and without --report, it gives the counts that the program has to print."""
 import sys

@@ -2,7 +2,7 @@
 
     broken_inputs.py SHIM STAMPED EXPLAIN
 
-Each field's faults alone and in pairs (the earlier one of the table of FORMATS is told, whichever
+Each field's faults alone and in pairs (the earlier one of the list of FORMATS is told, whichever
 stands first in the text), numbers at their edges, keys that stand twice, texts that are no JSON, each
 text cut off at each place. No run leaves a block."""
 import copy

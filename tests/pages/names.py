@@ -58,7 +58,8 @@ def faults_of(page, words):
 
 def main():
     words = {path: words_of(path) for path in files()}
-    pages = ["README.md", "bench/README.md", *sorted(f"docs/{it}" for it in os.listdir(f"{TOP}/docs") if it.endswith(".md"))]
+    pages = ["README.md", "CONTRIBUTING.md", "CHANGELOG.md", "bench/README.md",
+             *sorted(f"docs/{it}" for it in os.listdir(f"{TOP}/docs") if it.endswith(".md"))]
     faults = [fault for page in pages for fault in faults_of(page, words)]
     print("\n".join(faults) or f"{len(pages)} pages: each name stands in the repository, and in the file that they say")
     return 1 if faults else 0

@@ -11,9 +11,8 @@ import textwrap
 
 PAGES = {
     "README.md": ["counter"],
-    "docs/EXAMPLES.md": ["five_calls", "point", "registry", "price_board", "observed_handles", "recorded_run"],
+    "docs/EXAMPLES.md": ["price_board"],
     "docs/JUDGING.md": ["observed_handles"],
-    "docs/TOUR.md": ["stamp_machines_tests", "stamp_threads_tests"],
     "docs/USING.md": ["counter", "config"],
 }
 BLOCK = re.compile(r"^```(rust|antt)\n(.*?)^```$", re.DOTALL | re.MULTILINE)

@@ -1,13 +1,16 @@
 //! Makes each call that takes memory, once. `test` runs this with each allocation refused, one in each run.
 //! A run in which a call answers that memory was refused ends with status 1; each other answer
 //! than the right one is printed, and ends with status 0. With a word, `make`, `check` or `migrate`,
-//! it makes records, and does no more than that with them; with one of `refusals` it makes calls that
-//! are refused for another cause.
+//! it makes records, and does no more than that with them; with `large` it takes a large script through each
+//! call, and prints how much each answered; with one of `refusals` it makes calls that are refused for
+//! another cause.
 #![tactic(auto)]
 
 mod booking;
 mod fault_lines;
 mod judging;
+mod large;
+mod large_text;
 mod orders;
 mod outcome;
 mod pipes;
@@ -23,6 +26,7 @@ mod texts;
 use crate::booking::book_outcome;
 use crate::fault_lines::fault_lines_outcome;
 use crate::judging::{Task, task_outcome};
+use crate::large::large_outcome;
 use crate::orders::{ANSWERED, orders_outcome};
 use crate::outcome::Outcome;
 use crate::refusals::refusal_outcome;
@@ -63,7 +67,7 @@ fn outcome_of_all(rt: &(impl Wait + AllocGlobal), limits: Limits) -> Outcome {
 }
 
 /// The outcome that the first argument asks for, or that of all where there is none.
-fn outcome_given(rt: &(impl Env + Wait + AllocGlobal)) -> Outcome {
+fn outcome_given(rt: &(impl Env + Wait + Print + Eprint + AllocGlobal)) -> Outcome {
     let Ok(limits) = Limits::new(1, 1) else {
         return Outcome::Wrong;
     };
@@ -79,6 +83,7 @@ fn outcome_given(rt: &(impl Env + Wait + AllocGlobal)) -> Outcome {
         "make" => task_outcome(rt.alloc(), Task::Make),
         "check" => task_outcome(rt.alloc(), Task::Check),
         "migrate" => task_outcome(rt.alloc(), Task::Migrate),
+        "large" => large_outcome(rt),
         other => refusal_outcome(rt.alloc(), limits, other),
     }
 }

@@ -9,12 +9,11 @@ use Rattle.stamp_core.specs.Record.{Recorded}
 use Rattle.stamp_core.specs.Linearized.{AreLinearized, MayFollow}
 use Rattle.stamp_core.specs.declared.entry.Entry.{Entry}
 use Rattle.stamp_core.proofs.Linearizing.{linearized_first, linearized_fits}
-use Rattle.stamp_machines.proofs.EntryOrder.{always-in-order}
 use Rattle.stamp_check.specs.declared.checking.Why.{Why}
 use Rattle.stamp_check.specs.declared.checking.Why.TheVariants.{Interval, Order, Overlap, Reply}
 use Rattle.stamp_check.specs.declared.checking.Bad.{Bad}
 use Rattle.stamp_check.specs.FirstFault.{Breaks, IsFirstFault}
-use Rattle.stamp_check.specs.CheckLaws.{FaultsAreExact, OneVerdict, RunsAreAccepted}
+use Rattle.stamp_check.specs.CheckLaws.{FaultsAreExact, OneVerdict}
 
 unfit : (limits : Bounds) (width : ℕ) (before : List Entry) (e : Entry) (why : Why) →
     Breaks limits width before e why → ¬ MayFollow limits width before e
@@ -103,8 +102,3 @@ one_verdict r (Ok n) (Ok m) x y = ap (λ (k : ℕ). Ok k) (x.1 ∙ sym y.1)
 one_verdict r (Ok n) (Err b) x y = absurd (faults_are_exact r b.entry b.why y x.0)
 one_verdict r (Err a) (Ok m) x y = absurd (faults_are_exact r a.entry a.why x y.0)
 one_verdict r (Err a) (Err b) x y = ap (λ (bad : Bad). Err bad) (one_fault r a b x y)
-
-pub runs_are_accepted : RunsAreAccepted
-runs_are_accepted script sound few =
-    let all = (always-in-order script script.steps sound few).linearized in
-    (λ a judgement. one_verdict _ a _ judgement (all, refl), λ a judgement. one_verdict _ a _ judgement (all, refl))

@@ -1,5 +1,5 @@
 //! Laws of checks. Each function does nothing; its contract is the law, over the definitions alone.
-ghost use Rattle.stamp_check.specs.CheckLaws.{FaultsAreExact, OneVerdict, RunsAreAccepted};
+ghost use Rattle.stamp_check.specs.CheckLaws.{FaultsAreExact, OneVerdict};
 
 /// What has a fault is not linearized.
 pub fn faults_are_exact()
@@ -9,9 +9,4 @@ pub fn faults_are_exact()
 /// There is one judgement of a recorded history at most: `check` answers it.
 pub fn one_verdict()
     ensures { OneVerdict }
-{}
-
-/// `check` accepts what `run` and `run_reported` give, whatever the script.
-pub fn runs_are_accepted()
-    ensures { RunsAreAccepted }
 {}

@@ -24,7 +24,7 @@ pub enum Why {
 pub struct Bad {
     /// The first entry that breaks something, counted from 0.
     pub entry: u64,
-    /// The first thing that it breaks.
+    /// The first thing that it breaks, in the order of `Why`.
     pub why: Why,
 }
 
@@ -48,9 +48,9 @@ impl fmt::Display for Bad {
 
 impl Error for Bad {}
 
-/// Walks once over the entries of a history, in the order of the list: how many they are, where all
-/// are linearized by their points, and else the first fault. It takes no memory, and does not look
-/// at the report.
+/// Checks that a history's entries are linearized by their points, or tells the first fault. It
+/// walks once over them, in the order of the list, and answers how many they are. It takes no
+/// memory, and does not look at the report.
 pub fn check(history: &Record) -> Result<u64, Bad>
     ensures { IsJudgement history.now result }
 {

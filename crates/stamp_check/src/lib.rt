@@ -1,5 +1,5 @@
-//! Recorded histories: whether the sequential lock explains one, and one of layout 1 spelled anew in
-//! layout 2.
+//! Recorded histories: whether the sequential lock explains one, and one of layout 1 spelled anew
+//! in layout 2. Each call returns, and none fails for want of memory.
 #![tactic(auto)]
 
 pub mod check_laws;

@@ -8,8 +8,8 @@ use stamp_core::{Call, CoreError, Entry, Layout, Limits, Record, Reply, respell}
 use std::error::Error;
 use std::fmt;
 
-/// Why a history is not migrated (1): an entry was answered a number which is neither 0 nor a stamp of
-/// layout 1 of a version up to 2^46-2.
+/// Why a history is not migrated (1), and the history. An entry was answered a number which is
+/// neither 0 nor a stamp of layout 1 of a version up to 2^46-2.
 #[derive(Drop)]
 pub struct BadReply {
     /// The first such entry, counted from 0.
@@ -126,12 +126,13 @@ fn in_layout_two(history: Record) -> Record
     }
 }
 
-/// The history spelled in layout 2: stamps that calls take and replies keep their kind, version and
-/// count there, and a number that is no stamp, or is of a version that layout 2 has not, becomes 0.
-/// The limits become those of layout 2 with the same readers and the smaller of the two numbers of
-/// versions. A history of layout 2 comes back as it is. One of layout 1 is refused exactly where some
-/// call was answered a number other than 0 that is no stamp which layout 2 can spell; the refusal
-/// returns the history. A linearized history has no such reply, and is never refused.
+/// Spells a recorded history of layout 1 in layout 2, where `check` says the same of it. Stamps
+/// that calls take and replies keep their kind, version and count there, and a number that is no
+/// stamp, or is of a version that layout 2 has not, becomes 0. The limits become those of layout 2
+/// with the same readers, and with the versions, or 2^46-2 where they are more. All else stays, and
+/// a history of layout 2 comes back as it is. One of layout 1 is refused as 1 `BadReply`, exactly
+/// where some call was answered a number other than 0 that is no stamp which layout 2 can spell;
+/// the refusal returns the history. A linearized history has no such reply, and is never refused.
 pub fn migrate(history: Record) -> Result<Record, BadReply>
     ensures ok { IsOk result ↔ CanMigrate history }
     ensures migrated { IfOk result (λ r. r ≡ migrated history) }

@@ -2,8 +2,8 @@
 //! alone.
 ghost use Rattle.stamp_check.specs.MigrationLaws.{RespellingIsOfStamps, LinearizedMigrates, MigrationKeepsLinearized, MigrationKeepsFaults, MigrationKeepsVerdicts};
 
-/// A stamp is respelled to the stamp of the same kind, version and count in layout 2, and a number
-/// that is none there to 0.
+/// A migrated stamp is what `respell` answers. It has the same kind, version and count in layout 2,
+/// and a number that is none there becomes 0.
 pub fn respelling_is_of_stamps()
     ensures { RespellingIsOfStamps }
 {}

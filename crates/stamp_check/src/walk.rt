@@ -38,8 +38,8 @@ fn is_above(before: Option<u64>, n: u64) -> bool
     }
 }
 
-/// What a record of this width holds at first: zeros. It is one zero where there is no record, and for
-/// a width above 16, which no record has.
+/// What a record of this width holds at first: zeros. It is one zero where there is no record, and
+/// for a width above 16, which no record has; that is by the code alone, and no contract says it.
 pub fn first_content(width: u64) -> Words
     ensures { 0 < width → width ≤ 16 → result ≡ zeros width }
 {

@@ -135,7 +135,7 @@ impl fmt::Display for FaultLine {
     }
 }
 
-/// The line for standard error, without its line feed. It refuses only for want of memory.
+/// The fault's line for standard error, without its line feed. It refuses only for want of memory.
 pub fn fault_line(alloc: Global, fault: &ServeFault) -> Result<String, ServeFault>
     ensures text { IfOk result (λ line. string_bytes line ≡ fault_text fault.now) }
     ensures refused { IsOkUnless result ServeFault.Memory }

@@ -44,8 +44,9 @@ fn read_more<S: Source>(
     Ok(taken > 0)
 }
 
-/// The input to its end, or to one byte past the most, 16,777,216. Errors: `ReadFault` where a read
-/// answered one, and `Memory`. What was read is gone after either.
+/// Reads the input to its end, or to one byte past the most, 16,777,216. There are at most
+/// 16,777,217 reads, none after one that failed or took no byte. Errors: 1 `ReadFault` exactly
+/// where a read answered one, and 5 `Memory`. What was read is gone after either.
 pub fn read_input<S: Source>(alloc: Global, source: &mut S) -> Result<Vec<u8>, ServeFault>
     ensures reads { MakesAtMost (S.reads source.old) (S.reads source.new) most_reads most_taken }
     ensures took { TakesAtMost (S.left source.old) (S.left source.new) most_taken }

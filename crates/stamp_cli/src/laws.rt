@@ -9,22 +9,22 @@ pub fn one_answer()
     ensures { OneAnswer }
 {}
 
-/// The line of `run`, with its line feed, is accepted by `check` where it is no longer than an input may
-/// be: what `check` answers is `ok` and the number of the calls that the script finishes, and nothing
-/// else. So it is with a report, too.
+/// `check` accepts the line of `run` where it is no longer than an input may be. Of that line, with
+/// its line feed, what `check` answers is `ok` and the number of the calls that the script
+/// finishes, and nothing else. So it is with a report, too.
 pub fn run_lines_are_accepted()
     ensures { RunLinesAreAccepted }
 {}
 
-/// An input that `check` accepts is a linearized history, and the answer of `migrate` to it is a line:
-/// the text of that history in layout 2. No refusal is an answer to it. Want of memory and a failed read
-/// or write are no answers.
+/// An input that `check` accepts is a linearized history, and `migrate` answers it by a line. The
+/// line is the text of that history in layout 2. No refusal is an answer to it. Want of memory and
+/// a failed read or write are no answers.
 pub fn accepted_migrates()
     ensures { AcceptedMigrates }
 {}
 
-/// A check answers the line of a migration, with its line feed, as it answers the input that was
-/// migrated, and in no other way, where that line is no longer than an input may be.
+/// `check` answers a migration's line, if it is no longer than an input may be, as the migrated
+/// input. It answers that line, with its line feed, in no other way.
 pub fn migration_keeps_lines()
     ensures { MigrationKeepsLines }
 {}

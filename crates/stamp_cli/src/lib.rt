@@ -1,5 +1,11 @@
-//! The engine of the program `stamped`: its command line, its input, and the line that answers it; and
-//! the ends of that, which other programs have too.
+//! The engine of the program `stamped`: its command line, its input, and the line that answers it;
+//! and the ends of that, which other programs have too.
+//!
+//! Contracts speak of bytes only for sources and sinks that state theirs, as those over readers and
+//! writers in memory do; standard input and output don't. Of every source and sink they say how
+//! many reads and writes a call makes, whether one failed, whether the input was read to its end,
+//! and its length. Tested, not proved: that memory is wanting only where an allocation was refused,
+//! and that a refusal leaves no block of memory.
 #![tactic(auto)]
 
 mod answer;

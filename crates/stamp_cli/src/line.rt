@@ -20,7 +20,7 @@ pub struct Line {
     pub verdict: Verdict,
 }
 
-/// The line of an answer.
+/// Makes the line of an answer from its text.
 pub fn accepted(text: Vec<u8>) -> Line
     ensures text { result.text ≡ text }
     ensures verdict { result.verdict ≡ Verdict.Accepted }
@@ -31,7 +31,7 @@ pub fn accepted(text: Vec<u8>) -> Line
     }
 }
 
-/// The line which says that a history is bad, or isn't known to be good.
+/// Makes the line which says that a history is bad, or isn't known to be good.
 pub fn rejected(text: Vec<u8>) -> Line
     ensures text { result.text ≡ text }
     ensures verdict { result.verdict ≡ Verdict.Bad }

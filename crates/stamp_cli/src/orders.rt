@@ -51,7 +51,7 @@ fn is_digits(text: &str) -> bool
     text.bytes().all(|byte| byte.is_ascii_digit())
 }
 
-/// Reads a number below 2^64 from a text of decimal digits alone; `None` where the text is none.
+/// Reads a number below 2^64 from a text of decimal digits alone. `None` where the text is none.
 #[tactic(auto, using(crate::proofs::Digits::number_parsed))]
 pub fn number_in(text: &str) -> Option<u64>
     ensures { result ≡ order.number_in text.now }
@@ -117,7 +117,8 @@ fn form_of(args: &[&str]) -> Option<Order>
     }
 }
 
-/// The command that the program's arguments give. Errors: 1 `Bad` where they are no form of the command line.
+/// The command that the program's arguments give. Errors: 1 `Bad` exactly where they are no form of
+/// the command line.
 pub fn order_of(args: &[&str]) -> Result<Order, CommandFault>
     ensures { result ≡ order.order_in (map (λ arg. arg.now) args.now) }
 {

@@ -29,8 +29,9 @@ fn write_some<K: Sink>(sink: &mut K, bytes: &[u8]) -> Result<usize, ServeFault>
     }
 }
 
-/// Writes the text and nothing else, or, where a write answered an error or took no byte, a front of it:
-/// `WriteFault` then.
+/// Writes the text and nothing else, by writes that each take a byte. Exactly where one answers an
+/// error or takes none it refuses, as 6 `WriteFault`, makes no more, and a front of the text is
+/// out, not all.
 pub fn write_text<K: Sink>(sink: &mut K, text: &[u8]) -> Result<(), ServeFault>
     ensures ok { OnOk result (Appends (K.sent sink.old) (K.sent sink.new) text.now) }
     ensures whole { OnOk result (Makes (K.writes sink.old) (K.writes sink.new) (length text.now)) }

@@ -13,12 +13,17 @@ use crate::sinks::Sink;
 use crate::sources::Source;
 use std::alloc::Global;
 
-/// Answers the command: reads what it needs of the source and writes one line, or says why not. What it
-/// returns is `Verdict::Bad` where the line says that a history is bad, and else `Verdict::Accepted`. Where
-/// a write fails, 6 `WriteFault`, a beginning of the line may be out; any other refusal writes nothing.
-/// What was read of the source is gone also after a refusal. An input has at most 16,777,216 bytes (one
-/// more may be taken, which shows that it is too long); the readings of `stamp_history` by themselves
-/// have no such limit.
+/// Answers the command: reads what it needs of the source and writes one line, or says why not.
+/// What it returns is `Verdict::Bad` where the line says that a history is bad, and else
+/// `Verdict::Accepted`. The source and the sink may have been used before, failed ones too.
+/// 1 `ReadFault` comes exactly where a read answers an error, 6 `WriteFault` exactly where a write
+/// does or takes no byte; in place of the other answers 5 `Memory` may come. After 6 a beginning of
+/// the line may be out, and not all of it with its line feed; any other refusal writes nothing.
+/// What was read of the source is gone also after a refusal, and after 1 and 5 nothing is said of
+/// what is left. An input has at most 16,777,216 bytes (one more may be taken, which shows that it
+/// is too long); the readings of `stamp_history` by themselves have no such limit. There are at
+/// most 16,777,217 reads, none after one that failed or took no byte, and none for a stamp. Unless
+/// it ends as 1 or 5, each other command reads to the end, or to that one byte more.
 pub fn serve<S: Source, K: Sink>(
     alloc: Global,
     order: Order,

@@ -10,7 +10,7 @@ use crate::kept_results::KeptResults;
 use std::io;
 use std::io::Write;
 
-/// What is written to.
+/// Where a command writes its line to.
 pub trait Sink {
     // The bytes that went out, where they are known.
     ghost sent: { Self → Option (List ℕ) };
@@ -19,7 +19,7 @@ pub trait Sink {
     ghost writes: { Self → List (Result ℕ Error) };
 
     /// Writes the front of the bytes, and tells how many it took. There is a byte to take, so that
-    /// a write that takes none has failed.
+    /// a write that takes none has failed. After an error known bytes are as they were.
     fn write(&mut self, bytes: &[u8]) -> io::Result<usize>
         requires { 0 < length bytes.now }
         ensures kept { writes self.new ≡ writes self.old ++ result ∷ [] }
@@ -27,7 +27,8 @@ pub trait Sink {
         ensures bytes { WriteAppends (sent self.old) (sent self.new) result bytes.now };
 }
 
-/// A writer of std as a `Sink`.
+/// A writer of std as a `Sink`. Tested, not proved: a write is one write of its writer, and returns
+/// its result. The results that contracts speak of take no memory.
 #[derive(Drop)]
 pub struct WriteSink<W> {
     writer: W,

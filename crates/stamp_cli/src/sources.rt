@@ -10,7 +10,7 @@ use crate::kept_results::KeptResults;
 use std::io;
 use std::io::Read;
 
-/// What is read from.
+/// Where a command reads its input from.
 pub trait Source {
     // The bytes that reads will give from here on, where they are known.
     ghost left: { Self → Option (List ℕ) };
@@ -18,14 +18,16 @@ pub trait Source {
     // The results of the reads so far.
     ghost reads: { Self → List (Result ℕ Error) };
 
-    /// Reads bytes into the front of the buffer, and tells how many; 0 at the end.
+    /// Reads bytes into the front of the buffer, and tells how many; 0 at the end. Where the bytes
+    /// are known, 0 comes only at the end or where there is no room, and an error takes none.
     fn read(&mut self, buffer: &mut [u8]) -> io::Result<usize>
         ensures kept { reads self.new ≡ reads self.old ++ result ∷ [] }
         ensures bound { ReadsAtMost result buffer.new }
         ensures bytes { ReadConsumes (left self.old) (left self.new) result buffer.new };
 }
 
-/// A reader of std as a `Source`.
+/// A reader of std as a `Source`. Tested, not proved: a read is one read of its reader, and returns
+/// its result. The results that contracts speak of take no memory.
 #[derive(Drop)]
 pub struct ReadSource<R> {
     reader: R,

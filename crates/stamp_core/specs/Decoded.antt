@@ -1,4 +1,4 @@
--- How a word is read back: the counts of its number. Public contracts speak of events and never of these.
+-- How a word is read back: the counts of its number. Public contracts speak of events, but for `decide` on numbers.
 use Rattle.std.specs.Prelude.{ℕ, ◌≤◌, ◌<◌, ◌+◌, ◌-◌, ◌^◌, ◌/◌, ◌%◌, ◌==◌, List, [], ◌∷◌, if◌then◌else◌}
 use Rattle.stamp_core.specs.LockEvent.{LockEvent, Counts}
 use Rattle.stamp_core.specs.LockEvent.LockEvent.{WriteAcquired, WriteReleased, ReadAcquired, ReadReleased}

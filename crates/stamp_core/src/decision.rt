@@ -16,7 +16,7 @@ use crate::word::Word;
 pub enum Decision {
     /// It is answered, and the word stays.
     Answer(Reply),
-    /// The word is to become this one, and then the call is answered.
+    /// The word is to become this other one, and then the call is answered.
     Change(Word, Reply),
     /// It waits: `WriteLock` and `ReadLock` alone do.
     Wait,
@@ -36,8 +36,8 @@ pub fn decide(limits: Limits, word: Word, call: Call) -> Decision
     decide_lock(limits, word, &call).as_decision()
 }
 
-/// The word after a call of the lock on a word that the limits admit, and the reply; `None` where the call
-/// waits.
+/// What a call of the lock makes of a word that the limits admit: the word after it, and the reply.
+/// `None` where the call waits.
 pub fn transition(limits: Limits, word: Word, call: Call) -> Option<(Word, Reply)>
     requires admitted { IsAdmitted limits word }
     requires lock_call { IsTrue (is_lock_call call) }

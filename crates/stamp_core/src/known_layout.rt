@@ -2,8 +2,8 @@
 use crate::layout::Layout;
 use crate::limits::Limits;
 
-/// What a type says of the layout of limits. Where it fixes the layout, the compiler sees a constant, and
-/// calls on a lock of these limits have no test of it.
+/// A type that stands for one layout of limits, or for either. Where it fixes the layout, the
+/// compiler sees a constant, and calls on a lock of these limits have no test of it.
 pub trait KnownLayout {
     ghost use Rattle.std.specs.Prelude.{◌≡◌};
     ghost use Rattle.stamp_core.specs.declared.layout.Layout.{Layout};
@@ -17,7 +17,7 @@ pub trait KnownLayout {
         ensures layout { result ≡ limits.layout };
 }
 
-/// Layout 1.
+/// Stands for layout 1.
 #[derive(Drop)]
 pub struct LayoutOne;
 
@@ -32,7 +32,7 @@ impl KnownLayout for LayoutOne {
     }
 }
 
-/// Layout 2.
+/// Stands for layout 2.
 #[derive(Drop)]
 pub struct LayoutTwo;
 
@@ -47,7 +47,7 @@ impl KnownLayout for LayoutTwo {
     }
 }
 
-/// Either layout: that of the limits, which is looked at whenever a call is made.
+/// Stands for either layout: that of the limits, which is looked at whenever a call is made.
 #[derive(Drop)]
 pub struct EitherLayout;
 

@@ -23,7 +23,8 @@ impl Layout {
         }
     }
 
-    /// The unit of the writer: what acquiring write mode adds to a number.
+    /// The unit of the writer, which acquiring write mode adds to a number: 128, in layout 2
+    /// 65,536.
     #[inline(always)]
     pub fn writer_unit(self) -> u64
         ensures { result ≡ (units_of self).writer }
@@ -34,7 +35,7 @@ impl Layout {
         }
     }
 
-    /// The most readers.
+    /// The most readers that the layout has room for: 127, in layout 2 65,535.
     pub fn most_readers(self) -> u64
         ensures { result ≡ (units_of self).readers }
     {
@@ -44,7 +45,7 @@ impl Layout {
         }
     }
 
-    /// The most write acquisitions.
+    /// The most write acquisitions that the layout has room for: 2^55-2, in layout 2 2^46-2.
     pub fn most_versions(self) -> u64
         ensures { result ≡ (units_of self).versions }
     {
@@ -84,8 +85,8 @@ impl Layout {
         self.holders_of(number) == self.writer_unit()
     }
 
-    /// How often write mode was acquired, by the number of a word, which is 256 or more (in layout 2
-    /// 131,072 or more).
+    /// How often write mode was acquired, by the number of a word. The number is 256 or more (in
+    /// layout 2 131,072 or more).
     #[inline(always)]
     pub fn writes_of(self, number: u64) -> u64
         requires { (units_of self).version ≤ number }
@@ -99,8 +100,8 @@ impl Layout {
         }
     }
 
-    /// The number of the word that a writer leaves behind, for the stamp that it had, which is below 2^63:
-    /// one writer's unit more.
+    /// The number of the word that a writer with this stamp leaves behind. It is one writer's unit
+    /// more than the stamp, which is below 2^63.
     #[inline(always)]
     pub fn released(self, stamp: u64) -> u64
         requires { stamp < 2 ^ 63 }

@@ -1,5 +1,6 @@
 //! The sequential lock on one packed word: its words and stamps, what each call does, and recorded
-//! histories.
+//! histories. Each call returns, and only `replay` may fail for want of memory. That it does so
+//! only where an allocation was refused is tested, not proved.
 #![tactic(auto)]
 
 mod call;

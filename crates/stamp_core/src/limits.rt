@@ -54,8 +54,8 @@ impl Model for Limits {
 }
 
 impl Limits {
-    /// Limits of layout 1: 1 to 127 readers, and up to 2^55-2 write acquisitions; others are refused
-    /// as 1 `LimitsOutOfRange`.
+    /// Makes limits of layout 1, with 1 to 127 readers and up to 2^55-2 write acquisitions. Others
+    /// are refused as 1 `LimitsOutOfRange`.
     pub fn new(readers: u64, versions: u64) -> Result<Limits, CoreError>
         ensures ok { IfOk result (λ limits. limits ≡ bounds Layout.One readers versions) }
         ensures in_range { IsOk result ↔ AreInRange (bounds Layout.One readers versions) }
@@ -63,8 +63,8 @@ impl Limits {
         Limits::in_layout(Layout::One, readers, versions)
     }
 
-    /// Limits of a layout; in layout 2 up to 65,535 readers and 2^46-2 write acquisitions. Others are
-    /// refused as 1 `LimitsOutOfRange`.
+    /// Makes limits of a layout, of layout 1 as `new` does. In layout 2 they have 1 to 65,535
+    /// readers and up to 2^46-2 write acquisitions. Others are refused as 1 `LimitsOutOfRange`.
     pub fn in_layout(layout: Layout, readers: u64, versions: u64) -> Result<Limits, CoreError>
         ensures ok { IfOk result (λ limits. limits ≡ bounds layout readers versions) }
         ensures in_range { IsOk result ↔ AreInRange (bounds layout readers versions) }
@@ -93,7 +93,7 @@ impl Limits {
         }
     }
 
-    /// The limits themselves. Where `L` fixes the layout, the compiler sees it.
+    /// The limits themselves, of which the compiler sees the layout where `L` fixes it.
     #[inline(always)]
     pub fn seen<L: KnownLayout>(self) -> Limits
         requires { L.seen self.layout ≡ self.layout }

@@ -74,7 +74,7 @@ impl LockDecision {
     }
 }
 
-/// Decides a call of the lock by the word found, which is one that the limits admit, as `decide` does.
+/// As `decide`, in fewer bytes: its replies have no room for the words of a record.
 #[inline(always)]
 pub fn decide_lock(limits: Limits, word: Word, call: &Call) -> LockDecision
     requires admitted { IsAdmitted limits word }

@@ -15,9 +15,9 @@ pub const MOST_ENTRIES: usize = 640_000;
 /// The most threads of a recorded history.
 pub const MOST_THREADS: u64 = 64;
 
-/// A recorded history: the calls of a lock, and of the record of `width` words that it guards, if
-/// there is one (width 0 is none). A report has a pair for each entry: the steps that the call took,
-/// and the steps of others meanwhile that changed the lock's word.
+/// A recorded history: the calls of a lock, and of the record that it guards, if there is one. The
+/// record has `width` words, and width 0 is none. A report has a pair for each entry: the steps
+/// that the call took, and the steps of others meanwhile that changed the lock's word.
 #[derive(Drop)]
 pub struct Record {
     limits: Limits,
@@ -68,9 +68,9 @@ fn all_suit(width: u64, entries: &[Entry]) -> bool
 }
 
 impl Record {
-    /// A recorded history with no report. There is none exactly where the entries are over 640,000, the width
-    /// is over 16, a thread is 64 or more, or a call does not suit the width; the entries are dropped
-    /// then.
+    /// Makes a recorded history with no report. There is none exactly where the entries are over
+    /// 640,000, the width is over 16, a thread is 64 or more, or a call does not suit the width;
+    /// the entries are dropped then (tested, not proved).
     pub fn of(limits: Limits, width: u64, entries: Vec<Entry>) -> Option<Record>
         ensures some { IsSome result ↔ IsRecorded (recorded limits width entries.items []) }
         ensures same { IfSome result (λ made. made ≡ recorded limits width entries.items []) }
@@ -79,8 +79,9 @@ impl Record {
         Record::of_reported(limits, width, entries, report)
     }
 
-    /// A recorded history with a report, which is empty or has a pair for each entry: where it isn't, and where
-    /// `of` gives none, there is none, and both lists are dropped.
+    /// Makes a recorded history with a report, which is empty or has a pair for each entry. Where
+    /// it isn't so, and where `of` gives none, there is none, and both lists are dropped (tested,
+    /// not proved).
     pub fn of_reported(
         limits: Limits,
         width: u64,
@@ -109,7 +110,7 @@ impl Record {
         }
     }
 
-    /// The parts of a recorded history, which make it again.
+    /// Takes a recorded history apart: limits, width, entries and report, which make it again.
     pub fn into_parts(self) -> (Limits, u64, Vec<Entry>, Vec<(u64, u64)>)
         ensures parts { self ≡ recorded result.0 result.1 result.2.items result.3.items }
         ensures known { IsRecorded self }

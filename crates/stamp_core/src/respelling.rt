@@ -22,8 +22,8 @@ fn spelled(kind: StampKind, stamp: u64) -> u64
     }
 }
 
-/// The stamp of the same kind, version and count in layout 2; 0 for a number that is no stamp of
-/// layout 1, and for a version that layout 2 has not.
+/// Spells a stamp of layout 1 as that of the same kind, version and count in layout 2. It is 0 for
+/// a number that is no stamp of layout 1, and for a version above 2^46-2, which layout 2 has not.
 #[tactic(auto, unfolding(crate::specs::Layout::units_of))]
 pub fn respell(stamp: u64) -> u64
     ensures { IsRespelled stamp result }

@@ -7,7 +7,7 @@ ghost use Rattle.stamp_core.specs.StampKind.{HasKind, OfSomeVersion};
 use crate::layout::Layout;
 use crate::word::Word;
 
-/// What a number is as a stamp.
+/// What a number is as a stamp, which its spelling alone decides, whoever issued it.
 #[derive(Clone, Copy, Debug, PartialEq, Eq)]
 pub enum StampKind {
     /// The stamp of this write acquisition, counted from 1.
@@ -38,21 +38,21 @@ pub fn stamp_kind_in(layout: Layout, stamp: u64) -> StampKind
     }
 }
 
-/// Whether it is the stamp of a write acquisition.
+/// Whether a number is, in the layout, the stamp of a write acquisition.
 pub fn is_write_stamp_in(layout: Layout, stamp: u64) -> bool
     ensures { IsTrue result ↔ OfSomeVersion (λ k. IsWriteStamp (units_of layout) k stamp) }
 {
     matches!(stamp_kind_in(layout, stamp), StampKind::Write(_))
 }
 
-/// Whether it is a read stamp.
+/// Whether a number is a read stamp of the layout.
 pub fn is_read_stamp_in(layout: Layout, stamp: u64) -> bool
     ensures { IsTrue result ↔ OfSomeVersion (λ k. IsReadStamp (units_of layout) k stamp) }
 {
     matches!(stamp_kind_in(layout, stamp), StampKind::Read(_, _))
 }
 
-/// Whether it is a write stamp or a read stamp.
+/// Whether a number is a write stamp or a read stamp of the layout.
 pub fn is_lock_stamp_in(layout: Layout, stamp: u64) -> bool
     ensures { IsTrue result ↔ (OfSomeVersion (λ k. IsWriteStamp (units_of layout) k stamp)
         ⊎ OfSomeVersion (λ k. IsReadStamp (units_of layout) k stamp)) }
@@ -60,7 +60,7 @@ pub fn is_lock_stamp_in(layout: Layout, stamp: u64) -> bool
     is_write_stamp_in(layout, stamp) || is_read_stamp_in(layout, stamp)
 }
 
-/// Whether it is the stamp of an optimistic read.
+/// Whether a number is, in the layout, the stamp of an optimistic read.
 pub fn is_optimistic_stamp_in(layout: Layout, stamp: u64) -> bool
     ensures { IsTrue result ↔ OfSomeVersion (λ k. IsOptimisticStamp (units_of layout) k stamp) }
 {
@@ -74,21 +74,21 @@ pub fn stamp_kind(stamp: u64) -> StampKind
     stamp_kind_in(Layout::One, stamp)
 }
 
-/// Whether it is the stamp of a write acquisition in layout 1.
+/// Whether a number is the stamp of a write acquisition in layout 1.
 pub fn is_write_stamp(stamp: u64) -> bool
     ensures { IsTrue result ↔ OfSomeVersion (λ k. IsWriteStamp (units_of Layout.One) k stamp) }
 {
     is_write_stamp_in(Layout::One, stamp)
 }
 
-/// Whether it is a read stamp in layout 1.
+/// Whether a number is a read stamp in layout 1.
 pub fn is_read_stamp(stamp: u64) -> bool
     ensures { IsTrue result ↔ OfSomeVersion (λ k. IsReadStamp (units_of Layout.One) k stamp) }
 {
     is_read_stamp_in(Layout::One, stamp)
 }
 
-/// Whether it is a write stamp or a read stamp in layout 1.
+/// Whether a number is a write stamp or a read stamp in layout 1.
 pub fn is_lock_stamp(stamp: u64) -> bool
     ensures { IsTrue result ↔ (OfSomeVersion (λ k. IsWriteStamp (units_of Layout.One) k stamp)
         ⊎ OfSomeVersion (λ k. IsReadStamp (units_of Layout.One) k stamp)) }
@@ -96,7 +96,7 @@ pub fn is_lock_stamp(stamp: u64) -> bool
     is_lock_stamp_in(Layout::One, stamp)
 }
 
-/// Whether it is the stamp of an optimistic read in layout 1.
+/// Whether a number is the stamp of an optimistic read in layout 1.
 pub fn is_optimistic_stamp(stamp: u64) -> bool
     ensures { IsTrue result ↔ OfSomeVersion (λ k. IsOptimisticStamp (units_of Layout.One) k stamp) }
 {

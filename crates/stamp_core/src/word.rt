@@ -68,7 +68,7 @@ impl Word {
         Word::opening_in(Layout::One)
     }
 
-    /// The word of this number; `None` where no state of a lock has it.
+    /// The word of this number in a layout; `None` where no state of a lock has it.
     pub fn from_bits_in(layout: Layout, bits: u64) -> Option<Word>
         ensures bits { IfSome result (λ word. word ≡ word_in layout bits) }
         ensures some { IsSome result ↔ IsAdmitted (widest layout) (word_in layout bits) }
@@ -91,7 +91,7 @@ impl Word {
         self.layout
     }
 
-    /// The number itself.
+    /// The number of the word.
     pub fn bits(&self) -> u64
         ensures bits { result ≡ self.now.bits }
         ensures admitted { IsAdmitted (widest self.now.layout) self.now }

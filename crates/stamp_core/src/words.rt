@@ -39,7 +39,7 @@ impl Model for Words {
 }
 
 impl Words {
-    /// The words; `None` for none, or for more than sixteen.
+    /// Makes words of a slice; `None` where it has none, or more than sixteen.
     pub fn new(words: &[u64]) -> Option<Words>
         ensures some { IsSome result ↔ ((1 ≤ length words.now) × (length words.now ≤ 16)) }
         ensures same { IfSome result (λ made. made ≡ words.now) }

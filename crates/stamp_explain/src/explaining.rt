@@ -13,7 +13,7 @@ use std::alloc::{AllocError, Global};
 use std::error::Error;
 use std::fmt;
 
-/// Why a history isn't explained. Nothing is kept after any of them.
+/// Why a history isn't explained. Entries count from 0. Nothing is kept after any of them.
 #[derive(Clone, Copy, Debug, PartialEq, Eq)]
 pub enum ExplainError {
     /// 1: it is explained until this entry returns, and no longer: no order explains it.
@@ -85,12 +85,13 @@ fn without_order(
     Err(refusal_of(alloc, observed, return_keys.as_slice(), most, unexplained)?)
 }
 
-/// Explains an observed history: finds an order in which a single-threaded lock and record give its calls these
-/// replies, and makes a recorded history of it, with a point for each call. Position p becomes the positions
-/// 64 p to 64 p + 63; a call under way that took effect ends with the history, and one that didn't is left out.
-/// A search gives up once it has looked at more than `most` configurations. Refuses as 1 `Stuck` or
-/// 2 `Unexplained`, where no order explains the history, 3 `Undecided`, where that isn't known, or 4 `Memory`,
-/// where an allocation was refused. It refuses as 2 or 3 only where a search gives up.
+/// Finds an order that explains an observed history, and answers a recorded history of it. In that
+/// order a single-threaded lock and record give its calls these replies, and each call has a point.
+/// Position p becomes the positions 64 p to 64 p + 63; a call under way that took effect ends with
+/// the history, and one that didn't is left out. A search gives up once it has looked at more than
+/// `most` configurations. Refuses as 1 `Stuck` or 2 `Unexplained`, where no order explains the
+/// history, 3 `Undecided`, where that isn't known, or 4 `Memory`, where an allocation was refused.
+/// It refuses as 2 or 3 only where a search gives up.
 pub fn explain(alloc: Global, observed: &Observed, most: u64) -> Result<Record, ExplainError>
     requires { IsObserved observed.now }
     ensures { IsAnswer observed.now most result }

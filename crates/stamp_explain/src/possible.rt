@@ -12,7 +12,7 @@ use std::alloc::{AllocError, Global};
 use std::error::Error;
 use std::fmt;
 
-/// Why it isn't told which replies are possible.
+/// Why it isn't told which replies are possible. Nothing is kept after either.
 #[derive(Clone, Copy, Debug, PartialEq, Eq)]
 pub enum PossibleError {
     /// 1: a search gives up, with a reply that is tried; or that for the replies which the call gets, which
@@ -103,7 +103,8 @@ fn is_possible(
     }
 }
 
-/// Whether there is this entry and its call has returned, so that its possible replies may be asked for.
+/// Whether there is an entry of this index whose call has returned. Its possible replies may be
+/// asked for then.
 #[tactic(auto, using(crate::proofs::Replying::return_here, crate::proofs::Replying::no_return_here, crate::proofs::Replying::no_entry_here))]
 pub fn has_returned_at(observed: &Observed, entry: usize) -> bool
     ensures { IsTrue result ↔ IsReturnAt observed.now.entries entry }
@@ -124,11 +125,11 @@ fn push(replies: &mut Vec<Reply>, reply: Reply) -> Result<(), AllocError>
     Ok(())
 }
 
-/// Which of these replies the call of this entry could have had: with such a one instead of its own, the cut
-/// with its return is explained. Replies that are all different are answered once each, in no promised order.
-/// For each there is a search of the lock's calls, and one of the record's. Refuses as 1 `Undecided`, where one
-/// gives up once it has looked at more than `most` configurations, or 2 `Memory`, where an allocation was
-/// refused.
+/// Which of these replies the call of this entry could have had. With such a one instead of its
+/// own, the cut with its return is explained. Replies that are all different are answered once
+/// each, in no promised order. For each there is a search of the lock's calls, and one of the
+/// record's. Refuses as 1 `Undecided`, where one gives up once it has looked at more than `most`
+/// configurations, or 2 `Memory`, where an allocation was refused.
 pub fn possible_among(
     alloc: Global,
     observed: &Observed,
@@ -151,12 +152,12 @@ pub fn possible_among(
     Ok(found)
 }
 
-/// All replies that the call of this entry could have had, each once: with such a one instead of its own, and
-/// with no other, the cut with its return is explained. None, where it would have waited, or where the cut
-/// before its return is not explained. There is a search for what the other calls may do before it, and one for
-/// each reply that it gets then. Refuses as 1 `Undecided`, where the first reaches more than `most`
-/// configurations, or another gives up once it has looked at more, or 2 `Memory`, where an allocation was
-/// refused.
+/// All replies that the call of this entry could have had, each once, in no promised order. With
+/// such a one instead of its own, and with no other, the cut with its return is explained. There is
+/// none where it would have waited, or where the cut before its return is not explained. There is a
+/// search for what the other calls may do before it, and one for each reply that it gets then.
+/// Refuses as 1 `Undecided`, where the first reaches more than `most` configurations, or another
+/// gives up once it has looked at more, or 2 `Memory`, where an allocation was refused.
 pub fn possible_at(
     alloc: Global,
     observed: &Observed,

@@ -29,4 +29,5 @@ pub mod RunReplies
 pub mod NumbersRead
 pub mod ScriptNumbers
 pub mod RunsReadAgain
+pub mod RunsAccepted
 pub mod HistoryNumbers

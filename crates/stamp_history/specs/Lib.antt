@@ -21,3 +21,4 @@ pub mod EntryValue
 pub mod HistoryFields
 pub mod History
 pub mod HistoryLaws
+pub mod RunLaws

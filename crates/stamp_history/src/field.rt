@@ -5,7 +5,8 @@ ghost use Rattle.stamp_history.specs.Field.{field_name, field_text};
 
 use std::fmt;
 
-/// A part of a text, in which something may be wrong. Positions count from 0.
+/// A part of a text, in which something may be wrong. Positions count from 0. What `Display` writes
+/// is proved, as `call 3`; when it fails, and what it wrote then, isn't.
 #[derive(Clone, Copy, Debug, PartialEq, Eq)]
 pub enum Field {
     /// The object itself: which keys it has.

@@ -22,7 +22,8 @@ fn as_call(call: ScriptCall) -> Option<Call>
     }
 }
 
-/// Reads a call from a JSON value; `None` where it is none of the twenty, or its stamp is no number.
+/// Reads a call of a history from a JSON value. `None` where it is none of the twenty, or its stamp
+/// is no number.
 pub fn history_call_of(value: &Value) -> Option<Call>
     ensures { result ≡ spec.history_call (view value.now) }
 {

@@ -33,7 +33,8 @@ fn count_reply(value: &Value) -> Option<Reply>
     }
 }
 
-/// Reads a reply from a JSON value: a stamp, a name, a count or words; `None` where it is none.
+/// Reads a reply from a JSON value. It is a stamp, a name, a count or words; `None` where it is
+/// none.
 pub fn reply_of(value: &Value) -> Option<Reply>
     ensures { result ≡ reply.reply (view value.now) }
 {

@@ -72,8 +72,8 @@ fn is_number(found: Option<u64>, number: u64) -> bool
     }
 }
 
-/// Tests that the key `format` suits the key `layout`: that it has the number 2 beside it, and 1 without
-/// it. Errors: 2 `NotHistory` where it has another.
+/// Tests that the format of a text suits its layout. The key `format` has the number 2 beside the
+/// key `layout`, and 1 without it. Errors: 2 `NotHistory` where it has another.
 pub fn check_format(value: &Value) -> Result<(), ReadError>
     ensures { result ≡ field.format (view value.now) }
 {
@@ -85,8 +85,8 @@ pub fn check_format(value: &Value) -> Result<(), ReadError>
     }
 }
 
-/// How many words the guarded record has, 0 where there is none. Errors: 2 `NotHistory` where the key
-/// `width` has no whole number, and 3 `Limit` where that is over 16.
+/// Reads how many words the guarded record has, 0 where there is none. Errors: 2 `NotHistory` where
+/// the key `width` has no whole number, and 3 `Limit` where that is over 16.
 pub fn read_width(value: &Value) -> Result<u64, ReadError>
     ensures { result ≡ field.width (view value.now) }
 {
@@ -97,8 +97,8 @@ pub fn read_width(value: &Value) -> Result<u64, ReadError>
     }
 }
 
-/// The items under the key `entries`. Errors: 2 `NotHistory` where there is no list, and 3 `Limit` where
-/// it has over 640,000.
+/// The items under the key `entries`, not read yet. Errors: 2 `NotHistory` where there is no list,
+/// and 3 `Limit` where it has over 640,000.
 #[tactic(auto, using(crate::proofs::ItemLengths::lengths))]
 pub fn listed_entries(value: &Value) -> Result<&[Value], ReadError>
     ensures { result_map_both (λ list. items_view list.now) (λ e. e) result

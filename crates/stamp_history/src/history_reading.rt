@@ -39,12 +39,12 @@ fn recorded_in(alloc: Global, value: &Value) -> Result<Record, ReadError>
     Ok(recorded_from(limits, width, entries, report))
 }
 
-/// The recorded history that the text gives, or its first fault in the order of the fields: top, format,
-/// layout, readers, versions, width, entries, each entry, and report. Of a field the kind is tested
-/// before the range. With the key `layout` the format is 2, without it 1; the key `report` may be
-/// there in both. Errors: 1 `NotJson`; 2 `NotHistory`, with the field of another kind, which is an
-/// entry's too where its call does not suit the width; 3 `Limit`, with the field out of range; 4
-/// `Memory`, which may come before these. Nothing is kept after any.
+/// Reads a recorded history from its text, or tells the first fault. That is in the order of the
+/// fields: top, format, layout, readers, versions, width, entries, each entry, and report. Of a
+/// field the kind is tested before the range. With the key `layout` the format is 2, without it 1;
+/// the key `report` may be there in both. Errors: 1 `NotJson`; 2 `NotHistory`, with the field of
+/// another kind, which is an entry's too where its call does not suit the width; 3 `Limit`, with
+/// the field out of range; 4 `Memory`, which may come before these. Nothing is kept after any.
 #[tactic(auto, unfolding(crate::specs::History::recorded_of))]
 pub fn read_history(alloc: Global, bytes: &[u8]) -> Result<Record, ReadError>
     ensures read { Gives ReadError.Memory (λ found. found) result (recorded_of bytes.now) }

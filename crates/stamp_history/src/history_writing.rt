@@ -98,7 +98,7 @@ fn push_arguments(text: &mut Vec<u8>, call: &Call) -> Result<(), AllocError>
     }
 }
 
-/// Appends a call as JSON. Only want of memory refuses.
+/// Appends a call as JSON. Only want of memory refuses; what the text holds then isn't said.
 pub fn push_call(text: &mut Vec<u8>, call: &Call) -> Result<(), AllocError>
     ensures text { OnOk result (text.new.items
         ≡ text.old.items ++ compact_text (call_data call.now)) }
@@ -196,8 +196,8 @@ fn push_report(text: &mut Vec<u8>, report: &[(u64, u64)]) -> Result<(), AllocErr
     Ok(())
 }
 
-/// Appends what comes after the entries in the text of a history, and the end of the object. Only want of
-/// memory refuses.
+/// Appends what comes after the entries in the text of a history, and the end of the object. Only
+/// want of memory refuses; what the text holds then isn't said.
 pub fn push_after_entries(
     text: &mut Vec<u8>,
     limits: &Limits,
@@ -230,9 +230,10 @@ fn push_history(text: &mut Vec<u8>, history: &Record) -> Result<(), AllocError>
     Ok(())
 }
 
-/// The compact text of a recorded history, its keys in the order of their bytes: of format 1 where the layout
-/// is 1, else of format 2 with the key `layout`; with the key `report` where the report is not
-/// empty. The one error is 4 `Memory`, after which nothing is kept.
+/// Writes a recorded history as compact text, which `read_history` reads as that history. Its keys
+/// are in the order of their bytes. It is of format 1 where the layout is 1, else of format 2 with
+/// the key `layout`; with the key `report` where the report is not empty. The one error is 4
+/// `Memory`, after which nothing is kept.
 #[tactic(auto, unfolding(crate::specs::HistoryText::history_text))]
 pub fn write_history(alloc: Global, history: &Record) -> Result<Vec<u8>, ReadError>
     ensures text { IfOk result (λ text. text.items ≡ history_text history.now) }

@@ -11,7 +11,8 @@ use itoa::Buffer;
 use stamp_core::{Reply, Words};
 use std::alloc::AllocError;
 
-/// Appends a piece of text as it is. Only want of memory refuses.
+/// Appends a piece of text as it is. Only want of memory refuses; what the text holds then isn't
+/// said.
 pub fn push_text(text: &mut Vec<u8>, piece: &str) -> Result<(), AllocError>
     ensures { OnOk result (text.new.items ≡ text.old.items ++ piece.now) }
 {
@@ -28,7 +29,8 @@ pub(crate) fn push_number(text: &mut Vec<u8>, number: u64) -> Result<(), AllocEr
     push_text(text, digits.format(number))
 }
 
-/// Appends what stands before the number, and the number. Only want of memory refuses.
+/// Appends what stands before a number, and the number. Only want of memory refuses; what the text
+/// holds then isn't said.
 pub fn push_numbered(text: &mut Vec<u8>, before: &str, number: u64) -> Result<(), AllocError>
     ensures text { OnOk result (text.new.items
         ≡ text.old.items ++ (before.now ++ compact_text (number_data number))) }
@@ -48,7 +50,8 @@ pub(crate) fn push_comma_if(text: &mut Vec<u8>, is_later: bool) -> Result<(), Al
     Ok(())
 }
 
-/// Appends the comma before an item that is not the first. Only want of memory refuses.
+/// Appends the comma before an item that is not the first. Only want of memory refuses; what the
+/// text holds then isn't said.
 pub fn push_comma(text: &mut Vec<u8>, index: usize) -> Result<(), AllocError>
     ensures { OnOk result (text.new.items ≡ text.old.items ++ comma_if (nat_lt 0 index)) }
 {
@@ -92,7 +95,7 @@ fn push_count(text: &mut Vec<u8>, count: u64) -> Result<(), AllocError>
     push_text(text, "}")
 }
 
-/// Appends the reply as JSON. Only want of memory refuses.
+/// Appends a reply as JSON. Only want of memory refuses; what the text holds then isn't said.
 #[tactic(auto, unfolding(serde_json::proofs::OnLiterals::serde_json_on_literals))]
 pub fn push_reply(text: &mut Vec<u8>, reply: &Reply) -> Result<(), AllocError>
     ensures text { OnOk result (text.new.items

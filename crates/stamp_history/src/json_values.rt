@@ -12,7 +12,8 @@ use crate::read_error::ReadError;
 use serde_json::{Map, Value};
 use std::alloc::Global;
 
-/// Reads a JSON value from bytes. Errors: 1 `NotJson`; 4 `Memory`, never of no bytes.
+/// Reads a JSON value from bytes. Errors: 1 `NotJson`; 4 `Memory`, which may come before it, but
+/// never of no bytes.
 pub fn json(alloc: Global, bytes: &[u8]) -> Result<Value, ReadError>
     ensures read { Gives ReadError.Memory view result (json_of bytes.now) }
     ensures some { IfOk result (λ _. 0 < length bytes.now) }

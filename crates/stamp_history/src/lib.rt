@@ -1,5 +1,7 @@
-//! Replays, scripts and recorded histories as JSON, and what a replay answered as JSON; and the parts of
-//! which the reading and the writing of a history are made, for texts that have them too.
+//! Replays, scripts and recorded histories as JSON, and what a replay answered as JSON. The parts
+//! of which the reading and the writing of a history are made are public, for texts that have them
+//! too. Each call returns, and those that are given an allocator or append to a text may fail for
+//! want of memory. That they do so only where an allocation was refused is tested, not proved.
 #![tactic(auto)]
 
 mod answer_error;

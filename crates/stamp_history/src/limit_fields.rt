@@ -73,9 +73,9 @@ fn limits_from(layout: Layout, readers: u64, versions: u64) -> Limits
     }
 }
 
-/// The limits that the fields `layout`, `readers` and `versions` of a text of this kind give, or their
-/// first fault in this order. Errors: of a field of another kind 2 `NotHistory`, and 5 `NotScript` in a
-/// replay or a script; 3 `Limit`, with the field out of range.
+/// Reads the limits of a text of this kind, or tells their first fault. The fields are `layout`,
+/// `readers` and `versions`, in this order. Errors: of a field of another kind 2 `NotHistory`, and
+/// 5 `NotScript` in a replay or a script; 3 `Limit`, with the field out of range.
 #[tactic(auto, unfolding(crate::specs::LimitFields::limits))]
 pub fn read_limits(text: TextKind, value: &Value) -> Result<Limits, ReadError>
     ensures { result ≡ field.limits text (view value.now) }

@@ -35,10 +35,11 @@ fn push_replies_to(
     Ok(word)
 }
 
-/// Answers the text of a replay by the compact text of the replies and of the word, as `write_replay`
-/// writes it. Errors: 1 `Refused`, with what `read_replay` refuses or `Memory`, and 2 `Waits`, with the
-/// first call, counted from 0, that would wait. Unlike `read_replay`, `replay` and `write_replay` together
-/// it keeps no list of `Call` or of `Reply`, each of which has room for the words of a record.
+/// Answers the text of a replay by the compact text that `write_replay` writes. Errors: 1
+/// `Refused`, with what `read_replay` refuses, or with `Memory`, which may come before any other; 2
+/// `Waits`, with the first call, counted from 0, that would wait. Nothing is kept after either.
+/// Unlike `read_replay`, `replay` and `write_replay` together it keeps no list of `Call` or of
+/// `Reply`, each of which has room for the words of a record.
 pub fn replay_text(alloc: Global, bytes: &[u8]) -> Result<Vec<u8>, AnswerError>
     ensures answers { AnswersReplayText bytes.now result }
     ensures memory { IfErr result (λ e. e ≡ AnswerError.Refused ReadError.Memory

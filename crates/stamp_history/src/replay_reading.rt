@@ -44,10 +44,11 @@ fn calls_of(alloc: Global, small: &[SmallCall]) -> Result<Vec<Call>, AllocError>
     Ok(calls)
 }
 
-/// The limits and the calls that the text gives, or its first fault in the order of the fields:
-/// top, layout, readers, versions, calls, and each call. Of a field the kind is tested before the
-/// range. Errors: 1 `NotJson`; 5 `NotScript`, with the field of another kind; 3 `Limit`, with the
-/// field out of range; 4 `Memory`, which may come before these. Nothing is kept after any.
+/// Reads the limits and the calls of a replay from its text, or tells the first fault. That is in
+/// the order of the fields: top, layout, readers, versions, calls, and each call. Of a field the
+/// kind is tested before the range. Errors: 1 `NotJson`; 5 `NotScript`, with the field of another
+/// kind; 3 `Limit`, with the field out of range; 4 `Memory`, which may come before these. Nothing
+/// is kept after any.
 pub fn read_replay(alloc: Global, bytes: &[u8]) -> Result<(Limits, Vec<Call>), ReadError>
     ensures replay { Gives ReadError.Memory replay_view result (replay_of bytes.now) }
     ensures lock_call { IfOk result (λ read. All (λ call. IsTrue (is_lock_call call)) read.1.items) }

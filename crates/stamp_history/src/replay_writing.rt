@@ -43,7 +43,7 @@ fn push_replayed(text: &mut Vec<u8>, done: &Replayed) -> Result<(), AllocError>
     Ok(())
 }
 
-/// The compact text of the replies and of the word's number, as
+/// Writes the compact text of the replies and of the word's number. It is as
 /// `{"replies":[256,"yes"],"word":256}`. The one error is 4 `Memory`, after which nothing is kept.
 #[tactic(auto, unfolding(crate::specs::ReplayText::replayed_text))]
 pub fn write_replay(alloc: Global, done: &Replayed) -> Result<Vec<u8>, ReadError>

@@ -52,9 +52,8 @@ fn push_run(text: &mut Vec<u8>, alloc: Global, script: &Script) -> Result<(), Al
     Ok(())
 }
 
-/// The text that `write_history` writes of what `run` gives, without making that: each
-/// entry is written when its call ends, and not kept. The one error is 4 `Memory`, after which
-/// nothing is kept.
+/// Runs a script and writes its history, as `run` and `write_history` do, without keeping it. Each
+/// entry is written when its call ends. The one error is 4 `Memory`, after which nothing is kept.
 #[tactic(auto, unfolding(crate::specs::HistoryText::history_text))]
 pub fn write_run(alloc: Global, script: &Script) -> Result<Vec<u8>, ReadError>
     ensures text { IfOk result (λ text. text.items ≡ history_text (recorded_run script.now)) }

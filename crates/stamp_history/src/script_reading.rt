@@ -34,9 +34,9 @@ fn script_from(
     }
 }
 
-/// The script that the text gives, or its first fault in the order of the fields: top, layout,
-/// readers, versions, width, threads, each call of each thread, steps, and each step. Of a field
-/// the kind is tested before the range; the range of the width is the script's. Errors: 1
+/// Reads a script from its text, or tells the first fault. That is in the order of the fields: top,
+/// layout, readers, versions, width, threads, each call of each thread, steps, and each step. Of a
+/// field the kind is tested before the range; the range of the width is the script's. Errors: 1
 /// `NotJson`; 5 `NotScript`, with the field of another kind; 3 `Limit`, with the field out of
 /// range; 6 `BadScript`, with the first fault of a script whose fields were all read; 4 `Memory`,
 /// which may come before these. Nothing is kept after any.

@@ -11,8 +11,9 @@ pub(crate) const RECORD_LOCK: usize = 1;
 /// The index of the record's first word.
 pub(crate) const FIRST_WORD: usize = 2;
 
-/// One access to the word of this index: 0 is the lock's word, 1 that of the record's own lock, and the
-/// record's words come after them. What an access finds is the value that stood there before it.
+/// One access to a common word, which its index tells: 0 is the lock's word, 1 that of the record's
+/// own lock, and the record's words come after them. What an access finds is the value that stood
+/// there before it.
 #[derive(Clone, Copy, Debug, PartialEq, Eq)]
 pub enum Access {
     /// Leaves the word.

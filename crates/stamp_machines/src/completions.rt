@@ -10,10 +10,9 @@ use stamp_core::Entry;
 use std::alloc::{AllocError, Global};
 use std::marker::Model;
 
-/// The finished calls of a script that is run by its own steps, in the order of their last steps:
-/// the entries of `run`, one at a time. `advance` runs on to the next one, and `get` has
-/// it until then. No other entry is kept: of a call before it there is only the stamp that it
-/// answered.
+/// The entries of `run`, one at a time: the finished calls of a script, by their last steps. The
+/// script is run by its own steps. `advance` runs on to the next one, and `get` has it until then.
+/// No other entry is kept: of a call before it there is only the stamp that it answered.
 #[derive(Drop)]
 pub struct Completions<'a> {
     script: &'a Script,
@@ -70,8 +69,8 @@ fn run_on(script: &Script, state: &mut RunState, made: &mut usize) -> Result<(),
 }
 
 impl<'a> Completions<'a> {
-    /// The finished calls of this script, none passed on yet. Only want of memory refuses, and
-    /// leaves nothing.
+    /// The finished calls of this script, none passed on yet. `alloc` is kept. Only want of memory
+    /// refuses, and leaves nothing.
     pub fn start(alloc: Global, script: &'a Script) -> Result<Completions<'a>, RunError>
         ensures ok { IfOk result (λ r. r ≡ before_all script.now) }
         ensures memory { OnErr result (result ≡ Err RunError.Memory) }
@@ -98,8 +97,8 @@ impl<'a> Completions<'a> {
         Ok(())
     }
 
-    /// The entry of the call by whose end `advance` stopped; none before it, after the last, and where
-    /// `advance` was refused.
+    /// The entry of the call by whose end `advance` stopped. There is none before it, after the
+    /// last, and where `advance` was refused.
     pub fn get(&self) -> Option<&Entry>
         ensures { option_copied result ≡ self.now.last }
     {

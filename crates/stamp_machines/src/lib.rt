@@ -1,5 +1,7 @@
 //! Calls of the lock and of its record as machines that make one access a step, and scripts of
-//! such calls under any order of steps.
+//! such calls under any order of steps. Each call returns, and only those that start or make a run
+//! may fail for want of memory. That they do so only where an allocation was refused is tested, not
+//! proved.
 #![tactic(auto)]
 
 mod access;

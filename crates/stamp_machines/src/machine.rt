@@ -26,7 +26,8 @@ use stamp_core::{Call, Reply};
 use std::marker::Model;
 use std::ops::ControlFlow;
 
-/// A call, one access at a time: `plan` tells the next one, and `resume` goes on by what it found.
+/// A call that is made one access at a time: `plan` tells the next one, and `resume` goes on by
+/// what it found.
 #[derive(Drop)]
 pub struct Machine {
     shape: Shape,
@@ -193,7 +194,10 @@ impl Machine {
         self.call
     }
 
-    /// The access that comes next. It is the same until the machine is resumed.
+    /// The access that comes next. It is the same until the machine is resumed. A call of a lock
+    /// loads the lock's word until it has seen one that it changes, and then exchanges that for the
+    /// one that it leaves. A call of the record makes such calls on the record's lock, and releases
+    /// a write lock by an exchange of its write stamp.
     #[inline(always)]
     pub fn plan(&self) -> Access
         ensures plan { result ≡ plan_of self.now }
@@ -229,7 +233,11 @@ impl Machine {
         }
     }
 
-    /// Goes on after the planned access. `found` is the value that stood there before it.
+    /// Goes on after the planned access. `found` is the value that stood there before it. A call of
+    /// a lock ends where its exchange won or the word found answers it. Where it doesn't end, it is
+    /// to change the word found, or loads again, which only `WriteLock` and `ReadLock` do, where
+    /// they have to wait. A call of the record goes on or ends after its calls of the lock, by
+    /// their replies.
     ///
     /// A value found at a lock's word has to be a word that the lock's limits admit. The limits of
     /// the record's own lock are the widest of the layout. Where a call of the record is in a lock

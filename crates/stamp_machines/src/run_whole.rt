@@ -10,8 +10,8 @@ use stamp_core::Record;
 use std::alloc::Global;
 
 /// Runs a script to its end. The recorded history has an entry for each finished call, in the order
-/// of their last steps, which are their points. The one error is 6 `Memory`, after which nothing is
-/// kept.
+/// of their last steps, which are their points, and no report. The one error is 6 `Memory`, after
+/// which nothing is kept.
 pub fn run(alloc: Global, script: &Script) -> Result<Record, RunError>
     ensures record { IfOk result (λ r. r ≡ recorded_run script.now) }
     ensures linearized { IfOk result (λ r. IsLinearized r) }
@@ -25,7 +25,7 @@ pub fn run(alloc: Global, script: &Script) -> Result<Record, RunError>
     Ok(run.into_record())
 }
 
-/// Runs a script to its end as `run` does. The report has a pair for each entry: its own steps, and
+/// As `run`, with a report of what each call took. It has a pair for each entry: its own steps, and
 /// the steps of others between its first and its last that changed the lock's word (and not those
 /// that changed the record's own lock).
 pub fn run_reported(alloc: Global, script: &Script) -> Result<Record, RunError>

@@ -12,7 +12,7 @@ use std::error::Error;
 use std::fmt;
 use std::marker::Model;
 
-/// No run has more steps, and no script.
+/// The most steps of a run, and of a script.
 pub const MOST_STEPS: usize = 1_000_000;
 
 /// What a step did.
@@ -29,7 +29,7 @@ pub enum Stepped {
 /// Why a run refuses.
 #[derive(Clone, Copy, Debug, PartialEq, Eq)]
 pub enum RunError {
-    /// 3: the run has made 1,000,000 steps.
+    /// 3: the run has made 1,000,000 steps; `Run::step` alone refuses so.
     TooManySteps,
     /// 6: an allocation was refused.
     Memory,
@@ -56,9 +56,9 @@ impl From<AllocError> for RunError {
     }
 }
 
-/// A run of a script's threads. `step` is given which of them makes the next step; the steps that
-/// the script itself lists are for `run` alone. `finished` has the entries so far, of which
-/// `Record::of` makes a recorded history.
+/// A run of a script's threads, one step at a time. `step` is given which of them makes the next
+/// step; it doesn't look at the steps that the script itself lists. `finished` has the entries so
+/// far, of which `Record::of` makes a recorded history.
 #[derive(Drop)]
 pub struct Run<'a> {
     script: &'a Script,
@@ -89,7 +89,7 @@ impl<'a> Run<'a> {
     ghost use Rattle.stamp_machines.specs.StepKind.{IsOfKind, outcome_of};
     ghost use Rattle.stamp_machines.specs.Tally.{tally_of, IsTallied};
 
-    /// The run before its first step. It refuses as 6 `Memory` alone.
+    /// The run before its first step, which keeps `alloc`. It refuses as 6 `Memory` alone.
     pub fn start(alloc: Global, script: &'a Script) -> Result<Run<'a>, RunError>
         ensures ok { IfOk result (λ r. r ≡ record { script = script.now; steps = [] }) }
         ensures memory { OnErr result (result ≡ Err RunError.Memory) }
@@ -102,9 +102,9 @@ impl<'a> Run<'a> {
         })
     }
 
-    /// One access of the thread's current call. The thread is below the number of the script's
-    /// threads. It refuses as 3 `TooManySteps` exactly where 1,000,000 steps were made, and as 6
-    /// `Memory`; a refused step leaves the run as it was, and can be made again.
+    /// Makes one access of the thread's current call. The thread is below the number of the
+    /// script's threads. It refuses as 3 `TooManySteps` exactly where 1,000,000 steps were made,
+    /// and as 6 `Memory`; a refused step leaves the run as it was, and can be made again.
     pub fn step(&mut self, thread: u64) -> Result<Stepped, RunError>
         requires { thread < length self.old.script.threads }
         ensures ok { OnOk result (self.new ≡ with_step self.old thread) }
@@ -168,7 +168,7 @@ impl<'a> Run<'a> {
         }
     }
 
-    /// The numbers of the threads that made the steps so far.
+    /// The numbers of the threads that made the steps so far, idle steps too.
     pub fn steps(&self) -> &[u64]
         ensures steps { result.now ≡ self.now.steps }
         ensures sound { IsSound self.now.script }
@@ -186,7 +186,7 @@ impl<'a> Run<'a> {
         &self.state.entries
     }
 
-    /// The lock's word.
+    /// The lock's word after the steps so far.
     pub fn word(&self) -> Word
         ensures word { result ≡ word_at self.now.script.limits
             (slice_index (execution_of self.now.script self.now.steps).words 0) }

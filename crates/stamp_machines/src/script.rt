@@ -9,10 +9,10 @@ use crate::shape::Shape;
 use stamp_core::{Limits, MOST_THREADS, MOST_WORDS, ScriptError, Words};
 use std::marker::Model;
 
-/// No thread of a script has more calls.
+/// The most calls of a thread of a script.
 pub const MOST_CALLS: usize = 10_000;
 
-/// A stamp argument.
+/// A stamp that a call of a script takes: a number, or what another call answered.
 #[derive(Clone, Copy)]
 pub enum Arg {
     /// This number, whoever issued it, if anyone did.
@@ -22,8 +22,8 @@ pub enum Arg {
     Of(u64, u64),
 }
 
-/// A call of a script: the `Call` of `stamp_core` with the same name, which says what it does. Its stamp
-/// may be one that another call of the script is still to answer.
+/// A call of a script: the `Call` of `stamp_core` with the same name, which says what it does. Its
+/// stamp may be one that another call of the script is still to answer.
 #[derive(Clone, Copy)]
 pub enum ScriptCall {
     /// Makes `Call::TryWrite`.
@@ -132,9 +132,10 @@ fn first_unknown(steps: &[u64], threads: u64) -> Option<usize>
 }
 
 impl Script {
-    /// A script of just what was given, or its first fault; then all of it is dropped. It may
-    /// have up to `MOST_THREADS` threads, `MOST_CALLS` calls in each, `MOST_STEPS` steps and a record
-    /// of `MOST_WORDS` words.
+    /// Makes a script of just what was given, or tells its first fault, in the order of
+    /// `ScriptError`. Then all of it is dropped (tested, not proved). It may have up to
+    /// `MOST_THREADS` threads, `MOST_CALLS` calls in each, `MOST_STEPS` steps and a record of
+    /// `MOST_WORDS` words.
     pub fn new(
         limits: Limits,
         width: u64,

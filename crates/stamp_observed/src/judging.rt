@@ -66,9 +66,11 @@ fn first_overlap(alloc: Global, entries: &[Observation]) -> Result<Option<usize>
     Ok(Some(without))
 }
 
-/// The first entry, in the order in which they are listed, that is over before it began or that
-/// overlaps one of its thread that is listed before it; none where the history may be observed. It
-/// sorts the entries, some twenty times where two overlap. It refuses only for want of memory.
+/// The first entry of an observed history that an observer can't have seen, and why. That is the
+/// first, in the order in which they are listed, that is over before it began or that overlaps one
+/// of its thread that is listed before it; none where the history may be observed. Threads are
+/// below 64 and calls suit the width, as in each history of `read_observed`. It sorts the entries
+/// by where they begin, some twenty times where two overlap. It refuses only for want of memory.
 pub fn fault_of(alloc: Global, observed: &Observed) -> Result<Option<ObservedFault>, AllocError>
     requires { AreSuited observed.now }
     ensures { IfOk result (λ found. IsObservedJudgement observed.now found) }

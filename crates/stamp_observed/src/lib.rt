@@ -1,4 +1,7 @@
 //! Observed histories as JSON, and what an observer can't have seen.
+//!
+//! Want of memory may come in place of any other answer. Tested, not proved: that memory is wanting
+//! only where an allocation was refused, and that a refusal leaves no block of memory.
 #![tactic(auto)]
 
 mod judging;

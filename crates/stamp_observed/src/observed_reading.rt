@@ -38,13 +38,13 @@ fn observed_in(alloc: Global, value: &Value) -> Result<Observed, ReadError>
     Ok(observed_from(limits, width, entries))
 }
 
-/// The observed history that the text gives, or its first fault in the order of the fields, which are
-/// those of a history without a report: top, format, layout, readers, versions, width, entries and each
-/// entry. An entry has the keys `call`, `first`, `last`, `reply` and `thread`, or, where the call is under
-/// way, `call`, `first` and `thread`. Its thread is below 64, and its positions are below 2 to the 58.
-/// Errors: 1 `NotJson`; 2 `NotHistory`, with the field of another kind, which is an entry's too where its
-/// call does not suit the width; 3 `Limit`, with the field out of range; 4 `Memory`, which may come before
-/// these. Nothing is kept after any.
+/// Reads an observed history from its JSON text, or tells its first fault. The order is that of the
+/// fields, which are those of a history without a report: top, format, layout, readers, versions,
+/// width, entries and each entry. An entry has the keys `call`, `first`, `last`, `reply` and
+/// `thread`, or, where the call is under way, `call`, `first` and `thread`. Its thread is below 64,
+/// and its positions are below 2 to the 58. Errors: 1 `NotJson`; 2 `NotHistory`, with the field of
+/// another kind, which is an entry's too where its call does not suit the width; 3 `Limit`, with
+/// the field out of range; 4 `Memory`, which may come before these. Nothing is kept after any.
 #[tactic(auto, unfolding(crate::specs::ObservedReading::observed_of))]
 pub fn read_observed(alloc: Global, bytes: &[u8]) -> Result<Observed, ReadError>
     ensures read { Gives ReadError.Memory (λ found. found) result (observed_of bytes.now) }

@@ -75,10 +75,10 @@ fn push_observed(text: &mut Vec<u8>, observed: &Observed) -> Result<(), AllocErr
     Ok(())
 }
 
-/// The compact text of an observed history, its keys in the order of their bytes: of format 1 where
-/// the layout is 1, else of format 2 with the key `layout`. It reads as that history where each
-/// thread is below 64 and each call suits the width. The one error is 4 `Memory`, after which
-/// nothing is kept.
+/// The compact JSON text of an observed history, its keys in the order of their bytes. It is of
+/// format 1 where the layout is 1, else of format 2 with the key `layout`. It reads as that history
+/// where each thread is below 64 and each call suits the width. The one error is 4 `Memory`, after
+/// which nothing is kept.
 #[tactic(auto, unfolding(crate::specs::ObservedText::observed_text))]
 pub fn write_observed(alloc: Global, observed: &Observed) -> Result<Vec<u8>, ReadError>
     ensures text { IfOk result (λ text. text.items ≡ observed_text observed.now) }

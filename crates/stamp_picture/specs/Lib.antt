@@ -5,3 +5,10 @@ pub mod Due
 pub mod Track
 pub mod Picture
 pub mod PictureLaws
+pub mod Labels
+pub mod Markup
+pub mod Frames
+pub mod Sheet
+pub mod Rows
+pub mod Svg
+pub mod SvgLaws

@@ -68,8 +68,8 @@ impl From<AllocError> for PictureError {
     }
 }
 
-/// A history as it is drawn: its verdict, a bar for each entry up to its first fault, and what lock
-/// and record were after each point before that.
+/// A history as it is drawn, as far as a window shows it. It has the verdict, a bar for each entry
+/// up to the first fault, and what lock and record were after each point before that.
 #[derive(Drop)]
 pub struct Picture {
     verdict: Result<u64, Fault>,
@@ -215,9 +215,9 @@ fn counts_of(verdict: &Result<u64, Fault>) -> (usize, usize)
     }
 }
 
-/// The picture of the part of a history that the window shows: of a right history of all entries, of
-/// a bad one up to and with its first fault. Refused are more than 2,000 bars, as 2 `TooMany`, and
-/// want of memory, as 1 `Memory`; a refusal leaves nothing.
+/// Makes the picture of the part of a history that the window shows. Of a right history it shows
+/// all entries, of a bad one those up to and with its first fault. Refused are more than 2,000
+/// bars, as 2 `TooMany`, and want of memory, as 1 `Memory`; a refusal leaves nothing.
 pub fn picture_of(alloc: Global, history: &Record, window: Window) -> Result<Picture, PictureError>
     ensures ok { IfOk result (λ picture. IsPicture history.now window picture) }
     ensures few { IfOk result (λ picture. length picture.bars ≤ most_bars) }

@@ -6,12 +6,13 @@ pub fn one_picture()
     ensures { OnePicture }
 {}
 
-/// What is drawn of a bar lies in the window, and so does a point that is shown.
+/// In a window that doesn't end before it begins, what is drawn of a bar lies inside. So does a
+/// point that is shown.
 pub fn window_is_kept()
     ensures { WindowIsKept }
 {}
 
-/// The number of bars that `picture_of` refuses is that of the picture's bars.
+/// The number of bars that `picture_of` refuses is that which the picture would have.
 pub fn crowded_is_counted()
     ensures { CrowdedIsCounted }
 {}

@@ -14,7 +14,7 @@ pub struct Window {
 }
 
 impl Window {
-    /// All positions.
+    /// The window of all positions.
     pub fn all() -> Window
         ensures { result ≡ record { from = 0; to = 18446744073709551615 } }
     {

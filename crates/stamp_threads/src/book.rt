@@ -80,7 +80,7 @@ impl Book {
         Ok(reply)
     }
 
-    /// A copy of the history. It refuses only as 2 `Memory`.
+    /// A copy of the history, as a `Record`. It refuses only as 2 `Memory`.
     pub fn record(&self) -> Result<Record, BookError>
         ensures record { IfOk result
             (λ r. r ≡ recorded self.now.limits 0 self.now.entries []) }

@@ -1,5 +1,10 @@
 //! A lock in one word that threads share, and a record of words, with no lock round them; and a lock
 //! whose calls are made and recorded one at a time.
+//!
+//! A call waits for nobody unless its doc says so: only `RunningLock::call`, its `call_in`,
+//! `Shared::call` and `Shared::record` may wait for ever. What contracts say holds whether or not
+//! threads may enter the lock or the record. Tested, not proved: that memory is wanting only where
+//! an allocation was refused, and that a call refused for it leaves no block of memory.
 #![tactic(auto)]
 
 mod book;

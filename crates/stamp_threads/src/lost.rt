@@ -3,10 +3,11 @@
 use std::error::Error;
 use std::fmt;
 
-/// The error of `RunningLock::once`: the call was not made. Its exchange lost, since another thread had
-/// changed the lock after the call's load, and the word that it found doesn't answer the call either:
-/// a change is due on it, too. (Where the word found answers the call, the call is made.) The lock had
-/// these two words, one after the other. The call changed neither, and can be made again.
+/// Why a call was not made by one try: its exchange lost to another thread. That one had changed
+/// the lock after the call's load, and the word that the exchange found doesn't answer the call
+/// either: a change is due on it, too. (Where the word found answers the call, the call is made.)
+/// The lock had these two words, one after the other. The call changed neither, and can be made
+/// again.
 #[derive(Clone, Copy, PartialEq, Eq, Debug, Drop)]
 pub struct Lost {
     /// The word that the call's load found.

@@ -3,7 +3,8 @@ use crate::lock_steps::LockSeat;
 use std::marker::Model;
 
 /// A token of what its holder knows of a lock. It has no bytes, can be moved to another thread or
-/// dropped, can't be copied, and belongs to the lock that gave it.
+/// dropped, can't be copied, and belongs to the lock that gave it. What it knows stands in
+/// contracts alone: the lock keeps no history.
 #[derive(Drop)]
 pub struct Pass {
     pub(crate) seat: LockSeat,

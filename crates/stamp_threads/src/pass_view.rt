@@ -23,6 +23,9 @@ pub struct PassView<E, P> {
     pub own: LinkedList<E>,
     /// Where it stands in what it is making; nothing for a lock, whose calls take effect by one step.
     pub phase: P,
-    /// What the accesses of its calls found at the lock word, the oldest first.
+    /// What the accesses of its calls found at the lock word, the oldest first. So contracts can
+    /// say how many of these a call keeps. How often it looks at a record's words, or at the lock
+    /// word by no pass, is the code's, as is an access that changes neither the word nor what a
+    /// pass knows.
     pub found: LinkedList<u64>,
 }

@@ -2,8 +2,9 @@
 use crate::record_steps::RecordSeat;
 use std::marker::Model;
 
-/// A token of what its holder knows of a record. It has no bytes, can be moved to another thread and
-/// can't be copied, and belongs to the record that gave it. It may be dropped.
+/// A token of what its holder knows of a record. It has no bytes, can be moved to another thread
+/// and can't be copied, and belongs to the record that gave it. It may be dropped. What it knows
+/// stands in contracts alone: the record keeps no history.
 #[derive(Drop)]
 pub struct RecordPass {
     pub(crate) seat: RecordSeat,

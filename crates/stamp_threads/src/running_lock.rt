@@ -92,6 +92,9 @@ fn anew(call: &Call) -> Call
 }
 
 /// A lock in one word that threads share by reference, each with a pass of its own.
+///
+/// Whether threads may enter it is settled when it is made. Where they may not, every pass comes
+/// from the first one by splits, which each pass counts.
 #[derive(Drop)]
 pub struct RunningLock {
     pub(crate) table: Table<(), LockPasses, LockKey, LockRule, Global>,
@@ -116,7 +119,7 @@ impl Model for RunningLock {
 
 impl RunningLock {
     /// A lock that nobody holds, and its first pass, of which all others are split off. It refuses
-    /// only for want of memory.
+    /// only for want of memory. That nobody holds it is tested, not proved.
     pub fn new(alloc: Global, limits: Limits) -> Result<(RunningLock, Pass), LockError>
         ensures { IfOk result (λ r. IsNew limits false r.0 r.1) }
     {
@@ -129,7 +132,8 @@ impl RunningLock {
         )
     }
 
-    /// As `new`, of a lock that threads may also `enter`.
+    /// As `new`, of a lock that threads may also `enter`. That it makes no call by a further pass
+    /// is tested, not proved.
     pub fn new_enterable(alloc: Global, limits: Limits) -> Result<(RunningLock, Pass), LockError>
         ensures { IfOk result (λ r. IsNew limits true r.0 r.1) }
     {
@@ -194,7 +198,8 @@ impl RunningLock {
         self.once_in::<EitherLayout>(pass, call)
     }
 
-    /// `once`, of a lock whose layout the caller knows: `L` says it.
+    /// As `once`, of a lock whose layout `L` stands for. Where `L` fixes it, there is no test of
+    /// it.
     #[inline(always)]
     pub fn once_in<L: KnownLayout>(&self, pass: &mut Pass, call: Call) -> Result<Reply, Lost>
         requires layout { L.seen self.now.limits.layout ≡ self.now.limits.layout }
@@ -232,11 +237,11 @@ impl RunningLock {
         }
     }
 
-    /// Makes the call, and tries again until it is made: `WriteLock` and `ReadLock` where they wait for
-    /// others, and every call where its exchange lost. Before each further try it spins, the first eight
-    /// times, each twice as long as before; after that it lets other threads run. From the seventeenth
-    /// time on it sleeps where it waits, 100 microseconds at most each time; after a lost exchange it
-    /// never does. It may go on for ever.
+    /// Makes the call, and tries again until it is made: `WriteLock` and `ReadLock` where they wait
+    /// for others, and every call where its exchange lost. Before each further try it spins, the
+    /// first eight times, each twice as long as before; after that it lets other threads run. From
+    /// the seventeenth time on it sleeps where it waits, 100 microseconds at most each time; after
+    /// a lost exchange it never does. It may go on for ever. No contract says how it waits.
     pub fn call<R: Wait>(&self, rt: &R, pass: &mut Pass, call: Call) -> Reply
         requires lock_call { IsTrue (is_lock_call call) }
         requires table { pass.old.table ≡ self.now.table }
@@ -249,7 +254,8 @@ impl RunningLock {
         self.call_in::<EitherLayout, R>(rt, pass, call)
     }
 
-    /// `call`, of a lock whose layout the caller knows: `L` says it. The first try is built in.
+    /// As `call`, of a lock whose layout `L` stands for. Where `L` fixes it, the first try has no
+    /// test of it. The first try is built in.
     #[inline(always)]
     pub fn call_in<L: KnownLayout, R: Wait>(&self, rt: &R, pass: &mut Pass, call: Call) -> Reply
         requires layout { L.seen self.now.limits.layout ≡ self.now.limits.layout }
@@ -362,7 +368,9 @@ impl RunningLock {
     }
 
     /// A pass for a thread that has none, of an enterable lock. It knows a history of the lock, and
-    /// has made no call. It makes one load and takes no memory.
+    /// has made no call. No contract says that this history is all that happened before: to order
+    /// its calls after another pass's, let both `meet` first. It makes one load and takes no
+    /// memory. That it makes no call by a further pass is tested, not proved.
     pub fn enter(&self) -> Pass
         requires { self.now.enterable ≡ true }
         ensures table { result.table ≡ self.now.table }
@@ -402,7 +410,8 @@ impl RunningLock {
         (pass, new)
     }
 
-    /// Both passes, each of which then knows what either knew. It makes three loads.
+    /// Lets two passes share what they know: each then knows what either knew. It makes three
+    /// loads. How far they agreed before, `laws::lock_passes_agree` says.
     pub fn meet(&self, mut first: Pass, second: Pass) -> (Pass, Pass)
         requires { (first.table ≡ self.now.table) × (second.table ≡ self.now.table) }
         ensures table { (result.0.table ≡ self.now.table) × (result.1.table ≡ self.now.table) }
@@ -417,6 +426,8 @@ impl RunningLock {
     }
 
     /// Ends the lock, and gives its word. Other passes may still be there; they are of no use then.
+    /// Tested, not proved: that the word is what all threads' calls left, and that it makes no call
+    /// by the pass.
     pub fn close(self, pass: Pass) -> u64
         requires { pass.table ≡ self.table }
         ensures { Closes self pass.view result }

@@ -24,7 +24,8 @@ use std::marker::Model;
 
 /// A record of 1 to 16 words that threads share by reference, each with a pass of its own. The
 /// words stand under a lock word of their own, and a get that is Ok gives words that stood
-/// together.
+/// together. Tested, not proved: that calls do run into `Busy` and `Lost` beside a writer, and puts
+/// into `Spent`, after which gets succeed still.
 ///
 /// `L` says what is known of its layout, as in `WideRecord`.
 #[derive(Drop)]
@@ -44,9 +45,10 @@ impl<P: ContentRule, L: KnownLayout> Model for RuledRecord<P, L> {
 }
 
 impl RuledRecord<AnyContent> {
-    /// A record of zeros, and its first pass, of which all others are split off. The width is 1 to 16
-    /// words. Of the limits only the layout and the versions count: each put spends a version, and
-    /// where none is left a put is refused as `Spent`. It fails only for want of memory.
+    /// A record of zeros, and its first pass, of which all others are split off. The width is 1 to
+    /// 16 words. Of the limits only the layout and the versions count: each put spends a version,
+    /// and where none is left a put is refused as `Spent`. It fails only for want of memory. That
+    /// nobody has put yet is tested, not proved.
     pub fn new(
         alloc: Global,
         limits: Limits,
@@ -63,9 +65,10 @@ impl RuledRecord<AnyContent> {
 }
 
 impl<P: ContentRule> RuledRecord<P> {
-    /// A record of these words, which keep to the rule, and its first pass, of which all others are
-    /// split off: as if that had put them. So the limits have a version, and it takes one. It refuses
-    /// only for want of memory.
+    /// A record that holds these words, and its first pass, as if that had put them. The words keep
+    /// to the rule. All other passes are split off the first one. The limits have a version, and it
+    /// takes one; of the limits only the layout and the versions count. It refuses only for want of
+    /// memory.
     pub fn holding(
         alloc: Global,
         limits: Limits,
@@ -78,7 +81,8 @@ impl<P: ContentRule> RuledRecord<P> {
         Ok((RuledRecord { wide }, pass))
     }
 
-    /// As `holding`, of a record that threads may also `enter`.
+    /// As `holding`, of a record that threads may also `enter`. That it makes no call by a further
+    /// pass is tested, not proved.
     pub fn holding_enterable(
         alloc: Global,
         limits: Limits,
@@ -92,7 +96,8 @@ impl<P: ContentRule> RuledRecord<P> {
 }
 
 impl<P: ContentRule, L: KnownLayout> RuledRecord<P, L> {
-    /// As `holding_enterable`, of a layout that `L` stands for.
+    /// As `holding_enterable`, of a layout that `L` stands for. Where `L` fixes it, calls have no
+    /// test of it.
     pub fn enterable_in(
         alloc: Global,
         limits: Limits,
@@ -106,10 +111,11 @@ impl<P: ContentRule, L: KnownLayout> RuledRecord<P, L> {
         Ok((RuledRecord { wide }, pass))
     }
 
-    /// Puts the words, as many as the record's width, which keep to the rule: by one load, one exchange,
-    /// a store a word and one exchange that releases. It waits for nobody. Refuses as 1 `Busy` where the
-    /// load found somebody in write mode, as 3 `Spent` where it found no version left, and as 2 `Lost`
-    /// where the exchange found another word; it got no write mode and changed no word then.
+    /// Puts the words by one try, which waits for nobody. They are as many as the record's width,
+    /// and keep to the rule. It makes one load, one exchange, a store a word and one exchange that
+    /// releases. Refuses in this order: as 1 `Busy` where the load found somebody in write mode, as
+    /// 3 `Spent` where it found no version left, and as 2 `Lost` where the exchange found another
+    /// word. It got no write mode and changed no word then.
     #[inline(always)]
     pub fn put_once(&self, pass: &mut RecordPass, words: Words) -> Result<(), PutFault>
         requires table { pass.old.table ≡ self.now.table }
@@ -187,8 +193,9 @@ impl<P: ContentRule, L: KnownLayout> RuledRecord<P, L> {
         self.wide.get_into(pass, into)
     }
 
-    /// Gets the words as `get_into` does, but makes no call: it is for `replace_once`, and gives the lock
-    /// word at which the words stood. It refuses as `get_once` does; the words may be any then.
+    /// Gets the words as `get_into` does, but makes no call: it is for `replace_once`. It gives the
+    /// lock word at which the words stood. It refuses as `get_once` does; the words may be any
+    /// then.
     #[inline(always)]
     pub fn see_once(&self, pass: &mut RecordPass, into: &mut [u64]) -> Result<u64, GetFault>
         requires table { pass.old.table ≡ self.now.table }
@@ -203,11 +210,12 @@ impl<P: ContentRule, L: KnownLayout> RuledRecord<P, L> {
         self.wide.see_once(pass, into)
     }
 
-    /// Puts the words over those of the history that the pass knows, if nothing was put since: that
-    /// history left this lock word and isn't locked, as after `see_once`. It is the call
-    /// `PutIf(old, words)` with `Yes`, by one exchange, a store a word and one exchange that releases. It
-    /// waits for nobody. Refuses as 3 `Spent` where no version is left, by no access, and as 2 `Lost` where
-    /// the exchange found another lock word; it got no write mode and changed no word then.
+    /// Puts the words over those that `see_once` gave, if nothing was put since. The pass knows a
+    /// history that left this lock word and isn't locked, as after `see_once`. It is the call
+    /// `PutIf(old, words)` with `Yes`, by one exchange, a store a word and one exchange that
+    /// releases. It waits for nobody. Refuses as 3 `Spent` where no version is left, by no access,
+    /// and else as 2 `Lost` where the exchange found another lock word; it got no write mode and
+    /// changed no word then.
     #[inline(always)]
     pub fn replace_once(
         &self,
@@ -228,11 +236,12 @@ impl<P: ContentRule, L: KnownLayout> RuledRecord<P, L> {
         self.wide.replace_from_once(pass, word, words.as_slice())
     }
 
-    /// Puts the second words if the record holds the first, and says whether it did: the call
-    /// `PutIf(expected, words)`, with `Yes` or `No`. Only where they keep to the rule need the others do. It
-    /// waits for nobody. Refuses as 1 `Busy` where the first load found somebody in write mode, as 2 `Lost`
-    /// where a later access found another word, and as 3 `Spent` where it found the expected words and
-    /// no version left; it changed no word then.
+    /// Puts the second words if the record holds the first, and says whether it did. It is the call
+    /// `PutIf(expected, words)`, with `Yes` or `No`; for `No` it needs no version. Only where the
+    /// first keep to the rule need the second do. It looks as `see_once` does, and puts as
+    /// `replace_once` does. It waits for nobody. Refuses as 1 `Busy` where the first load found
+    /// somebody in write mode, as 2 `Lost` where a later access found another word, and as
+    /// 3 `Spent` where it found the expected words and no version left; it changed no word then.
     pub fn put_if_once(
         &self,
         pass: &mut RecordPass,
@@ -265,8 +274,10 @@ impl<P: ContentRule, L: KnownLayout> RuledRecord<P, L> {
         Ok(true)
     }
 
-    /// A pass for a thread that has none, of an enterable record: it has made no call. It makes one
-    /// load and takes no memory.
+    /// A pass for a thread that has none, of an enterable record. It knows a history, and has made
+    /// no call. No contract says that this history is all that happened before: to order its calls
+    /// after another pass's, let both `meet` first. It makes one load and takes no memory. That it
+    /// makes no call by a further pass is tested, not proved.
     pub fn enter(&self) -> RecordPass
         requires { self.now.enterable ≡ true }
         ensures table { result.table ≡ self.now.table }
@@ -301,7 +312,8 @@ impl<P: ContentRule, L: KnownLayout> RuledRecord<P, L> {
         self.wide.split(pass)
     }
 
-    /// Both passes, each of which then knows what either knew. It makes three loads.
+    /// Lets two passes share what they know: each then knows what either knew. It makes three
+    /// loads. How far they agreed before, `laws::record_passes_agree` says.
     pub fn meet(&self, first: RecordPass, second: RecordPass) -> (RecordPass, RecordPass)
         requires { (first.table ≡ self.now.table) × (second.table ≡ self.now.table) }
         ensures table { (result.0.table ≡ self.now.table) × (result.1.table ≡ self.now.table) }

@@ -8,7 +8,9 @@ use crate::book_error::BookError;
 use stamp_core::{Call, Record, Reply};
 use std::sync::{Condvar, Mutex, Wait};
 
-/// A book under a lock: threads make calls on it by reference, one at a time.
+/// A book under a lock: threads make calls on it by reference, one at a time. No contract can say
+/// which book it holds. Tested, not proved: that its calls act on the book that it was given, and
+/// that one which is refused leaves that as it was.
 #[derive(Drop)]
 pub struct Shared {
     book: Mutex<Book>,
@@ -28,10 +30,11 @@ impl Shared {
         }
     }
 
-    /// Makes the call as `Book::act` does: a lock call, for a thread below 64. It never answers
-    /// 3 `Waits`: a call that waits is tried again whenever others have changed the word. It may wait
-    /// for ever, as it does where the book is full by then. Refuses as 1 `Full` and 2 `Memory`, and has
-    /// entered nothing then.
+    /// Makes the call as `Book::act` does: a lock call, for a thread below 64. It waits while
+    /// another thread has the book, and `WriteLock` and `ReadLock` also until they can be made: it
+    /// never answers 3 `Waits`, but is tried again whenever others have changed the word. It may
+    /// wait for ever, as it does where the book is full by then. Refuses as 1 `Full` and
+    /// 2 `Memory`, and has entered nothing then.
     pub fn call<R: Wait>(&self, rt: &R, thread: u64, call: Call) -> Result<Reply, BookError>
         requires lock_call { IsTrue (is_lock_call call) }
         requires thread { thread < 64 }

@@ -26,10 +26,10 @@ use std::alloc::{AllocError, Global};
 use std::marker::{Brand, Model, PhantomData};
 use std::snapshot::Snapshot;
 
-/// A record of 1 to 4,096 words that threads share by reference, each with a pass of its own; its calls
-/// take slices. The words stand under a lock word of their own, and a get that is Ok gives words that
-/// stood together. The more words, the longer a call takes and the oftener it loses to a put: a record
-/// of few words is a `RuledRecord`. A history with more than 16 words has no text.
+/// A record of 1 to 4,096 words that threads share by reference, each with a pass of its own. Its
+/// calls take slices. The words stand under a lock word of their own, and a get that is Ok gives
+/// words that stood together. The more words, the longer a call takes and the oftener it loses to a
+/// put: a record of few words is a `RuledRecord`. A history with more than 16 words has no text.
 ///
 /// `L` says what is known of its layout: nothing, where it isn't written. A call on a record whose layout
 /// is known has no test of it.
@@ -88,9 +88,10 @@ fn row_of(alloc: Global, lock_word: u64, words: &[u64]) -> Result<Vec<u64>, Allo
 }
 
 impl<P: ContentRule> WideRecord<P> {
-    /// A record of these words, which keep to the rule, and its first pass, of which all others are
-    /// split off: as if that had put them. So the limits have a version, and it takes one. Of the limits
-    /// only the layout and the versions count. It refuses only for want of memory.
+    /// A record that holds these words, and its first pass, as if that had put them. The words keep
+    /// to the rule. All other passes are split off the first one. The limits have a version, and it
+    /// takes one; of the limits only the layout and the versions count. It refuses only for want of
+    /// memory.
     pub fn holding(
         alloc: Global,
         limits: Limits,
@@ -103,7 +104,8 @@ impl<P: ContentRule> WideRecord<P> {
         Self::of_put(alloc, limits, first, false)
     }
 
-    /// As `holding`, of a record that threads may also `enter`.
+    /// As `holding`, of a record that threads may also `enter`. That it makes no call by a further
+    /// pass is tested, not proved.
     pub fn holding_enterable(
         alloc: Global,
         limits: Limits,
@@ -118,7 +120,8 @@ impl<P: ContentRule> WideRecord<P> {
 }
 
 impl<P: ContentRule, L: KnownLayout> WideRecord<P, L> {
-    /// As `holding_enterable`, of a layout that `L` stands for.
+    /// As `holding_enterable`, of a layout that `L` stands for. Where `L` fixes it, calls have no
+    /// test of it.
     pub fn enterable_in(
         alloc: Global,
         limits: Limits,
@@ -195,10 +198,11 @@ impl<P: ContentRule, L: KnownLayout> WideRecord<P, L> {
         self.shape.width
     }
 
-    /// Puts the words, as many as the record's width, which keep to the rule: by one load, one exchange,
-    /// a store a word and one exchange that releases. It waits for nobody. Refuses as 1 `Busy` where the
-    /// load found somebody in write mode, as 3 `Spent` where it found no version left, and as 2 `Lost`
-    /// where the exchange found another word; it got no write mode and changed no word then.
+    /// Puts the words by one try, which waits for nobody. They are as many as the record's width,
+    /// and keep to the rule. It makes one load, one exchange, a store a word and one exchange that
+    /// releases. Refuses in this order: as 1 `Busy` where the load found somebody in write mode, as
+    /// 3 `Spent` where it found no version left, and as 2 `Lost` where the exchange found another
+    /// word. It got no write mode and changed no word then.
     #[inline(always)]
     pub fn put_from_once(&self, pass: &mut RecordPass, words: &[u64]) -> Result<(), PutFault>
         requires table { pass.old.table ≡ self.now.table }
@@ -231,10 +235,11 @@ impl<P: ContentRule, L: KnownLayout> WideRecord<P, L> {
         Ok(())
     }
 
-    /// Gets the words, which stood together, into words of the caller's that have the width: by one load,
-    /// a load a word and one load. It waits for nobody. Refuses as 1 `Busy` where the first load found
-    /// somebody in write mode, and as 2 `Lost` where the last one found another word; the caller's words
-    /// may be any then. Beside writers it may be refused each time.
+    /// Gets the words, which stood together, into words of the caller's that have the width. It
+    /// makes one load, a load a word and one load, and waits for nobody. Refuses as 1 `Busy` where
+    /// the first load found somebody in write mode, and as 2 `Lost` where the last one found
+    /// another word; the caller's words may be any then. Beside writers it may be refused each
+    /// time.
     #[inline(always)]
     pub fn get_into(&self, pass: &mut RecordPass, into: &mut [u64]) -> Result<(), GetFault>
         requires table { pass.old.table ≡ self.now.table }
@@ -254,8 +259,9 @@ impl<P: ContentRule, L: KnownLayout> WideRecord<P, L> {
         }
     }
 
-    /// Gets the words as `get_into` does, but makes no call: it is for `replace_from_once`, and gives the lock
-    /// word at which the words stood. It refuses as `get_into` does; the words may be any then.
+    /// Gets the words as `get_into` does, but makes no call: it is for `replace_from_once`. It
+    /// gives the lock word at which the words stood. It refuses as `get_into` does; the words may
+    /// be any then.
     #[inline(always)]
     pub fn see_once(&self, pass: &mut RecordPass, into: &mut [u64]) -> Result<u64, GetFault>
         requires table { pass.old.table ≡ self.now.table }
@@ -271,11 +277,12 @@ impl<P: ContentRule, L: KnownLayout> WideRecord<P, L> {
         see_words(&self.table.shared, shape, &mut pass.seat, into)
     }
 
-    /// Puts the words over those of the history that the pass knows, if nothing was put since: that
-    /// history left this lock word and isn't locked, as after `see_once`. It is the call
-    /// `PutIf(old, words)` with `Yes`, by one exchange, a store a word and one exchange that releases. It
-    /// waits for nobody. Refuses as 3 `Spent` where no version is left, by no access, and as 2 `Lost` where
-    /// the exchange found another lock word; it got no write mode and changed no word then.
+    /// Puts the words over those that `see_once` gave, if nothing was put since. The pass knows a
+    /// history that left this lock word and isn't locked, as after `see_once`. It is the call
+    /// `PutIf(old, words)` with `Yes`, by one exchange, a store a word and one exchange that
+    /// releases. It waits for nobody. Refuses as 3 `Spent` where no version is left, by no access,
+    /// and else as 2 `Lost` where the exchange found another lock word; it got no write mode and
+    /// changed no word then.
     #[inline(always)]
     pub fn replace_from_once(
         &self,
@@ -312,8 +319,10 @@ impl<P: ContentRule, L: KnownLayout> WideRecord<P, L> {
         Ok(())
     }
 
-    /// A pass for a thread that has none, of an enterable record: it has made no call. It makes one
-    /// load and takes no memory.
+    /// A pass for a thread that has none, of an enterable record. It knows a history, and has made
+    /// no call. No contract says that this history is all that happened before: to order its calls
+    /// after another pass's, let both `meet` first. It makes one load and takes no memory. That it
+    /// makes no call by a further pass is tested, not proved.
     pub fn enter(&self) -> RecordPass
         requires { self.now.enterable ≡ true }
         ensures table { result.table ≡ self.now.table }
@@ -352,7 +361,8 @@ impl<P: ContentRule, L: KnownLayout> WideRecord<P, L> {
         (pass, new)
     }
 
-    /// Both passes, each of which then knows what either knew. It makes three loads.
+    /// Lets two passes share what they know: each then knows what either knew. It makes three
+    /// loads. How far they agreed before, `laws::record_passes_agree` says.
     pub fn meet(&self, mut first: RecordPass, second: RecordPass) -> (RecordPass, RecordPass)
         requires { (first.table ≡ self.now.table) × (second.table ≡ self.now.table) }
         ensures table { (result.0.table ≡ self.now.table) × (result.1.table ≡ self.now.table) }

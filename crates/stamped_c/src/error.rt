@@ -2,7 +2,8 @@
 ghost use Rattle.std.specs.Prelude.{◌≡◌};
 ghost use Rattle.stamped_c.specs.Codes.{error_code};
 
-/// What is wrong with the numbers that a C program gives.
+/// What is wrong with the numbers that a C program gives. Where several fit, the first in this
+/// order is told.
 #[derive(Clone, Copy, Debug, PartialEq, Eq)]
 pub enum CError {
     /// 1: the number names no layout.

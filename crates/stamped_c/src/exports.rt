@@ -8,7 +8,7 @@ use crate::error::CError;
 use crate::structs::{CDecision, CKind, CLimits};
 use stamp_core::{StampKind, Word, stamp_kind_in};
 
-/// The word of a new lock; 0, which is no word, where the number names no layout.
+/// The word of a new lock. It is 0, which is no word, exactly where the number names no layout.
 #[unsafe(no_mangle)]
 pub extern "C" fn stamped_opening(layout: u32) -> u64
     ensures { AnswersOpening layout result }
@@ -49,8 +49,8 @@ pub extern "C" fn stamped_check_word(limits: CLimits, word: u64) -> u32
     }
 }
 
-/// What a call is to do with the word that it finds; or the first error, as `stamped_check_word`, or
-/// 5 `UnknownCall`.
+/// What a call is to do with the word that it finds. Where a number that was given is wrong, `word`
+/// is the first error, as in `stamped_check_word`, or 5 `UnknownCall`.
 #[unsafe(no_mangle)]
 pub extern "C" fn stamped_decide(limits: CLimits, word: u64, call: u32, stamp: u64) -> CDecision
     ensures { AnswersDecision limits word call stamp result }
@@ -65,7 +65,8 @@ fn kind_of(layout: u32, stamp: u64) -> Result<StampKind, CError>
     Ok(stamp_kind_in(known, stamp))
 }
 
-/// What a number is as a stamp of the layout; or 1 `UnknownLayout`.
+/// What a number is as a stamp of the layout. `kind` is 1 `UnknownLayout` where there is no such
+/// layout.
 #[unsafe(no_mangle)]
 pub extern "C" fn stamped_kind_of(layout: u32, stamp: u64) -> CKind
     ensures { AnswersKind layout stamp result }

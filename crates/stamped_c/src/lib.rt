@@ -1,5 +1,6 @@
 //! The lock's decision for programs in other languages: a static library of functions over plain
-//! numbers, which test all that they are given. `include/stamped.h` declares them for C.
+//! numbers, which test all that they are given. `include/stamped.h` declares them for C. They take
+//! no memory and keep nothing, so an error leaves nothing behind.
 #![tactic(auto)]
 
 mod checks;

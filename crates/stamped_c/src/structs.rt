@@ -21,7 +21,7 @@ pub struct CLimits {
 #[repr(C)]
 #[derive(Clone, Copy)]
 pub struct CDecision {
-    /// The number of the lock's word afterwards; or, below 256, a wait or an error.
+    /// The number of the lock's word afterwards; or, below 256, a wait (16) or an error.
     pub word: u64,
     /// The reply as a number; 0 where there is none.
     pub reply: u64,

@@ -1,8 +1,19 @@
 //! Finds an order that explains an observed history: standard input in, one line out.
 #![tactic(auto)]
 
+mod answer;
+mod finding;
+mod finding_text;
+mod note;
+mod orders;
+#[cfg(test)]
+mod serve_tests;
+mod serving;
+
+use crate::answer::VerdictAndNote;
+use crate::orders::most_configurations_of;
+use crate::serving::serve_explanation;
 use stamp_cli::{CommandFault, ReadSource, ServeFault, Verdict, WriteSink, fault_line};
-use stamp_explain_cli::{VerdictAndNote, most_configurations_of, serve_explanation};
 use std::alloc::AllocError;
 use std::process::ExitCode;
 use std::rt::Env;

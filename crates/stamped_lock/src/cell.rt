@@ -22,9 +22,9 @@ impl<const N: usize, T: InWords<N>> ContentRule for WordsOf<N, T> {
     ghost holds = { AreWordsOf T.is_value T.words };
 }
 
-/// A value of a type of your own that threads share by reference, and that each reads and changes as a
-/// whole: a record of the `N` words (1 to 16) in which the type is written. Threads get, put and update
-/// values by their handles.
+/// A value of a type of your own that threads share, and that each reads and changes as a whole. It
+/// is a record of the `N` words (1 to 16) in which the type is written. Threads share it by
+/// reference, and get, put and update values by their handles.
 ///
 /// `L` says what is known of its layout, as in `StampedLock`.
 #[derive(Drop)]
@@ -41,8 +41,8 @@ impl<const N: usize, T: InWords<N>, L: KnownLayout> Model for StampedCell<N, T, 
 }
 
 impl<const N: usize, T: InWords<N>> StampedCell<N, T> {
-    /// A cell of this value. It takes 2^55-3 puts and updates in all. It refuses only for want of memory;
-    /// nothing was made then.
+    /// A cell that holds this value. That it does is tested, not proved. It takes 2^55-3 puts and
+    /// updates in all. It refuses only for want of memory; nothing was made then.
     pub fn new(alloc: Global, first: T) -> Result<StampedCell<N, T>, LockError>
         requires width { (1 ≤ N) × (N ≤ 16) }
         ensures { IfOk result (λ c.
@@ -52,9 +52,8 @@ impl<const N: usize, T: InWords<N>> StampedCell<N, T> {
         Ok(StampedCell { record })
     }
 
-    /// A cell of these limits, which are of layout 1, and this value. Of the limits the versions count, of
-    /// which the first value takes one; the readers don't matter. It refuses only for want of memory;
-    /// nothing was made then.
+    /// As `new`, with these limits, which are of layout 1. Of the limits the versions count, of
+    /// which the first value takes one; the readers don't matter.
     pub fn with_limits(
         alloc: Global,
         limits: Limits,
@@ -86,7 +85,9 @@ impl<const N: usize, T: InWords<N>, L: KnownLayout> StampedCell<N, T, L> {
         Ok(StampedCell { record })
     }
 
-    /// A handle, for one thread at a time. It has made no call. It takes one load and no memory.
+    /// A handle by which a thread makes its calls, one thread at a time. It has made no call. No
+    /// contract says that the history it knows is all that happened before. It takes one load and
+    /// no memory.
     pub fn enter(&self) -> CellHandle<'_, N, T, L>
         ensures running { result.running ≡ self.now }
         ensures entered { HasEntered self.now.shape result.pass }

@@ -71,9 +71,10 @@ impl<'a, const N: usize, T: InWords<N>, L: KnownLayout> CellHandle<'a, N, T, L> 
         record_calls::put(rt, self.running, &mut self.pass, &value.to_words())
     }
 
-    /// Puts what the closure answers on the value over it, as one call, and gives the old value: so no
-    /// update is lost. The closure runs with nothing held, and again after each loss to another thread, on
-    /// a value that the cell held. It fails only where no version is left; nothing was put then.
+    /// Puts what the closure answers on the value over it, as one call, and gives the old value. So
+    /// no update is lost. The closure runs with nothing held, and again after each loss to another
+    /// thread, on a value that the cell held. It fails only where no version is left; nothing was
+    /// put then.
     pub fn update<R: Wait, F: Fn(&T) -> T>(&mut self, rt: &R, f: F) -> Result<T, Spent>
         requires { (value : _) (seen : _) → T.is_value value.now
             → SeenAtLast (AreWordsOf T.is_value T.words) (T.words value.now) self.old seen → F.pre f value }
@@ -105,9 +106,10 @@ impl<'a, const N: usize, T: InWords<N>, L: KnownLayout> CellHandle<'a, N, T, L> 
         record_calls::try_update(rt, self.running, &mut self.pass, &f)
     }
 
-    /// Puts the second value if the cell holds the first, and says whether it did: whether it holds the same
-    /// words. While somebody else puts, it lets other threads run and tries again. It fails only where
-    /// the cell held the first value and no version is left; nothing was put then.
+    /// Puts the second value if the cell holds the first, and says whether it did. Values are the
+    /// same if their words are. While somebody else puts, it lets other threads run and tries
+    /// again. It fails only where the cell held the first value and no version is left; nothing was
+    /// put then.
     pub fn put_if<R: Wait>(&mut self, rt: &R, expected: T, value: T) -> Result<bool, Spent>
         ensures made { let h = self.old in let w = self.new in IfOk result (λ yes.
             PutIfAtLast (T.words expected) (T.words value) yes h w) }
@@ -118,7 +120,7 @@ impl<'a, const N: usize, T: InWords<N>, L: KnownLayout> CellHandle<'a, N, T, L> 
         record_calls::put_if(rt, running, pass, &expected.to_words(), &value.to_words())
     }
 
-    /// One more handle of the same cell, which knows as much as this one and has made no call.
+    /// One more handle of the same cell. It knows as much as this one, and has made no call.
     pub fn split(&mut self) -> CellHandle<'a, N, T, L>
         ensures running { (self.new.running ≡ self.old.running)
             × (result.running ≡ self.old.running) }

@@ -11,8 +11,9 @@ use stamp_threads::{Lost, Pass, RunningLock};
 use std::marker::Model;
 use std::sync::Wait;
 
-/// A lock that a thread has entered, and what the thread knows of it: what a handle stands on, whatever
-/// the layout. The closure of a section gets it, for contracts; it can make no call by it.
+/// A lock that a thread has entered, and what the thread knows of it. It is what a handle stands
+/// on, whatever the layout. The closure of a section gets it, for contracts; it can make no call by
+/// it.
 #[derive(Drop)]
 pub struct Entered<'a> {
     running: &'a RunningLock,

@@ -140,8 +140,8 @@ impl<'a, L: KnownLayout> LockHandle<'a, L> {
         stamp_unless_zero(self.call(rt, Call::TryRead))
     }
 
-    /// A stamp to be validated later (`tryOptimisticRead`). None while there is a writer. It holds
-    /// nothing, so it isn't released. One load.
+    /// An optimistic stamp, to be validated later (`tryOptimisticRead`). None while there is a
+    /// writer. It holds nothing, so it isn't released. One load.
     #[inline(always)]
     pub fn try_optimistic_read(&mut self) -> Option<Stamp>
         ensures { Made Optimistic (stamped result) self.old self.new }
@@ -186,29 +186,29 @@ impl<'a, L: KnownLayout> LockHandle<'a, L> {
         was_released(self.call(rt, Call::Unlock(stamp.number())))
     }
 
-    /// Converts a stamp to write mode (`tryConvertToWriteLock`): from write mode with the same stamp, from
-    /// read mode if there is no other reader, from an optimistic stamp if it is valid and nobody holds the
-    /// lock. After it release by the new stamp alone. None otherwise: the lock is as it was, and the old
-    /// stamp still stands. It waits for no holder.
+    /// Converts a stamp to write mode (`tryConvertToWriteLock`). It does so from write mode with
+    /// the same stamp, from read mode if there is no other reader, from an optimistic stamp if it
+    /// is valid and nobody holds the lock. After it release by the new stamp alone. None otherwise:
+    /// the lock is as it was, and the old stamp still stands. It waits for no holder.
     pub fn try_convert_to_write<R: Wait>(&mut self, rt: &R, stamp: Stamp) -> Option<Stamp>
         ensures { Made (ToWrite stamp) (stamped result) self.old self.new }
     {
         stamp_unless_zero(self.call(rt, Call::ToWrite(stamp.number())))
     }
 
-    /// Converts a stamp to read mode (`tryConvertToReadLock`): from write mode, from read mode with the
-    /// same stamp, from an optimistic stamp if it is valid and there is room for a reader. After it release
-    /// by the new stamp alone. None otherwise: the lock is as it was, and the old stamp still stands. It
-    /// waits for no holder.
+    /// Converts a stamp to read mode (`tryConvertToReadLock`). It does so from write mode, from
+    /// read mode with the same stamp, from an optimistic stamp if it is valid and there is room for
+    /// a reader. After it release by the new stamp alone. None otherwise: the lock is as it was,
+    /// and the old stamp still stands. It waits for no holder.
     pub fn try_convert_to_read<R: Wait>(&mut self, rt: &R, stamp: Stamp) -> Option<Stamp>
         ensures { Made (ToRead stamp) (stamped result) self.old self.new }
     {
         stamp_unless_zero(self.call(rt, Call::ToRead(stamp.number())))
     }
 
-    /// Converts a stamp to an optimistic one (`tryConvertToOptimisticRead`): it releases the mode that the
-    /// stamp matches; a valid optimistic stamp is answered itself. After it release nothing by the old
-    /// stamp. None otherwise: the lock is as it was. It waits for no holder.
+    /// Converts a stamp to an optimistic one (`tryConvertToOptimisticRead`). It releases the mode
+    /// that the stamp matches; a valid optimistic stamp is answered itself. After it release
+    /// nothing by the old stamp. None otherwise: the lock is as it was. It waits for no holder.
     pub fn try_convert_to_optimistic<R: Wait>(&mut self, rt: &R, stamp: Stamp) -> Option<Stamp>
         ensures { Made (ToOptimistic stamp) (stamped result) self.old self.new }
     {
@@ -255,16 +255,16 @@ impl<'a, L: KnownLayout> LockHandle<'a, L> {
         count_in(self.once_surely(Call::ReadCount))
     }
 
-    /// What the stamp is a stamp of, by its number: a write acquisition, a read hold or an optimistic read
-    /// of a lock of this layout, or neither (`isWriteLockStamp`, `isReadLockStamp`,
-    /// `isOptimisticReadStamp`). No access: it may have been released since.
+    /// What the stamp is a stamp of, by its number (`isWriteLockStamp`, `isReadLockStamp`,
+    /// `isOptimisticReadStamp`). That is a write acquisition, a read hold or an optimistic read of
+    /// a lock of this layout, or neither. No access: it may have been released since.
     pub fn kind(&self, stamp: Stamp) -> StampKind
         ensures { HasKind (units_of self.now.running.limits.layout) stamp result }
     {
         stamp.kind_in(self.entered.limits().layout())
     }
 
-    /// One more handle of the same lock, which knows as much as this one and has made no call.
+    /// One more handle of the same lock. It knows as much as this one, and has made no call.
     pub fn split(&mut self) -> LockHandle<'a, L>
         ensures running { (self.new.running ≡ self.old.running)
             × (result.running ≡ self.old.running) }

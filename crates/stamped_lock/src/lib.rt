@@ -16,11 +16,18 @@
 //! - A call whose name ends in `_once` doesn't even try again. It makes one load and at most one
 //!   exchange, and fails as `Lost` where these don't make it.
 //!
+//! A call that takes a runtime may go on for ever, and every other call returns. A refused call of
+//! the lock, sections aside, leaves the lock as it was. Only the calls that make a lock, a record
+//! or a cell can be refused for want of memory; that they are so only where an allocation was
+//! refused, and leave no block of it then, is tested, not proved.
+//!
 //! # Sections
 //!
 //! `write_with` and `read_with` acquire a mode, run a closure and release. `read_optimistically` is
 //! Java's idiom for a short read: an optimistic stamp, a closure, a validation; and where that
 //! fails the closure again, in read mode. `write_if` reads so, and writes where a test holds.
+//! Tested, not proved: that write sections of threads come one after the other, and that an
+//! optimistic read which a writer came into runs again.
 #![tactic(auto)]
 
 mod answers;

@@ -9,8 +9,8 @@ use stamp_threads::{LockError, RunningLock};
 use std::alloc::Global;
 use std::marker::{Model, PhantomData};
 
-/// A lock with the modes write, read and optimistic read, in one word that threads share by reference
-/// (`StampedLock` in Java). Threads call it by their handles.
+/// A lock with the modes write, read and optimistic read, which threads share (`StampedLock` in
+/// Java). It is one word, which they share by reference. Threads call it by their handles.
 ///
 /// `L` says what is known of its layout: that it is layout 1, where nothing else is written. So a call
 /// has no test of it.
@@ -34,15 +34,16 @@ impl<L: KnownLayout> Model for StampedLock<L> {
 
 impl StampedLock {
     /// A lock that nobody holds: up to 127 readers at a time, and 2^55-2 write acquisitions in all.
-    /// It refuses only for want of memory; nothing was made then.
+    /// It refuses only for want of memory; nothing was made then. That nobody holds it is tested,
+    /// not proved.
     pub fn new(alloc: Global) -> Result<StampedLock, LockError>
         ensures { IfOk result (λ lock. lock.limits ≡ widest Layout.One) }
     {
         StampedLock::with_limits(alloc, Limits::widest(Layout::One))
     }
 
-    /// A lock of these limits, which are of layout 1: they may have fewer readers or write acquisitions. It
-    /// refuses only for want of memory; nothing was made then.
+    /// As `new`, with these limits, which are of layout 1. They may have fewer readers or write
+    /// acquisitions.
     pub fn with_limits(alloc: Global, limits: Limits) -> Result<StampedLock, LockError>
         requires { limits.layout ≡ Layout.One }
         ensures { IfOk result (λ lock. lock.limits ≡ limits) }
@@ -74,7 +75,9 @@ impl<L: KnownLayout> StampedLock<L> {
         self.running.limits()
     }
 
-    /// A handle, for one thread at a time. It has made no call. It takes one load and no memory.
+    /// A handle by which a thread makes its calls, one thread at a time. It has made no call. No
+    /// contract says that the history it knows is all that happened before. It takes one load and
+    /// no memory.
     pub fn enter(&self) -> LockHandle<'_, L>
         ensures running { result.running ≡ self.now }
         ensures entered { HasEntered self.now.limits result.pass }

@@ -2,8 +2,8 @@
 use std::error::Error;
 use std::fmt;
 
-/// The stamp matches no held mode that the call releases (`IllegalMonitorStateException` in Java). The lock
-/// is as it was.
+/// The stamp matches no held mode that the call releases (`IllegalMonitorStateException` in Java).
+/// The lock is as it was; of a section, what its closure did stands.
 #[derive(Clone, Copy, PartialEq, Eq, Debug, Drop)]
 pub struct Mismatch;
 

@@ -49,9 +49,9 @@ impl<'a, const N: usize, P: ContentRule, L: KnownLayout> RecordHandle<'a, N, P, 
         RecordHandle { running, pass }
     }
 
-    /// Puts the words if nobody else is putting. It waits for nobody, and where it fails nothing was
-    /// put: `Busy` where the first load of the lock word found somebody putting, `Lost` where the word
-    /// changed after it, `Spent` where no version is left.
+    /// Puts the words if nobody else is putting. It waits for nobody, and where it fails nothing
+    /// was put: `Busy` where the first load of the lock word found somebody putting, `Spent` where
+    /// it found nobody and no version left, `Lost` where the word changed after it.
     pub fn put_once(&mut self, words: [u64; N]) -> Result<(), PutFault>
         requires { P.holds words }
         ensures ok { let h = self.old in let w = self.new in
@@ -116,11 +116,11 @@ impl<'a, const N: usize, P: ContentRule, L: KnownLayout> RecordHandle<'a, N, P, 
         record_calls::update_once(self.running, &mut self.pass, &f)
     }
 
-    /// Puts what the closure answers on the words over them, as one call, and gives the old words: so no
-    /// update is lost. The closure runs with nothing held, and again after each loss to another thread,
-    /// on words that stood together; it may rely on the rule, and has to keep it. Where `update_once`
-    /// fails as `Busy` or as `Lost`, it lets other threads run and tries again. It fails only where no
-    /// version is left; nothing was put then.
+    /// Puts what the closure answers on the words over them, as one call, and gives the old words.
+    /// So no update is lost. The closure runs with nothing held, and again after each loss to
+    /// another thread, on words that stood together; it may rely on the rule, and has to keep it.
+    /// Where `update_once` fails as `Busy` or as `Lost`, it lets other threads run and tries again.
+    /// It fails only where no version is left; nothing was put then.
     pub fn update<T: InWords<N>, R: Wait, F: Fn(&T) -> T>(
         &mut self,
         rt: &R,
@@ -194,7 +194,7 @@ impl<'a, const N: usize, P: ContentRule, L: KnownLayout> RecordHandle<'a, N, P, 
         record_calls::put_if(rt, self.running, &mut self.pass, &expected, &words)
     }
 
-    /// One more handle of the same record, which knows as much as this one and has made no call.
+    /// One more handle of the same record. It knows as much as this one, and has made no call.
     pub fn split(&mut self) -> RecordHandle<'a, N, P, L>
         ensures running { (self.new.running ≡ self.old.running)
             × (result.running ≡ self.old.running) }

@@ -14,9 +14,9 @@ impl<'a, L: KnownLayout> LockHandle<'a, L> {
     /// Runs the closure in write mode: acquires it (it waits as `write` does), runs the closure and
     /// releases. The closure gets what the handle stands on, as it is in between.
     ///
-    /// `Spent` where no version was left: the closure has not run. `Mismatch` where another thread had
-    /// released the lock before the closure ended, by this stamp or without one: the closure was not
-    /// alone then, so its answer is dropped.
+    /// `Spent` where no version was left: the closure has not run. `Mismatch` where another thread
+    /// had released the lock before the closure ended, by this stamp or without one: the closure
+    /// was not alone then, so its answer is dropped. What it did stands.
     pub fn write_with<T: Drop, R: Wait, F: FnOnce(&Entered<'a>) -> T>(
         &mut self,
         rt: &R,
@@ -38,8 +38,8 @@ impl<'a, L: KnownLayout> LockHandle<'a, L> {
     /// Runs the closure in read mode: acquires it (it waits as `read` does), runs the closure and
     /// releases. The closure gets what the handle stands on, as it is in between.
     ///
-    /// `Mismatch` where others had released every read hold before the closure ended: a writer may have
-    /// come then, so its answer is dropped.
+    /// `Mismatch` where others had released every read hold before the closure ended: a writer may
+    /// have come then, so its answer is dropped. What it did stands.
     pub fn read_with<T: Drop, R: Wait, F: FnOnce(&Entered<'a>) -> T>(
         &mut self,
         rt: &R,
@@ -54,9 +54,10 @@ impl<'a, L: KnownLayout> LockHandle<'a, L> {
         Ok(answer)
     }
 
-    /// Runs the closure between an optimistic stamp and its validation, and answers what it did while
-    /// nobody acquired write mode. Where there is a writer, or one comes, the closure runs again in read
-    /// mode, as in `read_with`: it may run twice, and what it reads first may be torn.
+    /// Runs the closure between an optimistic stamp and its validation, or else in read mode. It
+    /// answers what the closure did while nobody acquired write mode. Where there is a writer, or
+    /// one comes, the closure runs again in read mode, as in `read_with`: it may run twice, and
+    /// what it reads first may be torn.
     ///
     /// It waits and refuses as `read_with` does, and only then.
     pub fn read_optimistically<T: Drop, R: Wait, F: Fn(&Entered<'a>) -> T>(
@@ -70,8 +71,8 @@ impl<'a, L: KnownLayout> LockHandle<'a, L> {
         self.read_lent(rt, &f)
     }
 
-    /// As `read_optimistically`, by a closure that may change what it captures, as a buffer that it fills, and
-    /// that is lent. Its last run is the one whose answer is given. Where it runs again, it finds what its first
+    /// As `read_optimistically`, by a lent closure that may change what it captures, as a buffer.
+    /// Its last run is the one whose answer is given. Where it runs again, it finds what its first
     /// run left, which may come of torn reads.
     pub fn read_optimistically_mut<T: Drop, R: Wait, F: FnMut(&Entered<'a>) -> T>(
         &mut self,

@@ -7,7 +7,7 @@ ghost use Rattle.stamped_lock.specs.Replies.{stamp_or_zero};
 use stamp_core::{Layout, StampKind, stamp_kind_in};
 use std::marker::Model;
 
-/// What a call answers that acquires a mode, and what a call takes that releases it: a number, which
+/// The number that stands for an acquired mode, by which it is validated, converted or released. It
 /// is never 0. A stamp can be copied, and used by any thread.
 #[derive(Clone, Copy, PartialEq, Eq, Debug)]
 pub struct Stamp {
@@ -48,8 +48,9 @@ impl Stamp {
         self.number
     }
 
-    /// What it is a stamp of, by its number: a write acquisition, a read hold or an optimistic read of
-    /// a lock of this layout, or neither. `StampedLock::new` makes locks of layout 1.
+    /// What it is a stamp of in this layout, by its number. That is a write acquisition, a read
+    /// hold or an optimistic read of a lock of this layout, or neither. `StampedLock::new` makes
+    /// locks of layout 1.
     pub fn kind_in(self, layout: Layout) -> StampKind
         ensures { HasKind (units_of layout) self result }
     {

@@ -15,9 +15,11 @@ use std::time::{Clock, Duration, Instant};
 use std::{io, thread};
 
 impl<'a, L: KnownLayout> LockHandle<'a, L> {
-    /// Acquires write mode as `try_write` does, and tries again for this long while somebody holds the lock
-    /// (`tryWriteLock(time, unit)`). None where each try found it held, or no version left. Between two
-    /// tries it lets other threads run; so it ends by one try, and by a turn of theirs, later than the time.
+    /// Acquires write mode, trying for this long while somebody holds the lock
+    /// (`tryWriteLock(time, unit)`). It tries as `try_write` does, once at least. None where each
+    /// try found the lock held, or no version left. Between two tries it lets other threads run; so
+    /// it ends by one try, and by a turn of theirs, later than the time. How long it takes is
+    /// tested, not proved.
     /// It fails where the clock does, and nothing was acquired then.
     pub fn try_write_for<R: Wait + Clock>(
         &mut self,
@@ -30,9 +32,9 @@ impl<'a, L: KnownLayout> LockHandle<'a, L> {
         self.try_for(rt, Call::TryWrite, time)
     }
 
-    /// Acquires read mode as `try_read` does, and tries again for this long while there is a writer, or no
-    /// room for a reader (`tryReadLock(time, unit)`). None where each try found it so. It ends, and fails,
-    /// as `try_write_for` does.
+    /// Acquires read mode, trying for this long while it isn't free (`tryReadLock(time, unit)`). It
+    /// tries as `try_read` does. None where each try found a writer, or no room for a reader. It
+    /// ends, and fails, as `try_write_for` does.
     pub fn try_read_for<R: Wait + Clock>(
         &mut self,
         rt: &R,

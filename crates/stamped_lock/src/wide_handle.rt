@@ -44,9 +44,9 @@ impl<'a, const N: usize, P: ContentRule, L: KnownLayout> WideHandle<'a, N, P, L>
         WideHandle { running, pass }
     }
 
-    /// Puts the words if nobody else is putting. It waits for nobody, and where it fails nothing was
-    /// put: `Busy` where the first load of the lock word found somebody putting, `Lost` where the word
-    /// changed after it, `Spent` where no version is left.
+    /// Puts the words if nobody else is putting. It waits for nobody, and where it fails nothing
+    /// was put: `Busy` where the first load of the lock word found somebody putting, `Spent` where
+    /// it found nobody and no version left, `Lost` where the word changed after it.
     pub fn put_from_once(&mut self, words: &[u64]) -> Result<(), PutFault>
         requires long { length words.now ≡ N }
         requires rule { P.holds words.now }
@@ -106,12 +106,12 @@ impl<'a, const N: usize, P: ContentRule, L: KnownLayout> WideHandle<'a, N, P, L>
         unreachable!()
     }
 
-    /// Puts what the closure makes of the words over them, as one call; the old words are left in `old`, and
-    /// those that were put in `new`. The closure runs once at most, with nothing held, on a copy of
-    /// words that stood together; it may rely on the rule, and has to keep it. It waits for nobody, and where
-    /// it fails nothing was put, and both may be any words: `Busy` where the first load of the lock word
-    /// found somebody putting, `Lost` where the word changed after it (the closure may have run then),
-    /// `Spent` where no version is left.
+    /// Puts what the closure makes of the words over them, as one call. The old words are left in
+    /// `old`, and those that were put in `new`. The closure runs once at most, with nothing held,
+    /// on a copy of words that stood together; it may rely on the rule, and has to keep it. It
+    /// waits for nobody, and where it fails nothing was put, and both may be any words: `Busy`
+    /// where the first load of the lock word found somebody putting, `Lost` where the word changed
+    /// after it (the closure may have run then), `Spent` where no version is left.
     pub fn update_in_once<F: Fn(&mut [u64])>(
         &mut self,
         old: &mut [u64],
@@ -161,11 +161,12 @@ impl<'a, const N: usize, P: ContentRule, L: KnownLayout> WideHandle<'a, N, P, L>
         Ok(())
     }
 
-    /// Puts what the closure makes of the words over them, as one call; the old words are left in `old`, and
-    /// those that were put in `new`. So no update is lost. The closure runs with nothing held, and again
-    /// after each loss to another thread, on a copy of words that stood together; it may rely on the rule,
-    /// and has to keep it. Where `update_in_once` fails as `Busy` or as `Lost`, it lets other threads run and
-    /// tries again. It fails only where no version is left; nothing was put then.
+    /// Puts what the closure makes of the words over them, as one call. The old words are left in
+    /// `old`, and those that were put in `new`. So no update is lost. The closure runs with nothing
+    /// held, and again after each loss to another thread, on a copy of words that stood together;
+    /// it may rely on the rule, and has to keep it. Where `update_in_once` fails as `Busy` or as
+    /// `Lost`, it lets other threads run and tries again. It fails only where no version is left;
+    /// nothing was put then, and both may be any words.
     pub fn update_in<R: Wait, F: Fn(&mut [u64])>(
         &mut self,
         rt: &R,
@@ -195,7 +196,7 @@ impl<'a, const N: usize, P: ContentRule, L: KnownLayout> WideHandle<'a, N, P, L>
         unreachable!()
     }
 
-    /// One more handle of the same record, which knows as much as this one and has made no call.
+    /// One more handle of the same record. It knows as much as this one, and has made no call.
     pub fn split(&mut self) -> WideHandle<'a, N, P, L>
         ensures running { (self.new.running ≡ self.old.running)
             × (result.running ≡ self.old.running) }

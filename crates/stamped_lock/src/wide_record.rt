@@ -9,10 +9,10 @@ use stamp_threads::{ContentRule, LockError, WideRecord};
 use std::alloc::Global;
 use std::marker::Model;
 
-/// `N` words (1 to 4,096) that threads share by reference, and that keep to a rule whenever they are
-/// read, as those of a `StampedRecord` do. Its calls take slices of `N` words. The more words, the longer
-/// a call takes, and the oftener a get or an update loses to a put and is tried again. A history with
-/// more than 16 words has no text.
+/// `N` words (1 to 4,096) that threads share, and that keep to a rule whenever they are read. They
+/// are shared as those of a `StampedRecord`; the calls take slices of `N` words. The more words,
+/// the longer a call takes, and the oftener a get or an update loses to a put and is tried again. A
+/// history with more than 16 words has no text.
 ///
 /// `L` says what is known of its layout, as in `StampedLock`.
 #[derive(Drop)]
@@ -33,8 +33,8 @@ impl<const N: usize, P: ContentRule, L: KnownLayout> Model for StampedWideRecord
 }
 
 impl<const N: usize, P: ContentRule> StampedWideRecord<N, P> {
-    /// A record of these words. It takes 2^55-3 puts in all. It refuses only for want of memory;
-    /// nothing was made then.
+    /// A record that holds these words. That it does is tested, not proved. It takes 2^55-3 puts in
+    /// all. It refuses only for want of memory; nothing was made then.
     #[tactic(auto, unfolding(stamp_core::specs::Layout::units_of))]
     pub fn new(alloc: Global, first: &[u64]) -> Result<StampedWideRecord<N, P>, LockError>
         requires width { (1 ≤ N) × (N ≤ 4096) }
@@ -46,9 +46,8 @@ impl<const N: usize, P: ContentRule> StampedWideRecord<N, P> {
         StampedWideRecord::with_limits(alloc, Limits::widest(Layout::One), first)
     }
 
-    /// A record of these limits, which are of layout 1, and words. Of the limits the versions count, of
-    /// which the first content takes one; the readers don't matter. It refuses only for want of memory;
-    /// nothing was made then.
+    /// As `new`, with these limits, which are of layout 1. Of the limits the versions count, of
+    /// which the first content takes one; the readers don't matter.
     pub fn with_limits(
         alloc: Global,
         limits: Limits,
@@ -84,7 +83,9 @@ impl<const N: usize, P: ContentRule, L: KnownLayout> StampedWideRecord<N, P, L> 
         Ok(StampedWideRecord { running })
     }
 
-    /// A handle, for one thread at a time. It has made no call. It takes one load and no memory.
+    /// A handle by which a thread makes its calls, one thread at a time. It has made no call. No
+    /// contract says that the history it knows is all that happened before. It takes one load and
+    /// no memory.
     pub fn enter(&self) -> WideHandle<'_, N, P, L>
         ensures running { result.running ≡ self.now }
         ensures entered { HasEntered self.now.shape result.pass }

@@ -11,7 +11,8 @@ use std::fmt;
 pub enum WriteError {
     /// 1: no version is left, and write mode can't be acquired any more. The closure has not run.
     Spent,
-    /// 2: the closure ran, but before its end another thread had released the lock. Its answer is dropped.
+    /// 2: the closure ran, but before its end another thread had released the lock. Its answer is
+    /// dropped, and what it did stands.
     Mismatch,
 }
 

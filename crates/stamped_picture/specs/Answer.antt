@@ -10,11 +10,11 @@ use Rattle.stamp_cli.specs.declared.line.Verdict.TheVariants.{Accepted, Bad}
 use Rattle.stamp_picture.specs.declared.picture.Fault.{Fault}
 use Rattle.stamp_picture.specs.declared.window.Window.{Window}
 use Rattle.stamp_picture.specs.Picture.{Drawn, IsPicture, IsCrowded}
-use Rattle.stamp_drawing.specs.declared.sheet.Sheet.{Sheet}
-use Rattle.stamp_drawing.specs.Markup.{IsDocument}
-use Rattle.stamp_drawing.specs.Sheet.{IsSheet}
-use Rattle.stamp_drawing.specs.Svg.{svg_text}
-use Rattle.stamp_drawing.specs.Rows.{IsRows, AreNarrow}
+use Rattle.stamp_picture.specs.declared.sheet.Sheet.{Sheet}
+use Rattle.stamp_picture.specs.Markup.{IsDocument}
+use Rattle.stamp_picture.specs.Sheet.{IsSheet}
+use Rattle.stamp_picture.specs.Svg.{svg_text}
+use Rattle.stamp_picture.specs.Rows.{IsRows, AreNarrow}
 use Rattle.stamped_picture.specs.declared.orders.PictureFormat.{PictureFormat}
 use Rattle.stamped_picture.specs.declared.orders.PictureFormat.TheVariants.{Svg, Text}
 use Rattle.stamped_picture.specs.declared.orders.PictureOrder.{PictureOrder}

@@ -14,9 +14,8 @@ use crate::faults::PictureFault;
 use crate::orders::{PictureFormat, PictureOrder};
 use stamp_cli::{MOST_BYTES, ServeFault, Source, Verdict, read_input};
 use stamp_core::Record;
-use stamp_drawing::{sheet_of, svg_of, text_of};
 use stamp_history::read_history;
-use stamp_picture::{Fault, Picture, picture_of};
+use stamp_picture::{Fault, Picture, picture_of, sheet_of, svg_of, text_of};
 use std::alloc::{AllocError, Global};
 
 /// The picture that answers an order.

@@ -1,4 +1,0 @@
-pub mod Appending
-pub mod OneByOne
-pub mod Narrow
-pub mod WellFormed

@@ -1,6 +1,0 @@
-use Rattle.stamp_drawing.specs.Sheet.{bar_title}
-use Rattle.stamp_drawing.proofs.sheet.bar_title.Goals as goal
-
-pub returns : goal.returns
-unfolding bar_title
-returns c = c.format.ensures.ok

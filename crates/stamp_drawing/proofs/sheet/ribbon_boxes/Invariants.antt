@@ -1,9 +1,0 @@
-use Rattle.std.proofs.Common.{◌≡◌, ◌∷◌, map, take}
-use Rattle.stamp_drawing.specs.Frames.{opening_frame}
-use Rattle.stamp_drawing.specs.Sheet.{boxes_of, state_box, moment_box}
-use Rattle.stamp_drawing.proofs.sheet.ribbon_boxes.Given as goal
-
-abbrev pub invariant-loop-moment : goal.invariant-loop-moment
-invariant-loop-moment l = boxes_of l.boxes.items ≡
-    state_box (opening_frame l.positions l.opening) l.opening ∷
-    map (moment_box l.positions) (take l.moment-index l.ribbon)

@@ -1,7 +1,0 @@
-//! Laws of the SVG. Each function does nothing; its contract is the law, over the definitions alone.
-ghost use Rattle.stamp_drawing.specs.SvgLaws.{SvgIsWellFormed};
-
-/// The SVG of a sheet is well-formed, whatever stands on the sheet.
-pub fn svg_is_well_formed()
-    ensures { SvgIsWellFormed }
-{}

@@ -1,6 +1,0 @@
-use Rattle.std.specs.Prelude.{◌≡◌, take, string_bytes}
-use Rattle.stamp_explain_cli.specs.Note.{others_text}
-use Rattle.stamp_explain_cli.proofs.note.others_text.Given as goal
-
-abbrev pub invariant-loop-reply : goal.invariant-loop-reply
-invariant-loop-reply l = string_bytes l.text ≡ others_text (take l.reply-index l.replies)

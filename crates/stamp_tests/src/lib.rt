@@ -1,0 +1,32 @@
+//! The tests of the libraries of calls and histories and of the program's engine, in a crate of their own, since one
+//! with tests is proved twice.
+#![tactic(auto)]
+
+#[cfg(test)]
+mod check_tests;
+#[cfg(test)]
+mod core_tests;
+#[cfg(test)]
+mod ends_tests;
+#[cfg(test)]
+mod explain_tests;
+#[cfg(test)]
+mod fault_tests;
+#[cfg(test)]
+mod history_reading_tests;
+#[cfg(test)]
+mod history_tests;
+#[cfg(test)]
+mod migration_tests;
+#[cfg(test)]
+mod plain_check;
+#[cfg(test)]
+mod reading_tests;
+#[cfg(test)]
+mod replay_tests;
+#[cfg(test)]
+mod script_tests;
+#[cfg(test)]
+mod serve_tests;
+#[cfg(test)]
+mod writing_tests;

@@ -1,0 +1,13 @@
+use Rattle.stamp_cli.proofs.HandedOn.{same_fault}
+use Rattle.stamped_explain.proofs.serving.serve_explanation.Goals as goal
+
+pub returns-in_err-line-clause-refused : goal.returns-in_err-line-clause-refused
+returns-in_err-line-clause-refused g c =
+    same_fault c.from_residual.result c.in_err-line.field-0.0 _ c.from_residual.ensures.1
+    (λ read write memory. c.in_err-line.ensures.err read memory)
+
+pub returns-in_err-write_text-clause-refused : goal.returns-in_err-write_text-clause-refused
+returns-in_err-write_text-clause-refused g c =
+    same_fault c.from_residual-in_err-write_text.result c.in_err-write_text.field-0.0 _
+    c.from_residual-in_err-write_text.ensures.1
+    (λ read write memory. absurd (write c.in_err-write_text.ensures.err))

@@ -1,0 +1,62 @@
+-- The line that answers an observed history, with the note beside it, or why there is none.
+use Rattle.std.specs.Prelude.{◌≡◌, ◌≢◌, ℕ, List, Option, Result, Ok, Err, String}
+use Rattle.std.specs.declared.alloc.AllocError.{AllocError}
+use Rattle.std.specs.declared.alloc.Global.{Global}
+use Rattle.stamp_cli.specs.Answer.{LineView, IsInputAnswer, AnswersRead, line_in, with_line_feed}
+use Rattle.stamp_cli.specs.Refusal.{refusal}
+use Rattle.stamp_cli.specs.Source.{Reads}
+use Rattle.stamp_cli.specs.declared.faults.ServeFault.{ServeFault}
+use Rattle.stamp_cli.specs.declared.faults.ServeFault.TheVariants.{Memory}
+use Rattle.stamp_explain.specs.Observed.{ObservedHistory}
+use Rattle.stamp_history.specs.declared.read_error.ReadError.{ReadError}
+use Rattle.stamp_observed.specs.ObservedReading.{observed_of}
+use Rattle.stamped_explain.specs.declared.finding.Finding.{Finding}
+use Rattle.stamped_explain.specs.Finding.{IsFinding}
+use Rattle.stamped_explain.specs.FindingText.{finding_text, finding_verdict}
+use Rattle.stamped_explain.specs.Note.{IsNote}
+use Rattle.stamped_explain.specs.declared.answer.LineAndNote as made
+use Rattle.stamped_explain.specs.declared.answer.VerdictAndNote.{VerdictAndNote}
+
+-- a line and the note beside it, as contracts see them
+pub record LineAndNoteView : Type 0 where
+  pub line : LineView
+  pub note : Result (Option (String Global)) AllocError
+
+abbrev pub view_in : made.LineAndNote → LineAndNoteView
+view_in answer = record { line = line_in answer.line; note = answer.note }
+
+-- the line as it is written
+abbrev pub line_with_feed : LineAndNoteView → List ℕ
+line_with_feed answer = with_line_feed answer.line
+
+abbrev pub AreVerdictAndNoteOf : LineAndNoteView → VerdictAndNote → Type 0
+AreVerdictAndNoteOf answer told = (told.verdict ≡ answer.line.verdict) × (told.note ≡ answer.note)
+
+-- this is found of an observed history, the line says it, and this is the note
+pub record SaysWhatIsFound (h : ObservedHistory) (most : ℕ) (answer : LineAndNoteView) : Type 0 where
+  pub found : Finding
+  pub is : IsFinding h most found
+  pub says : answer.line.text ≡ finding_text found
+  pub verdict : answer.line.verdict ≡ finding_verdict found
+  pub note : IsNote h most found answer.note
+
+-- the answer to what an input reads as
+abbrev pub IsExplainAnswer : ℕ → Result ObservedHistory ReadError → Result LineAndNoteView ServeFault → Type 0
+IsExplainAnswer most (Ok h) (Ok answer) = SaysWhatIsFound h most answer
+IsExplainAnswer most (Ok h) (Err fault) = ⊥
+IsExplainAnswer most (Err e) answer = answer ≡ Err (refusal e)
+
+-- without the line feed
+abbrev pub AnswersExplain : ℕ → List ℕ → Result LineAndNoteView ServeFault → Type 0
+AnswersExplain most input answer = IsExplainAnswer most (observed_of input) answer
+
+-- a source was read as input, and this is the answer
+abbrev pub AnswersSource : ℕ → Option (List ℕ) → Option (List ℕ) → ℕ → Result LineAndNoteView ServeFault → Type 0
+AnswersSource most old new taken answer =
+    AnswersRead (Reads old new) (IsInputAnswer (AnswersExplain most)) taken answer
+
+-- memory aside, the fact holds of what a function returned
+abbrev pub HoldsUnlessMemory : (Result LineAndNoteView ServeFault → Type 0) →
+    Result made.LineAndNote ServeFault → Type 0
+HoldsUnlessMemory P (Ok answer) = P (Ok (view_in answer))
+HoldsUnlessMemory P (Err e) = e ≢ Memory → P (Err e)

@@ -1,0 +1,33 @@
+-- The line of what is found of an observed history, and what it says.
+use Rattle.std.specs.Prelude.{ℕ, List, ◌++◌, codes, decimal}
+use Rattle.stamp_cli.specs.declared.line.Verdict.{Verdict}
+use Rattle.stamp_cli.specs.declared.line.Verdict.TheVariants.{Accepted, Bad}
+use Rattle.stamp_history.specs.HistoryText.{history_text}
+use Rattle.stamp_observed.specs.declared.judging.ObservedWhy.{ObservedWhy}
+use Rattle.stamp_observed.specs.declared.judging.ObservedWhy.TheVariants.{Interval, Overlap}
+use Rattle.stamp_observed.specs.declared.judging.ObservedFault.{ObservedFault}
+use Rattle.stamped_explain.specs.declared.finding.Finding.{Finding}
+use Rattle.stamped_explain.specs.declared.finding.Finding.TheVariants.{Faulty, Explained, Stuck, Unexplained}
+use Rattle.stamped_explain.specs.declared.finding.Finding.TheVariants.{Undecided}
+
+abbrev pub why_text : ObservedWhy → List ℕ
+why_text Interval = codes "interval"
+why_text Overlap = codes "overlap"
+
+abbrev pub bad_text : ObservedFault → List ℕ
+bad_text fault = codes "bad " ++ decimal fault.entry ++ codes " " ++ why_text fault.why
+
+-- a recorded history as its text
+abbrev pub finding_text : Finding → List ℕ
+finding_text (Faulty fault) = bad_text fault
+finding_text (Explained made) = history_text made
+finding_text (Stuck i) = codes "stuck " ++ decimal i
+finding_text (Unexplained i) = codes "undecided " ++ decimal i
+finding_text (Undecided i) = codes "undecided " ++ decimal i
+
+abbrev pub finding_verdict : Finding → Verdict
+finding_verdict (Faulty fault) = Bad
+finding_verdict (Explained made) = Accepted
+finding_verdict (Stuck i) = Bad
+finding_verdict (Unexplained i) = Bad
+finding_verdict (Undecided i) = Bad

@@ -1,0 +1,64 @@
+-- The note of a history that no order explains.
+use Rattle.std.specs.Prelude.{ℕ, ◌≡◌, ◌++◌, List, [], ◌∷◌, Option, Some, None, Result, Ok, Err, Vec, String}
+use Rattle.std.specs.Prelude.{codes, decimal, string_bytes}
+use Rattle.std.specs.List.{flat_map}
+use Rattle.std.specs.declared.alloc.AllocError.{AllocError}
+use Rattle.std.specs.declared.alloc.Global.{Global}
+use Rattle.stamp_core.specs.declared.call.Call.{Call}
+use Rattle.stamp_core.specs.declared.reply.Reply.{Reply}
+use Rattle.stamp_picture.specs.Labels.{call_text, reply_text}
+use Rattle.stamp_explain.specs.declared.observed.Observation.{Observation}
+use Rattle.stamp_explain.specs.Observed.{ObservedHistory, IsReturnAt}
+use Rattle.stamp_explain.specs.Possible.{AreAllPossible, IsUndecidedAtAny}
+use Rattle.stamped_explain.specs.declared.finding.Finding.{Finding}
+use Rattle.stamped_explain.specs.declared.finding.Finding.TheVariants.{Stuck, Unexplained}
+
+abbrev pub replies_in : Option (Vec Reply Global) → Option (List Reply)
+replies_in None = None
+replies_in (Some replies) = Some replies.items
+
+-- all the replies that the call of this entry could have had; or that is undecided
+abbrev pub ArePossibleAt : ObservedHistory → ℕ → ℕ → Option (List Reply) → Type 0
+ArePossibleAt h most i None = IsUndecidedAtAny h i most
+ArePossibleAt h most i (Some replies) = AreAllPossible h i replies
+
+abbrev pub others_text : List Reply → List ℕ
+others_text replies = flat_map (λ (r : Reply). codes ", " ++ reply_text r) replies
+
+abbrev pub replies_text : List Reply → List ℕ
+replies_text [] = codes "; no reply was possible, it would have waited"
+replies_text (r ∷ replies) = codes "; possible: " ++ reply_text r ++ others_text replies
+
+abbrev pub possible_text : Option (List Reply) → List ℕ
+possible_text None = codes "; what was possible is undecided"
+possible_text (Some replies) = replies_text replies
+
+abbrev pub entry_text : ℕ → ℕ → List ℕ
+entry_text i thread = codes "stamped: entry " ++ (decimal i ++ (codes " of thread " ++ decimal thread))
+
+abbrev pub answer_text : Call → Reply → List ℕ
+answer_text call reply = codes ": " ++ (call_text call ++ (codes " answered " ++ reply_text reply))
+
+-- what the call answered, and what was possible
+abbrev pub stuck_text : ℕ → Observation → Reply → Option (List Reply) → List ℕ
+stuck_text i e reply replies = entry_text i e.thread ++ answer_text e.call reply ++ possible_text replies
+
+pub record IsStuckNote (h : ObservedHistory) (most i : ℕ) (text : List ℕ) : Type 0 where
+  pub at : IsReturnAt h.entries i
+  pub replies : Option (List Reply)
+  pub possible : ArePossibleAt h most i replies
+  pub says : text ≡ stuck_text i at.entry at.return.reply replies
+
+-- the note where it is undecided from which return on
+abbrev pub unexplained_text : List ℕ
+unexplained_text = codes "stamped: no order explains the history; from which return on is undecided"
+
+-- the note of what was found: none, unless no order explains it; or memory was refused
+abbrev pub IsNote : ObservedHistory → ℕ → Finding → Result (Option (String Global)) AllocError → Type 0
+IsNote h most (Stuck i) (Ok (Some text)) = IsStuckNote h most i (string_bytes text)
+IsNote h most (Stuck i) (Ok None) = ⊥
+IsNote h most (Unexplained i) (Ok (Some text)) = string_bytes text ≡ unexplained_text
+IsNote h most (Unexplained i) (Ok None) = ⊥
+IsNote h most found (Ok (Some text)) = ⊥
+IsNote h most found (Ok None) = Unit {0}
+IsNote h most found (Err e) = Unit {0}

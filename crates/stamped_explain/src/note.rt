@@ -1,0 +1,154 @@
+//! The note of a history that no order explains: where it is stuck, what the call answered, and what it
+//! could have answered.
+
+ghost use Rattle.std.specs.Prelude.{◌≡◌, ◌++◌, IfOk, Some, slice_get, string_bytes};
+ghost use Rattle.stamp_explain.specs.Observed.{IsObserved, IsReturnAt};
+ghost use Rattle.stamped_explain.specs.Finding.{IsFinding};
+ghost use Rattle.stamped_explain.specs.Note.{IsNote, IsStuckNote, ArePossibleAt, answer_text, others_text, entry_text, replies_text, possible_text, stuck_text, replies_in, unexplained_text};
+
+use crate::finding::Finding;
+use stamp_core::{Call, Reply};
+use stamp_explain::{Observation, Observed, PossibleError, possible_at};
+use stamp_picture::{CallLabel, ReplyLabel};
+use std::alloc::{AllocError, Global};
+use std::fmt;
+
+/// The replies as texts, each behind a comma.
+fn others_text(alloc: Global, replies: &[Reply]) -> Result<String, AllocError>
+    ensures { IfOk result (λ text. string_bytes text ≡ others_text replies.now) }
+{
+    let mut text = String::new(alloc);
+    for reply in replies {
+        let label = ReplyLabel(*reply).to_string(alloc)?;
+        text.push_str(", ")?;
+        text.push_str(&label)?;
+    }
+    Ok(text)
+}
+
+/// The replies that were possible, as a text.
+fn replies_text(alloc: Global, replies: &[Reply]) -> Result<String, AllocError>
+    ensures { IfOk result (λ text. string_bytes text ≡ replies_text replies.now) }
+{
+    let Some(first) = replies.first() else {
+        return format!(in alloc; "; no reply was possible, it would have waited");
+    };
+    let others = others_text(alloc, &replies[1..])?;
+    format!(in alloc; "; possible: {}{others}", ReplyLabel(*first))
+}
+
+/// What was possible, as a text: these replies, or that it is undecided.
+fn possible_text(alloc: Global, replies: &Option<Vec<Reply>>) -> Result<String, AllocError>
+    ensures { IfOk result (λ text. string_bytes text ≡ possible_text (replies_in replies.now)) }
+{
+    match replies {
+        None => format!(in alloc; "; what was possible is undecided"),
+        Some(replies) => replies_text(alloc, replies.as_slice()),
+    }
+}
+
+/// Which call it is.
+#[derive(Drop)]
+struct EntryText(usize, u64);
+
+impl fmt::Display for EntryText {
+    ghost output = { λ text. Some (entry_text text.0 text.1) };
+
+    fn fmt<W: fmt::Write>(&self, f: &mut fmt::Formatter<W>) -> fmt::Result {
+        write!(f, "stamped: entry {} of thread {}", self.0, self.1)
+    }
+}
+
+/// What the call answered.
+#[derive(Drop)]
+struct AnswerText(Call, Reply);
+
+impl fmt::Display for AnswerText {
+    ghost output = { λ text. Some (answer_text text.0 text.1) };
+
+    fn fmt<W: fmt::Write>(&self, f: &mut fmt::Formatter<W>) -> fmt::Result {
+        write!(f, ": {} answered {}", CallLabel(self.0), ReplyLabel(self.1))
+    }
+}
+
+/// What the call answered, and what was possible.
+fn stuck_text(
+    alloc: Global,
+    entry: usize,
+    observation: &Observation,
+    reply: Reply,
+    replies: &Option<Vec<Reply>>,
+) -> Result<String, AllocError>
+    ensures { IfOk result (λ text. string_bytes text
+        ≡ stuck_text entry observation.now reply (replies_in replies.now)) }
+{
+    let mut text = EntryText(entry, observation.thread).to_string(alloc)?;
+    text.push_str(&AnswerText(observation.call, reply).to_string(alloc)?)?;
+    text.push_str(&possible_text(alloc, replies)?)?;
+    Ok(text)
+}
+
+/// The replies that the call of this entry could have had; `None` where that is undecided.
+fn replies_at(
+    alloc: Global,
+    observed: &Observed,
+    entry: usize,
+    most: u64,
+) -> Result<Option<Vec<Reply>>, AllocError>
+    requires observed { IsObserved observed.now }
+    requires returned { IsReturnAt observed.now.entries entry }
+    ensures { IfOk result (λ found. ArePossibleAt observed.now most entry (replies_in found)) }
+{
+    match possible_at(alloc, observed, entry, most) {
+        Ok(replies) => Ok(Some(replies)),
+        Err(PossibleError::Undecided) => Ok(None),
+        Err(PossibleError::Memory) => Err(AllocError),
+    }
+}
+
+/// The note of a history that is stuck at the return of this entry.
+fn stuck_note(
+    alloc: Global,
+    observed: &Observed,
+    entry: usize,
+    most: u64,
+) -> Result<String, AllocError>
+    requires observed { IsObserved observed.now }
+    requires returned { IsReturnAt observed.now.entries entry }
+    ensures { IfOk result (λ text. IsStuckNote observed.now most entry (string_bytes text)) }
+{
+    let observation = &observed.entries()[entry];
+    let Some(returned) = &observation.returned else {
+        unreachable!();
+    };
+    let replies = replies_at(alloc, observed, entry, most)?;
+    stuck_text(alloc, entry, observation, returned.reply, &replies)
+}
+
+/// The note of a history that no order explains, where it is undecided from which return on.
+fn unexplained_text(alloc: Global) -> Result<String, AllocError>
+    ensures { IfOk result (λ text. string_bytes text ≡ unexplained_text) }
+{
+    String::from_str(
+        alloc,
+        "stamped: no order explains the history; from which return on is undecided",
+    )
+}
+
+/// The note of what was found, for standard error: none, unless no order explains the history. A search
+/// gives up once it has looked at more than `most` configurations.
+pub(crate) fn note_of(
+    alloc: Global,
+    observed: &Observed,
+    finding: &Finding,
+    most: u64,
+) -> Result<Option<String>, AllocError>
+    requires { IsFinding observed.now most finding.now }
+    ensures { IsNote observed.now most finding.now result }
+{
+    match finding {
+        Finding::Stuck(entry) => Ok(Some(stuck_note(alloc, observed, *entry, most)?)),
+        Finding::Unexplained(_) => Ok(Some(unexplained_text(alloc)?)),
+        _ => Ok(None),
+    }
+}
