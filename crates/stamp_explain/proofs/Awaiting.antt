@@ -255,6 +255,13 @@ index_read returns past i inside read = same_Some (get_or returns past 0) i
     (sym (slice_get-get_or returns past 0 inside) ∙
     slice_get_read returns (length returns) past i refl inside read)
 
+pub awaited_inside : (h : ObservedHistory) (timeline : Timeline) (past i : ℕ) → IsTimeline h timeline →
+    past < length timeline.returns.items → i ≡ get_or timeline.returns.items past i → i < length h.entries
+awaited_inside h timeline past i is inside read =
+    let there : IsReturnAt h.entries (get_or timeline.returns.items past i) = is.are.each past i inside in
+    subst (λ (k : ℕ). k < length h.entries) (sym read)
+    (slice_get_within h.entries (get_or timeline.returns.items past i) there.entry there.is_entry)
+
 pub awaited_read : (h : ObservedHistory) (returns : List ℕ) (past i : ℕ) (a : Observation) →
     IsAwaitedAt h returns past a → i ≡ get_or returns past i → slice_get h.entries i ≡ Some a
 awaited_read h returns past i a awaited read =
@@ -281,6 +288,15 @@ awaits_of h timeline node i read d observed is inside index same = record {
     within : i < length h.entries
     within = subst (λ (k : ℕ). k < length h.entries) here (slice_get_within h.entries
         (get_or timeline.returns.items node.past 0) there.entry there.is_entry)
+
+pub awaits_read : (h : ObservedHistory) (timeline : Timeline) (node : Node) (i : ℕ) (read : List Observation)
+    (e : Observation) → IsTimeline h timeline → node.past < length timeline.returns.items →
+    i ≡ get_or timeline.returns.items node.past i → read ≡ h.entries → e ≡ get_or read i e →
+    slice_get h.entries (get_or timeline.returns.items node.past 0) ≡ Some e
+awaits_read h timeline node i read e is inside index same at =
+    ap (λ (k : ℕ). slice_get h.entries k) (index_read timeline.returns.items node.past i inside index) ∙
+    slice_get_read h.entries (length h.entries) i e refl (awaited_inside h timeline node.past i is inside index)
+    (at ∙ ap (λ (es : List Observation). get_or es i e) same)
 
 -- the calls that are open are read
 pub opens_read : (h : ObservedHistory) (timeline : Timeline) (past : ℕ) (v : Vec ℕ Global) (slice : List ℕ) →

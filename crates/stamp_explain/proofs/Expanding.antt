@@ -23,6 +23,7 @@ use Rattle.stamp_explain.specs.declared.observed.Observation.{Observation}
 use Rattle.stamp_explain.specs.declared.node.Node.{Node}
 use Rattle.stamp_explain.specs.declared.node.CallTransition.{CallTransition}
 use Rattle.stamp_explain.specs.Observed.{ObservedHistory, IsObserved, IsBefore, IsInterval, DoNotOverlap}
+use Rattle.stamp_explain.specs.Observed.{AllowsReply}
 use Rattle.stamp_explain.specs.Explained.{Effect}
 use Rattle.stamp_explain.specs.Search.{LockState, StateTransition, MayTake, AreReturns, after_call}
 use Rattle.stamp_explain.specs.Node.{IsFirstLeft, AreTaken, StandsFor, Does, IsTransitionOf}
@@ -211,33 +212,52 @@ none_by_bit h returns node a i s taken is bit x u may same =
     may.fresh (subst (Contains taken) (sym same) (is.stands.in_effect.each_first i is.it.entry
     (next_of h returns node a i s taken is) bit))
 
--- it gives another reply
-pub none_by_reply : (h : ObservedHistory) (returns : List ℕ) (node : Node) (a : Observation) (i : ℕ)
+-- it waits
+pub none_by_wait : (h : ObservedHistory) (returns : List ℕ) (node : Node) (a : Observation) (i : ℕ)
     (s : LockState) (taken : List ℕ) → Trying h returns node a i s taken →
     ((e : Observation) → slice_get h.entries i ≡ Some e → IsTransitionOf h i e node.put s None) →
     Takes h returns node a i s taken None
-none_by_reply h returns node a i s taken is gone x u may same =
-    gone x.entry (ap (λ (k : ℕ). slice_get h.entries k) (sym same) ∙ may.effect.is_entry) x.reply u
-    may.effect.replies may.goes
+none_by_wait h returns node a i s taken is gone x u may same =
+    gone x.entry (ap (λ (k : ℕ). slice_get h.entries k) (sym same) ∙ may.effect.is_entry) x.reply u may.goes
+
+-- it gives another reply
+pub none_by_reply : (h : ObservedHistory) (returns : List ℕ) (node : Node) (a : Observation) (i : ℕ)
+    (s : LockState) (taken : List ℕ) (did : CallTransition) → (is : Trying h returns node a i s taken) →
+    ¬ AllowsReply is.it.entry did.reply →
+    ((e : Observation) → slice_get h.entries i ≡ Some e → IsTransitionOf h i e node.put s (Some did)) →
+    Takes h returns node a i s taken None
+none_by_reply h returns node a i s taken did is denied gone x u may same =
+    denied (subst (λ (o : Observation). AllowsReply o did.reply) entry
+    (subst (AllowsReply x.entry) (sym reply) may.effect.replies))
+  where
+    here : slice_get h.entries i ≡ Some x.entry
+    here = ap (λ (k : ℕ). slice_get h.entries k) (sym same) ∙ may.effect.is_entry
+
+    entry : x.entry ≡ is.it.entry
+    entry = same_Some x.entry is.it.entry (sym here ∙ is.it.is_entry)
+
+    reply : did.reply ≡ x.reply
+    reply = one_reply h.limits s.0 s.1 x.entry.call did.reply x.reply (gone x.entry here).goes.replies
+        may.goes.replies
 
 -- it takes effect
 pub taken_to : (h : ObservedHistory) (returns : List ℕ) (node : Node) (a : Observation) (i : ℕ) (s : LockState)
     (taken : List ℕ) (threads : ℕ) (did : CallTransition) → (is : Trying h returns node a i s taken) →
-    bit_at node.threads is.it.entry.thread ≢ 1 →
+    bit_at node.threads is.it.entry.thread ≢ 1 → AllowsReply is.it.entry did.reply →
     ((e : Observation) → slice_get h.entries i ≡ Some e → IsTransitionOf h i e node.put s (Some did)) →
     SetsBit node.threads threads is.it.entry.thread → Takes h returns node a i s taken
     (Some (record {
       node = record { past = node.past; bits = did.bits; put = did.put; threads = threads };
       took = Some i;
     }))
-taken_to h returns node a i s taken threads did is bit gone sets = record {
+taken_to h returns node a i s taken threads did is bit allowed gone sets = record {
   past = refl;
   effect = effect;
   index = refl;
   took = refl;
   state = after_call h.limits s (e.call, did.reply);
   may = record {
-    effect = record { is_entry = is.it.is_entry; replies = went.may };
+    effect = record { is_entry = is.it.is_entry; replies = allowed };
     fresh = λ has. bit (taken_by_bit h.entries (take node.past returns) node.threads taken i e is.stands.in_effect
         is.it.is_entry is.it.still has).0;
     begun = is.it.begun a is.at;

@@ -24,17 +24,24 @@ use Rattle.stamp_explain.specs.Ahead.{GivesWay}
 use Rattle.stamp_explain.specs.Configuration.{IsAtOnce, IsFirstAtOnce, IsFirstAlike}
 use Rattle.stamp_explain.specs.Node.{StandsFor}
 use Rattle.stamp_explain.specs.Timeline.{IsTimeline, IsAwaitedAt, IsOpenAt, AreOpen}
+use Rattle.stamp_explain.specs.Asking.{IsAim}
 use Rattle.stamp_explain.specs.Expand.{GoesOn, Expands, ComesByOneMove, ComesByMove, IsTakenTo, IsTakeOf}
 use Rattle.stamp_explain.specs.Expand.{ComesNext, IsChoiceOf, IsNoChoice, IsSettled, NoneIsAtOnceAt, PassesTo}
-use Rattle.stamp_explain.specs.Expand.{Suffice}
+use Rattle.stamp_explain.specs.Expand.{Suffice, MayGoOn, AskedStays}
+use Rattle.stamp_explain.specs.Expand.IsNoChoice.{is_asked, of_other, questions, comes_later, stays}
+use Rattle.stamp_core.specs.Call.{is_lock_call}
+use Rattle.stamp_explain.proofs.Replying.{IsAlike}
+use Rattle.stamp_explain.proofs.Answering.{AreAlike, there, other_there, same_there, turned, passes_alike, opens_alike}
+use Rattle.stamp_explain.proofs.Answering.{took_alike}
+use Rattle.stamp_explain.proofs.Aiming.{aim_alike, aim_awaits, asked_or_not, awaits_here}
 use Rattle.stamp_explain.proofs.Searching.{CompletesIn}
 use Rattle.stamp_explain.proofs.Staying.{unchanging_calls_change_nothing}
 use Rattle.stamp_explain.proofs.AtOnce.{TakesAtOnce, takes_at_once}
 use Rattle.stamp_explain.proofs.Settling.{follows_of, suffices_settled}
 use Rattle.stamp_explain.proofs.Expanding.{next_open, open_may}
 use Rattle.stamp_explain.proofs.Lists.{none_in_empty, each_push, either_in}
-use Rattle.stamp_explain.proofs.Awaiting.{Awaits, awaited_at, leads_by_call, goes_on_to, alone, only_one, due}
-use Rattle.stamp_explain.proofs.Trying.{Tries, none_tried, tried_some, tried_not, suffice_open}
+use Rattle.stamp_explain.proofs.Awaiting.{Awaits, AwaitsOne, awaited_at, leads_by_call, goes_on_to, alone, only_one, due}
+use Rattle.stamp_explain.proofs.Trying.{Tries, none_tried, tried_none, tried_some, tried_not, suffice_taken}
 
 -- of the first k of these calls none takes effect at once
 pub record NoneOfFirst (h : ObservedHistory) (asked : Option ℕ) (returns : List ℕ) (node : Node) (calls : List ℕ)
@@ -80,21 +87,16 @@ pub none_by_took : (h : ObservedHistory) (asked : Option ℕ) (returns : List �
 none_by_took h asked returns node calls k before took = none_of_more h asked returns node calls k before
     (λ a s taken awaited stands x t at_once is may. took.takes a s taken awaited stands x t may (sym is))
 
--- it does not tell that it changes nothing
-pub none_by_change : (h : ObservedHistory) (asked : Option ℕ) (returns : List ℕ) (node : Node) (calls : List ℕ)
-    (k : ℕ) → NoneOfFirst h asked returns node calls k → is_unchanging_at h.entries (get_or calls k 0) ≡ false →
+-- it is asked, or does not tell that it changes nothing
+pub none_by_test : (h : ObservedHistory) (asked : Option ℕ) (returns : List ℕ) (node : Node) (calls : List ℕ)
+    (k : ℕ) → NoneOfFirst h asked returns node calls k →
+    ¬ ((asked ≢ Some (get_or calls k 0)) × (is_unchanging_at h.entries (get_or calls k 0) ≡ true)) →
     NoneOfFirst h asked returns node calls (k + 1)
-none_by_change h asked returns node calls k before silent = none_of_more h asked returns node calls k before
-    (λ a s taken awaited stands x t at_once is may. false≢true (sym silent ∙ ap (is_unchanging_at h.entries) is ∙
-    ap unchanging_in may.effect.is_entry ∙ at_once.tells))
-
--- it is the one that is asked
-pub none_by_asked : (h : ObservedHistory) (asked : ℕ) (returns : List ℕ) (node : Node) (calls : List ℕ) (k : ℕ) →
-    NoneOfFirst h (Some asked) returns node calls k → get_or calls k 0 ≡ asked →
-    NoneOfFirst h (Some asked) returns node calls (k + 1)
-none_by_asked h asked returns node calls k before same = none_of_more h (Some asked) returns node calls k before
-    (λ a s taken awaited stands x t at_once is may.
-    at_once.other (ap (λ (i : ℕ). Some i) (sym same ∙ is)))
+none_by_test h asked returns node calls k before silent = none_of_more h asked returns node calls k before
+    (λ a s taken awaited stands x t at_once is may. silent (
+      (λ same. at_once.other (same ∙ ap (λ (i : ℕ). Some i) is)),
+      ap (is_unchanging_at h.entries) is ∙ ap unchanging_in may.effect.is_entry ∙ at_once.tells,
+    ))
 
 -- so none does
 pub none_at_once : (h : ObservedHistory) (asked : Option ℕ) (timeline : Timeline) (node : Node) (calls : List ℕ)
@@ -191,6 +193,7 @@ choice_leads h asked timeline node a calls i w is bit none are awaited at choice
         ComesByMove h asked timeline.returns.items node w.node s taken w.took
     to s taken stands it = leads_by_call h asked timeline node a i s taken w is bit stands it (inr (record {
       none = none.none a s taken (awaited_at h timeline node a is) stands;
+      other = λ same. choice.other (same ∙ ap (λ (j : ℕ). Some j) it.index);
       object = choice.object a it.effect.entry at (ap (λ (j : ℕ). slice_get h.entries j) (sym it.index) ∙
           it.may.effect.is_entry);
       no_question = ap question_under_way_in (sym it.may.effect.is_entry) ∙
@@ -276,72 +279,139 @@ suffices_at_once h timeline node a i w is unchanging takes n hope =
         took.stands)
         (subst P (ap (λ (m : ℕ). drop m timeline.returns.items) (sym took.past)) once.completes)
 
-pub expands_at_once : (h : ObservedHistory) (timeline : Timeline) (node : Node) (a : Observation) (calls : List ℕ)
-    (k : ℕ) (w next : Next) → Awaits h timeline node a → bit_at node.threads a.thread ≢ 1 →
-    AreOpen h timeline.returns.items node.past calls → NoneOfFirst h None timeline.returns.items node calls k →
-    k < length calls → is_unchanging_at h.entries (get_or calls k 0) ≡ true →
-    IsTakeOf h timeline.returns.items node (get_or calls k 0) (Some w) →
-    PassesTo h timeline.returns.items w.node next.node → next.took ≡ w.took →
-    IsSettled h timeline.returns.items next.node → Expands h timeline.returns.items node (next ∷ [])
-expands_at_once h timeline node a calls k w next is bit are before inside unchanging takes passes took settled =
-    record {
-      each = λ v has. subst (λ (n : Next). ComesNext h None timeline.returns.items node n) (only_one next v has)
-          (follows_of h None timeline.returns.items node w next
-          (leads_at_once h None timeline node a calls k w is bit are before inside unchanging
-          (λ same. none-some (get_or calls k 0) same) takes) passes took settled);
-      whole = suffices_settled h timeline.returns.items node w next passes
-          (suffices_at_once h timeline node a (get_or calls k 0) w is unchanging takes);
-    }
+-- what was found of a call, and then returns are past
+pub record Settles (h : ObservedHistory) (returns : List ℕ) (w next : Next) : Type 0 where
+  pub passes : PassesTo h returns w.node next.node
+  pub took : next.took ≡ w.took
+  pub settled : IsSettled h returns next.node
 
--- of the last k of these calls those that are tried lead to these nodes
-pub record Chooses (h : ObservedHistory) (returns : List ℕ) (node : Node) (calls : List ℕ) (k : ℕ)
+pub expands_at_once : (h : ObservedHistory) (asked : Option ℕ) (timeline : Timeline) (node : Node)
+    (replies : List Reply) (calls : List ℕ) (k : ℕ) (w next : Next) → MayGoOn h asked timeline node →
+    AreOpen h timeline.returns.items node.past calls → NoneOfFirst h asked timeline.returns.items node calls k →
+    k < length calls → (asked ≢ Some (get_or calls k 0)) × (is_unchanging_at h.entries (get_or calls k 0) ≡ true) →
+    IsTakeOf h timeline.returns.items node (get_or calls k 0) (Some w) → Settles h timeline.returns.items w next →
+    Expands h asked timeline.returns.items node replies (next ∷ [])
+expands_at_once h asked timeline node replies calls k w next may are before inside test takes to = record {
+  each = λ v has. subst (ComesNext h asked timeline.returns.items node) (only_one next v has)
+      (follows_of h asked timeline.returns.items node w next
+      (leads_at_once h asked timeline node here.entry calls k w here.awaits here.bit are before inside test.1 test.0
+      takes) to.passes to.took to.settled);
+  whole = λ g aim. whole g (aim_alike h asked replies g aim) (aim_awaits h asked timeline node replies g may aim);
+}
+  where
+    here : AwaitsOne h timeline node
+    here = awaits_here h asked timeline node may
+
+    whole : (g : ObservedHistory) → AreAlike h g asked → AwaitsOne g timeline node →
+        Suffice g timeline.returns.items node (next ∷ [])
+    whole g alike there = suffices_settled g timeline.returns.items node w next
+        (passes_alike h g asked timeline.returns.items w.node next.node alike to.passes)
+        (suffices_at_once g timeline node there.entry (get_or calls k 0) w there.awaits
+        (ap unchanging_in (same_there h g asked (get_or calls k 0) alike test.0) ∙ test.1)
+        (took_alike h g asked timeline.returns.items node (get_or calls k 0) (Some w) alike test.0 takes))
+
+-- of the last k of these calls those that are tried lead to these nodes, if the one that is asked can't take effect
+pub record Chooses (h : ObservedHistory) (asked : Option ℕ) (returns : List ℕ) (node : Node) (calls : List ℕ) (k : ℕ)
     (nexts : List Next) : Type 0 where
-  pub led : (w : Next) → Contains nexts w → ComesNext h None returns node w
-  pub tries : Tries h None returns node calls k nexts
+  pub led : (w : Next) → Contains nexts w → ComesNext h asked returns node w
+  pub tries : (g : ObservedHistory) → AreAlike h g asked → AskedStays g asked returns node →
+      Tries g asked returns node calls k nexts
 
-pub chooses_none : (h : ObservedHistory) (returns : List ℕ) (node : Node) (calls : List ℕ) →
-    Chooses h returns node calls 0 []
-chooses_none h returns node calls = record {
+pub chooses_none : (h : ObservedHistory) (asked : Option ℕ) (returns : List ℕ) (node : Node) (calls : List ℕ) →
+    Chooses h asked returns node calls 0 []
+chooses_none h asked returns node calls = record {
   led = λ w has. absurd (none_in_empty w has);
-  tries = none_tried h None returns node calls;
+  tries = λ g alike still. none_tried g asked returns node calls;
 }
 
-pub chooses_one : (h : ObservedHistory) (timeline : Timeline) (node : Node) (a : Observation) (calls : List ℕ) (k : ℕ)
-    (nexts : List Next) (w next : Next) → Awaits h timeline node a → bit_at node.threads a.thread ≢ 1 →
-    NoneIsAtOnceAt h None timeline.returns.items node → AreOpen h timeline.returns.items node.past calls →
-    Chooses h timeline.returns.items node calls k nexts → k < length calls → (awaited : ℕ) →
-    slice_get h.entries awaited ≡ Some a →
-    IsChoiceOf h None timeline.returns.items node calls awaited (get_or calls (length calls - 1 - k) 0) w →
-    PassesTo h timeline.returns.items w.node next.node → next.took ≡ w.took →
-    IsSettled h timeline.returns.items next.node →
-    Chooses h timeline.returns.items node calls (k + 1) (nexts ++ next ∷ [])
-chooses_one h timeline node a calls k nexts w next is bit none are chooses more awaited at choice passes took settled =
-    record {
-      led = each_push (ComesNext h None timeline.returns.items node) nexts next chooses.led
-          (follows_of h None timeline.returns.items node w next
-          (choice_leads h None timeline node a calls (get_or calls (length calls - 1 - k) 0) w is bit none are awaited
-          at choice) passes took settled);
-      tries = tried_some h None timeline.returns.items node calls k nexts w next chooses.tries more choice.took passes;
-    }
+pub chooses_one : (h : ObservedHistory) (asked : Option ℕ) (timeline : Timeline) (node : Node) (calls : List ℕ)
+    (k : ℕ) (nexts : List Next) (w next : Next) → MayGoOn h asked timeline node →
+    NoneIsAtOnceAt h asked timeline.returns.items node → AreOpen h timeline.returns.items node.past calls →
+    Chooses h asked timeline.returns.items node calls k nexts → k < length calls → (awaited : ℕ) →
+    get_or timeline.returns.items node.past 0 ≡ awaited →
+    IsChoiceOf h asked timeline.returns.items node calls awaited (get_or calls (length calls - 1 - k) 0) w →
+    Settles h timeline.returns.items w next →
+    Chooses h asked timeline.returns.items node calls (k + 1) (nexts ++ next ∷ [])
+chooses_one h asked timeline node calls k nexts w next may none are chooses more awaited same choice to = record {
+  led = each_push (ComesNext h asked timeline.returns.items node) nexts next chooses.led
+      (follows_of h asked timeline.returns.items node w next
+      (choice_leads h asked timeline node here.entry calls i w here.awaits here.bit none are awaited
+      (ap (λ (n : ℕ). slice_get h.entries n) (sym same) ∙ here.awaits.at) choice) to.passes to.took to.settled);
+  tries = λ g alike still. tried_some g asked timeline.returns.items node calls k nexts w next
+      (chooses.tries g alike still) more
+      (took_alike h g asked timeline.returns.items node i (Some w) alike choice.other choice.took)
+      (passes_alike h g asked timeline.returns.items w.node next.node alike to.passes);
+}
+  where
+    i : ℕ
+    i = get_or calls (length calls - 1 - k) 0
 
--- the others lead to none
-pub chooses_not : (h : ObservedHistory) (returns : List ℕ) (node : Node) (calls : List ℕ) (k : ℕ)
-    (nexts : List Next) (awaited : ℕ) → Chooses h returns node calls k nexts → k < length calls →
-    ((a : Observation) → IsAwaitedAt h returns node.past a → slice_get h.entries awaited ≡ Some a) →
-    IsNoChoice h None returns node calls awaited (get_or calls (length calls - 1 - k) 0) →
-    Chooses h returns node calls (k + 1) nexts
-chooses_not h returns node calls k nexts awaited chooses more read none = record {
+    here : AwaitsOne h timeline node
+    here = awaits_here h asked timeline node may
+
+-- a call that is no choice is none in what is alike
+no_choice_alike : (h g : ObservedHistory) (asked : Option ℕ) (returns : List ℕ) (node : Node) (calls : List ℕ)
+    (awaited i : ℕ) → AreAlike h g asked → asked ≢ Some i → IsNoChoice h asked returns node calls awaited i →
+    IsNoChoice g asked returns node calls awaited i
+no_choice_alike h g asked returns node calls awaited i alike other (is_asked same) = is_asked same
+no_choice_alike h g asked returns node calls awaited i alike other (of_other differs) = of_other (λ a e at_a at_e one.
+    let b : (b : Observation) × ((slice_get h.entries awaited ≡ Some b) × IsAlike a b) =
+    there g h asked awaited a (turned h g asked alike) at_a in
+    let f : (f : Observation) × ((slice_get h.entries i ≡ Some f) × IsAlike e f) =
+    there g h asked i e (turned h g asked alike) at_e in
+    differs b.0 f.0 b.1.0 f.1.0 (ap is_lock_call b.1.1.call ∙ one ∙ sym (ap is_lock_call f.1.1.call)))
+no_choice_alike h g asked returns node calls awaited i alike other (questions is) =
+    questions (ap question_under_way_in (same_there h g asked i alike other) ∙ is)
+no_choice_alike h g asked returns node calls awaited i alike other (comes_later out) = comes_later (record {
+  first = out.first;
+  among = out.among;
+  other = out.other;
+  goes = record {
+    entry = out.goes.entry;
+    is_entry = other_there h g asked out.first out.goes.entry alike out.other out.goes.is_entry;
+    other = out.goes.other;
+    is_other = other_there h g asked i out.goes.other alike other out.goes.is_other;
+    ahead = out.goes.ahead;
+    waits = out.goes.waits;
+  };
+})
+no_choice_alike h g asked returns node calls awaited i alike other (stays took) =
+    stays (took_alike h g asked returns node i None alike other took)
+
+pub chooses_not : (h : ObservedHistory) (asked : Option ℕ) (returns : List ℕ) (node : Node) (calls : List ℕ) (k : ℕ)
+    (nexts : List Next) (awaited : ℕ) → Chooses h asked returns node calls k nexts → k < length calls →
+    get_or returns node.past 0 ≡ awaited →
+    IsNoChoice h asked returns node calls awaited (get_or calls (length calls - 1 - k) 0) →
+    Chooses h asked returns node calls (k + 1) nexts
+chooses_not h asked returns node calls k nexts awaited chooses more same none = record {
   led = chooses.led;
-  tries = tried_not h None returns node calls k nexts awaited chooses.tries more read none;
+  tries = λ g alike still. which g alike still (asked_or_not asked i);
 }
+  where
+    i : ℕ
+    i = get_or calls (length calls - 1 - k) 0
 
--- where the awaited call is not in effect an open call takes effect
-pub expands_open : (h : ObservedHistory) (timeline : Timeline) (node : Node) (calls : List ℕ) (k : ℕ)
-    (nexts : List Next) → IsObserved h → IsTimeline h timeline → node.past < length timeline.returns.items →
-    IsSettled h timeline.returns.items node → AreOpen h timeline.returns.items node.past calls →
-    length calls ≤ k → Chooses h timeline.returns.items node calls k nexts →
-    Expands h timeline.returns.items node nexts
-expands_open h timeline node calls k nexts observed is inside awaited are all chooses = record {
+    which : (g : ObservedHistory) → AreAlike h g asked → AskedStays g asked returns node →
+        (asked ≡ Some i) ⊎ (asked ≢ Some i) → Tries g asked returns node calls (k + 1) nexts
+    which g alike still (inl this) =
+        tried_none g asked returns node calls k nexts (chooses.tries g alike still) more (still i this)
+    which g alike still (inr other) = tried_not g asked returns node calls k nexts awaited
+        (chooses.tries g alike still) more other
+        (λ a is. ap (λ (n : ℕ). slice_get g.entries n) (sym same) ∙ is.is_entry)
+        (no_choice_alike h g asked returns node calls awaited i alike other none)
+
+-- where none takes effect at once, a call is chosen
+pub expands_choices : (h : ObservedHistory) (asked : Option ℕ) (timeline : Timeline) (node : Node) (calls : List ℕ)
+    (k : ℕ) (nexts : List Next) → MayGoOn h asked timeline node → AreOpen h timeline.returns.items node.past calls →
+    length calls ≤ k → Chooses h asked timeline.returns.items node calls k nexts → (replies : List Reply) →
+    ((g : ObservedHistory) → IsAim h asked replies g → AskedStays g asked timeline.returns.items node) →
+    Expands h asked timeline.returns.items node replies nexts
+expands_choices h asked timeline node calls k nexts may are all chooses replies still = record {
   each = chooses.led;
-  whole = suffice_open h None timeline node calls k nexts observed is inside awaited are all chooses.tries;
+  whole = λ g aim.
+      let alike : AreAlike h g asked = aim_alike h asked replies g aim in
+      let there : AwaitsOne g timeline node = aim_awaits h asked timeline node replies g may aim in
+      suffice_taken g asked timeline node there.entry calls k nexts there.awaits there.bit
+      (opens_alike h g asked timeline.returns.items node.past calls alike are) all
+      (chooses.tries g alike (still g aim));
 }

@@ -33,29 +33,28 @@ lock_puts_none put i call reply lock = refl
 
 pub lock_went : (h : ObservedHistory) (i : ℕ) (e : Observation) (s : LockState) (bits next : ℕ) (put : Option ℕ)
     (reply : Reply) → is_lock_call e.call ≡ true → IsStateBy h bits put s →
-    LockGoes h.limits bits e (Some (next, reply)) →
+    LockGoes h.limits bits e.call (Some (next, reply)) →
     Does h i e put s (record { bits = next; put = put; reply = reply })
 lock_went h i e s bits next put reply lock at goes =
     let found = goes.after s.0 at.word in
     record {
-      may = found.0;
       goes = record {
         replies = subst (λ (b : Bool). MatchBool b (Replies (transition h.limits s.0 e.call) reply)
-            (RecordReplies s.1 e.call reply)) (sym lock) found.1.0;
+            (RecordReplies s.1 e.call reply)) (sym lock) found.0;
         next = refl;
       };
       at = record {
-        word = found.1.1;
+        word = found.1;
         content = at.content ∙ sym (lock_leaves s.1 e.call reply lock);
       };
       leaves = lock_puts_none put i e.call reply lock;
     }
 
 pub lock_did_not : (h : ObservedHistory) (i : ℕ) (e : Observation) (s : LockState) (bits : ℕ) (put : Option ℕ) →
-    is_lock_call e.call ≡ true → IsStateBy h bits put s → LockGoes h.limits bits e None →
+    is_lock_call e.call ≡ true → IsStateBy h bits put s → LockGoes h.limits bits e.call None →
     IsTransitionOf h i e put s None
-lock_did_not h i e s bits put lock at goes reply t may steps =
-    goes.after s.0 at.word reply may
+lock_did_not h i e s bits put lock at goes reply t steps =
+    goes.after s.0 at.word reply
     (MatchBool-at_true (Replies (transition h.limits s.0 e.call) reply) (RecordReplies s.1 e.call reply) lock
     steps.replies)
 
@@ -76,31 +75,30 @@ content_put width entries put i e reply at = by e.call reply refl
 
 pub record_went : (h : ObservedHistory) (i : ℕ) (e : Observation) (s : LockState) (bits : ℕ)
     (put next : Option ℕ) (reply : Reply) → slice_get h.entries i ≡ Some e → is_lock_call e.call ≡ false →
-    IsStateBy h bits put s → RecordGoes h.width h.entries put i e (Some (next, reply)) →
+    IsStateBy h bits put s → RecordGoes h.width h.entries put i e.call (Some (next, reply)) →
     Does h i e put s (record { bits = bits; put = next; reply = reply })
 record_went h i e s bits put next reply is_entry guarded at goes = record {
-  may = goes.0;
   goes = record {
     replies = subst (λ (b : Bool). MatchBool b (Replies (transition h.limits s.0 e.call) reply)
         (RecordReplies s.1 e.call reply)) (sym guarded)
-        (subst (λ (content : List ℕ). RecordReplies content e.call reply) at.content goes.1.0);
+        (subst (λ (content : List ℕ). RecordReplies content e.call reply) at.content goes.0);
     next = refl;
   };
   at = record {
     word = subst (λ (events : List LockEvent). Represents h.limits (word_at h.limits bits) events)
         (sym (record_appends h.limits s.0 e.call guarded)) at.word;
-    content = ap (λ (put : Option ℕ). content_by h.width h.entries put) goes.1.1 ∙
+    content = ap (λ (put : Option ℕ). content_by h.width h.entries put) goes.1 ∙
         content_put h.width h.entries put i e reply is_entry ∙
         ap (λ (content : List ℕ). content_next content e.call reply) at.content;
   };
-  leaves = goes.1.1;
+  leaves = goes.1;
 }
 
 pub record_did_not : (h : ObservedHistory) (i : ℕ) (e : Observation) (s : LockState) (bits : ℕ)
     (put : Option ℕ) → is_lock_call e.call ≡ false → IsStateBy h bits put s →
-    RecordGoes h.width h.entries put i e None → IsTransitionOf h i e put s None
-record_did_not h i e s bits put guarded at goes reply t may steps =
-    goes reply may (subst (λ (content : List ℕ). RecordReplies content e.call reply) (sym at.content)
+    RecordGoes h.width h.entries put i e.call None → IsTransitionOf h i e put s None
+record_did_not h i e s bits put guarded at goes reply t steps =
+    goes reply (subst (λ (content : List ℕ). RecordReplies content e.call reply) (sym at.content)
     (MatchBool-at_false (Replies (transition h.limits s.0 e.call) reply) (RecordReplies s.1 e.call reply) guarded
     steps.replies))
 

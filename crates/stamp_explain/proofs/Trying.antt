@@ -14,7 +14,7 @@ use Rattle.stamp_explain.specs.declared.observed.Returned.{Returned}
 use Rattle.stamp_explain.specs.declared.node.Node.{Node}
 use Rattle.stamp_explain.specs.declared.node.Next.{Next}
 use Rattle.stamp_explain.specs.declared.timeline.Timeline.{Timeline}
-use Rattle.stamp_explain.specs.Observed.{ObservedHistory, IsObserved, IsBefore, IsReturnAt}
+use Rattle.stamp_explain.specs.Observed.{ObservedHistory, IsBefore, IsReturnAt}
 use Rattle.stamp_explain.specs.Observed.{AreOfOneObject}
 use Rattle.stamp_explain.specs.Explained.{Effect}
 use Rattle.stamp_explain.specs.Unchanging.{question_under_way_by, question_under_way_in, is_question_under_way}
@@ -22,11 +22,11 @@ use Rattle.stamp_explain.specs.Search.{IsAlikeNoLater, LockState, StateTransitio
 use Rattle.stamp_explain.specs.Ahead.{IsAhead, GivesWay}
 use Rattle.stamp_core.specs.Call.{is_lock_call}
 use Rattle.stamp_explain.specs.Node.{StandsFor}
-use Rattle.stamp_explain.specs.Timeline.{IsTimeline, IsAwaitedAt, IsOpenAt, AreOpen}
+use Rattle.stamp_explain.specs.Timeline.{IsAwaitedAt, IsOpenAt, AreOpen}
 use Rattle.stamp_explain.specs.Expand.{Hope, GoesOn, IsTakenTo, IsTakeOf}
-use Rattle.stamp_explain.specs.Expand.{IsNoChoice, IsSettled, PassesTo}
+use Rattle.stamp_explain.specs.Expand.{IsNoChoice, PassesTo}
 use Rattle.stamp_explain.specs.Expand.{Suffice}
-use Rattle.stamp_explain.specs.Expand.IsNoChoice.{of_other, questions, comes_later, stays}
+use Rattle.stamp_explain.specs.Expand.IsNoChoice.{is_asked, of_other, questions, comes_later, stays}
 use Rattle.stamp_explain.proofs.Alike.{alike_in_as_many, may_take_alike}
 use Rattle.stamp_explain.proofs.Finding.{ArePending, first_of_pending}
 use Rattle.stamp_explain.proofs.Searching.{CompletesIn, GoesPast, GoesOnBy, goes_on}
@@ -35,7 +35,7 @@ use Rattle.stamp_explain.proofs.Questions.{without_question}
 use Rattle.stamp_explain.proofs.Settling.{HopesWithin, hope_passes}
 use Rattle.stamp_explain.proofs.Expanding.{open_may}
 use Rattle.stamp_explain.proofs.Awaiting.{Awaits, awaited_at, left_of, hope_completes, the_awaited, not_yet, due}
-use Rattle.stamp_explain.proofs.Awaiting.{pending, AwaitsOne, awaits_one}
+use Rattle.stamp_explain.proofs.Awaiting.{pending}
 
 -- by one of these nodes returns are past in one that stands for the state, with these calls in effect
 pub record Makes (h : ObservedHistory) (returns : List ℕ) (node : Node) (u : LockState) (taken : List ℕ)
@@ -171,16 +171,18 @@ tried_some h asked returns node calls k nexts w next tries more took passes =
 -- it is no choice
 pub tried_not : (h : ObservedHistory) (asked : Option ℕ) (returns : List ℕ) (node : Node) (calls : List ℕ) (k : ℕ)
     (nexts : List Next) (awaited : ℕ) → Tries h asked returns node calls k nexts → k < length calls →
+    asked ≢ Some (get_or calls (length calls - 1 - k) 0) →
     ((a : Observation) → IsAwaitedAt h returns node.past a → slice_get h.entries awaited ≡ Some a) →
     IsNoChoice h asked returns node calls awaited (get_or calls (length calls - 1 - k) 0) →
     Tries h asked returns node calls (k + 1) nexts
-tried_not h asked returns node calls k nexts awaited tries more read (of_other other) =
+tried_not h asked returns node calls k nexts awaited tries more unasked read (is_asked same) = absurd (unasked same)
+tried_not h asked returns node calls k nexts awaited tries more unasked read (of_other other) =
     tried_other h asked returns node calls k nexts tries more (λ a e is at. other a e (read a is) at)
-tried_not h asked returns node calls k nexts awaited tries more read (questions is) =
+tried_not h asked returns node calls k nexts awaited tries more unasked read (questions is) =
     tried_question h asked returns node calls k nexts tries more (λ e at. ap question_under_way_in (sym at) ∙ is)
-tried_not h asked returns node calls k nexts awaited tries more read (comes_later out) =
+tried_not h asked returns node calls k nexts awaited tries more unasked read (comes_later out) =
     tried_later h asked returns node calls k nexts tries more out
-tried_not h asked returns node calls k nexts awaited tries more read (stays took) =
+tried_not h asked returns node calls k nexts awaited tries more unasked read (stays took) =
     tried_none h asked returns node calls k nexts tries more took
 
 -- one more than the position at which a call returned
@@ -418,13 +420,3 @@ pub suffice_taken : (h : ObservedHistory) (asked : Option ℕ) (timeline : Timel
     Tries h asked timeline.returns.items node calls k nexts → Suffice h timeline.returns.items node nexts
 suffice_taken h asked timeline node a calls k nexts is bit are all tries n hope =
     suffice_bounded h asked timeline node a calls k nexts is bit are all tries n n (omega arith) hope
-
--- where the awaited call is not in effect an open call takes effect
-pub suffice_open : (h : ObservedHistory) (asked : Option ℕ) (timeline : Timeline) (node : Node) (calls : List ℕ)
-    (k : ℕ) (nexts : List Next) → IsObserved h → IsTimeline h timeline → node.past < length timeline.returns.items →
-    IsSettled h timeline.returns.items node → AreOpen h timeline.returns.items node.past calls →
-    length calls ≤ k → Tries h asked timeline.returns.items node calls k nexts →
-    Suffice h timeline.returns.items node nexts
-suffice_open h asked timeline node calls k nexts observed is inside awaited are all tries =
-    let one : AwaitsOne h timeline node = awaits_one h timeline node observed is inside awaited in
-    suffice_taken h asked timeline node one.entry calls k nexts one.awaits one.bit are all tries

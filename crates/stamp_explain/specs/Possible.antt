@@ -20,10 +20,6 @@ returned_with e r reply = record e { returned = Some (record r { reply = reply }
 abbrev pub with_reply : ℕ → Observation → Returned → Reply → ObservedHistory → ObservedHistory
 with_reply i e r reply h = record h { entries = slice_set h.entries i (returned_with e r reply) }
 
--- the history with the call of this entry under way
-abbrev pub without_return : ℕ → Observation → ObservedHistory → ObservedHistory
-without_return i e h = record h { entries = slice_set h.entries i (record e { returned = None }) }
-
 -- with this reply instead of its own, the cut with the return of this entry is explained
 pub record IsPossible (h : ObservedHistory) (i : ℕ) (reply : Reply) : Type 0 where
   pub at : IsReturnAt h.entries i
@@ -64,7 +60,6 @@ pub record GetsBeside (h : ObservedHistory) (i : ℕ) (e : Observation) (reply :
   pub are : AreReturns h.entries returns
   pub once : AllPairs (λ (i j : ℕ). i ≢ j) returns
   pub reached : Configuration h (Some i) returns
-  pub still : ¬ Contains reached.taken i
   pub awaits : AwaitsNotBefore h reached.to_come e
   pub next : LockState
   pub goes : StateTransition h.limits reached.state (e.call, reply) next
