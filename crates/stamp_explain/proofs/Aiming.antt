@@ -20,23 +20,23 @@ asked_or_not (Some j) i = by (cases_eq j i)
     by (inl same) = inl (ap (λ (n : ℕ). Some n) same)
     by (inr other) = inr (λ same. other (same_Some j i same))
 
-pub aim_alike : (h : ObservedHistory) (asked : Option ℕ) (replies : List Reply) (g : ObservedHistory) →
+pub aim_alike : {h : ObservedHistory} (asked : Option ℕ) (replies : List Reply) {g : ObservedHistory} →
     IsAim h asked replies g → AreAlike h g asked
-aim_alike h None replies g is = subst (λ (o : ObservedHistory). AreAlike h o None) (sym is) (alike_itself h None)
-aim_alike h (Some i) replies g is = subst (λ (o : ObservedHistory). AreAlike h o (Some i)) (sym is.is)
-    (alike_with_reply h i is.at.entry is.at.return is.reply is.at.is_entry is.at.returned)
+aim_alike {h} None replies is = subst (λ (o : ObservedHistory). AreAlike h o None) (sym is) (alike_itself)
+aim_alike {h} (Some i) replies is = subst (λ (o : ObservedHistory). AreAlike h o (Some i)) (sym is.is)
+    (alike_with_reply i is.at.entry is.at.return is.reply is.at.is_entry is.at.returned)
 
-pub aim_observed : (h : ObservedHistory) (asked : Option ℕ) (replies : List Reply) (g : ObservedHistory) →
+pub aim_observed : {h : ObservedHistory} (asked : Option ℕ) (replies : List Reply) {g : ObservedHistory} →
     IsObserved h → IsAim h asked replies g → IsObserved g
-aim_observed h None replies g observed is = subst IsObserved (sym is) observed
-aim_observed h (Some i) replies g observed is = subst IsObserved (sym is.is)
-    (replied_is_observed h i is.at.entry is.at.return is.reply is.at.is_entry is.at.returned observed)
+aim_observed None replies observed is = subst IsObserved (sym is) observed
+aim_observed (Some i) replies observed is = subst IsObserved (sym is.is) (replied_is_observed i is.at.entry
+    is.at.return is.reply is.at.is_entry is.at.returned observed)
 
 -- where more replies are found, the aims are fewer
-pub fewer_aims : (h : ObservedHistory) (asked : Option ℕ) (old new : List Reply) (g : ObservedHistory) →
+pub fewer_aims : (h : ObservedHistory) (asked : Option ℕ) {old new : List Reply} (g : ObservedHistory) →
     AreMore old new → IsAim h asked new g → IsAim h asked old g
-fewer_aims h None old new g more is = is
-fewer_aims h (Some i) old new g more is = record {
+fewer_aims h None g more is = is
+fewer_aims h (Some i) g more is = record {
   at = is.at;
   reply = is.reply;
   other = λ has. is.other (more.kept is.reply has);
@@ -44,14 +44,14 @@ fewer_aims h (Some i) old new g more is = record {
 }
 
 -- a return is awaited in each
-pub awaits_here : (h : ObservedHistory) (asked : Option ℕ) (timeline : Timeline) (node : Node) →
+pub awaits_here : {h : ObservedHistory} {asked : Option ℕ} {timeline : Timeline} {node : Node} →
     MayGoOn h asked timeline node → AwaitsOne h timeline node
-awaits_here h asked timeline node may = awaits_one h timeline node may.observed may.is_timeline may.past may.settled
+awaits_here may = awaits_one may.observed may.is_timeline may.past may.settled
 
-pub aim_awaits : (h : ObservedHistory) (asked : Option ℕ) (timeline : Timeline) (node : Node) (replies : List Reply)
-    (g : ObservedHistory) → MayGoOn h asked timeline node → IsAim h asked replies g → AwaitsOne g timeline node
-aim_awaits h asked timeline node replies g may is =
-    let alike : AreAlike h g asked = aim_alike h asked replies g is in
-    awaits_one g timeline node (aim_observed h asked replies g may.observed is)
-    (timeline_alike h g asked timeline alike may.is_timeline) may.past
-    (settled_alike h g asked timeline.returns.items node alike may.settled)
+pub aim_awaits : {h : ObservedHistory} {asked : Option ℕ} {timeline : Timeline} {node : Node} (replies : List Reply)
+    {g : ObservedHistory} → MayGoOn h asked timeline node → IsAim h asked replies g → AwaitsOne g timeline node
+aim_awaits {h} {asked} replies {g} may is =
+    let alike : AreAlike h g asked = aim_alike asked replies is in
+    awaits_one (aim_observed asked replies may.observed is)
+    (timeline_alike alike may.is_timeline) may.past
+    (settled_alike alike may.settled)

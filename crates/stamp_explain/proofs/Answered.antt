@@ -184,15 +184,14 @@ all_possible h i tried found observed replies possible = record {
           entry = e;
           return = r;
           is_entry = asked_there h i e r at.is_entry at.returned le;
-          returned =
-              at.returned;
+          returned = at.returned;
         };
         reply = reply;
         other = λ has. misses ((possible.each reply).1 (has, may));
         is = refl;
       })
       (subst IsExplained (seen_answered h i e r reply at.is_entry at.returned le)
-      (possible_is_seen h i e r reply at.is_entry at.returned observed may));
+      (possible_is_seen e r at.is_entry at.returned observed may));
   once = possible.once replies.are.gotten.once;
 }
   where

@@ -33,18 +33,18 @@ abbrev pub is_begun : ℕ → Observation → Bool
 is_begun last e = not (nat_lt last e.first)
 
 -- the replies so far
-pub no_more : (xs : List Reply) → AreMore xs xs
-no_more xs = record { kept = λ r has. has; once = λ once. once }
+pub no_more : {xs : List Reply} → AreMore xs xs
+no_more = record { kept = λ r has. has; once = λ once. once }
 
-pub adds_none : (xs : List Reply) (reply : Reply) → Contains xs reply → Adds xs reply xs
-adds_none xs reply has = record { more = no_more xs; added = has; only = λ other has. inl has }
+pub adds_none : {xs : List Reply} {reply : Reply} → Contains xs reply → Adds xs reply xs
+adds_none has = record { more = no_more; added = has; only = λ other has. inl has }
 
-pub adds_one : (xs : List Reply) (reply : Reply) → ¬ Contains xs reply → Adds xs reply (xs ++ reply ∷ [])
-adds_one xs reply misses = record {
+pub adds_one : {xs : List Reply} {reply : Reply} → ¬ Contains xs reply → Adds xs reply (xs ++ reply ∷ [])
+adds_one {xs} {reply} misses = record {
   more = record {
     kept = λ r has. Contains-append_left xs (reply ∷ []) r has;
-    once = λ once. all_pairs_push (λ (a b : Reply). a ≢ b) xs reply once
-        (λ k d lt same. misses (subst (Contains xs) same (Contains-get_or xs k d lt)));
+    once = λ once. all_pairs_push (λ (a b : Reply). a ≢ b) xs reply once (λ k d lt same. misses
+        (subst (Contains xs) same (Contains-get_or xs k d lt)));
   };
   added = Contains-push xs reply;
   only = λ other has. Contains-push_cases xs reply other has;
@@ -55,9 +55,9 @@ pub record IsCounted (last k : ℕ) (es : List Observation) (n : ℕ) : Type 0 w
   pub few : n ≤ k
   pub count : n ≡ length (begun_by last (take k es))
 
-pub counted_one : (last k : ℕ) (es : List Observation) (e : Observation) (n : ℕ) → k < length es →
-    e ≡ get_or es k e → e.first ≤ last → IsCounted last k es n → IsCounted last (k + 1) es (n + 1)
-counted_one last k es e n lt at begun is = record {
+pub counted_one : {last k : ℕ} {es : List Observation} (e : Observation) {n : ℕ} → k < length es → e ≡ get_or es k e →
+    e.first ≤ last → IsCounted last k es n → IsCounted last (k + 1) es (n + 1)
+counted_one {last} {k} {es} e lt at begun is = record {
   few = omega (arith, is.few);
   count = omega (
     arith,
@@ -70,9 +70,9 @@ counted_one last k es e n lt at begun is = record {
     early : is_begun last e ≡ true
     early = grind (arith, nat_tests)
 
-pub counted_none : (last k : ℕ) (es : List Observation) (e : Observation) (n : ℕ) → k < length es →
-    e ≡ get_or es k e → ¬ (e.first ≤ last) → IsCounted last k es n → IsCounted last (k + 1) es n
-counted_none last k es e n lt at begun is = record {
+pub counted_none : {last k : ℕ} {es : List Observation} (e : Observation) {n : ℕ} → k < length es → e ≡ get_or es k e →
+    ¬ (e.first ≤ last) → IsCounted last k es n → IsCounted last (k + 1) es n
+counted_none {last} {k} {es} e lt at begun is = record {
   few = omega (arith, is.few);
   count = omega (
     arith,
@@ -85,22 +85,22 @@ counted_none last k es e n lt at begun is = record {
     late : is_begun last e ≡ false
     late = grind (arith, nat_tests)
 
-pub none_new : (h : ObservedHistory) (asked : Option ℕ) (replies : List Reply) → GetsMore h asked replies replies
-none_new h asked replies = record { more = no_more replies; gets = λ reply has. inl has }
+pub none_new : {h : ObservedHistory} {asked : Option ℕ} {replies : List Reply} → GetsMore h asked replies replies
+none_new = record { more = no_more; gets = λ reply has. inl has }
 
 -- where no call is asked
-pub none_asked : (h : ObservedHistory) (asked : Option ℕ) (returns : List ℕ) (node : Node) (replies : List Reply) →
+pub none_asked : {h : ObservedHistory} {asked : Option ℕ} {returns : List ℕ} {node : Node} {replies : List Reply} →
     asked ≡ None → IsAskedAt h asked returns node replies replies
-none_asked h asked returns node replies none = record {
-  gets = none_new h asked replies;
+none_asked none = record {
+  gets = none_new;
   stays = λ g aim i some. absurd (none-some i (sym none ∙ some));
 }
 
 -- the entry that is asked, with another reply
-asked_entry : (h : ObservedHistory) (i : ℕ) (replies : List Reply) (g : ObservedHistory) (f : Observation) →
-    (is : HasOther h i replies g) → slice_get g.entries i ≡ Some f →
-    f ≡ returned_with is.at.entry is.at.return is.reply
-asked_entry h i replies g f is at = same_Some f y (sym at ∙ ap (λ (o : ObservedHistory). slice_get o.entries i) is.is ∙
+asked_entry : {h : ObservedHistory} {i : ℕ} {replies : List Reply} {g : ObservedHistory} (f : Observation) →
+    (is : HasOther h i replies g) → slice_get g.entries i ≡ Some f → f ≡ returned_with is.at.entry is.at.return
+    is.reply
+asked_entry {h} {i} f is at = same_Some f y (sym at ∙ ap (λ (o : ObservedHistory). slice_get o.entries i) is.is ∙
     slice_get-get_or (set h.entries i y) i y (omega (arith, within, length-set h.entries i y)) ∙
     ap (λ (o : Observation). Some o) (get_or-set_same h.entries i y y within))
   where
@@ -116,16 +116,15 @@ Went h i node found = (e : Observation) (s : LockState) → slice_get h.entries 
     IsStateBy h node.bits node.put s → IsTransitionOf h i e node.put s found
 
 -- it gets no other reply
-asked_takes : (h : ObservedHistory) (i : ℕ) (returns : List ℕ) (node : Node) (found : Option CallTransition)
-    (replies : List Reply) (g : ObservedHistory) → (is : HasOther h i replies g) → Went h i node found →
+asked_takes : {h : ObservedHistory} {i : ℕ} {returns : List ℕ} {node : Node} (found : Option CallTransition)
+    {replies : List Reply} {g : ObservedHistory} → (is : HasOther h i replies g) → Went h i node found →
     ((did : CallTransition) → found ≡ Some did → did.reply ≢ is.reply) → IsTakeOf g returns node i None
-asked_takes h i returns node found replies g is went others = record {
+asked_takes {h} {i} {node} found {replies} {g} is went others = record {
   takes = λ b s taken awaited stands x u may same.
-      let alike : AreAlike h g (Some i) = aim_alike h (Some i) replies g is in
-      let is_x : x.entry ≡ returned_with is.at.entry is.at.return is.reply = asked_entry h i replies g x.entry is
+      let alike : AreAlike h g (Some i) = aim_alike (Some i) replies is in
+      let is_x : x.entry ≡ returned_with is.at.entry is.at.return is.reply = asked_entry x.entry is
       (ap (λ (k : ℕ). slice_get g.entries k) (sym same) ∙ may.effect.is_entry) in
-      let at : IsStateBy h node.bits node.put s =
-      at_alike g h (Some i) node.bits node.put s (turned h g (Some i) alike) stands.at in
+      let at : IsStateBy h node.bits node.put s = at_alike (turned alike) stands.at in
       let replied : is.reply ≡ x.reply = subst (λ (o : Observation). AllowsReply o x.reply) is_x may.effect.replies in
       let steps : StateTransition h.limits s (is.at.entry.call, x.reply) u =
       subst (λ (o : Observation). StateTransition h.limits s (o.call, x.reply) u) is_x
@@ -136,16 +135,16 @@ asked_takes h i returns node found replies g is went others = record {
     by : (o : Option CallTransition) → found ≡ o → (s u : LockState) (r : Reply) → is.reply ≡ r →
         StateTransition h.limits s (is.at.entry.call, r) u → IsTransitionOf h i is.at.entry node.put s o → ⊥
     by None at s u r replied steps gone = gone r u steps
-    by (Some did) at s u r replied steps gone = others did at
-        (one_reply h.limits s.0 s.1 is.at.entry.call did.reply r gone.goes.replies steps.replies ∙ sym replied)
+    by (Some did) at s u r replied steps gone = others did at (one_reply h.limits s.0 s.1 is.at.entry.call did.reply r
+        gone.goes.replies steps.replies ∙ sym replied)
 
 module _ (h : ObservedHistory) (i : ℕ) (timeline : Timeline) (node : Node) where
   -- where the awaited call had returned before it began, it isn't open
-  pub asked_not_begun : (a e : Observation) (replies : List Reply) →
-      slice_get h.entries (get_or timeline.returns.items node.past 0) ≡ Some a → slice_get h.entries i ≡ Some e →
-      IsBefore a e → IsAskedAt h (Some i) timeline.returns.items node replies replies
+  pub asked_not_begun : (a e : Observation) (replies : List Reply) → slice_get h.entries
+      (get_or timeline.returns.items node.past 0) ≡ Some a → slice_get h.entries i ≡ Some e → IsBefore a e →
+      IsAskedAt h (Some i) timeline.returns.items node replies replies
   asked_not_begun a e replies at_a at before = record {
-    gets = none_new h (Some i) replies;
+    gets = none_new;
     stays = λ g aim j same. subst (λ (k : ℕ). IsTakeOf g timeline.returns.items node k None) (same_Some i j same)
         (stays g aim);
   }
@@ -153,39 +152,36 @@ module _ (h : ObservedHistory) (i : ℕ) (timeline : Timeline) (node : Node) whe
       stays : (g : ObservedHistory) → HasOther h i replies g → IsTakeOf g timeline.returns.items node i None
       stays g is = record {
         takes = λ b s taken awaited stands x u may same.
-            let alike : AreAlike h g (Some i) = aim_alike h (Some i) replies g is in
+            let alike : AreAlike h g (Some i) = aim_alike (Some i) replies is in
             let c : (c : Observation) × ((slice_get g.entries (get_or timeline.returns.items node.past 0) ≡ Some c) ×
-            IsAlike a c) =
-            there h g (Some i) (get_or timeline.returns.items node.past 0) a alike at_a in
+            IsAlike a c) = there h g (Some i) (get_or timeline.returns.items node.past 0) a alike at_a in
             let f : (f : Observation) × ((slice_get g.entries i ≡ Some f) × IsAlike e f) =
             there h g (Some i) i e alike at in
             let is_b : c.0 ≡ b = same_Some c.0 b (sym c.1.0 ∙ awaited.is_entry) in
-            let is_x : f.0 ≡ x.entry = same_Some f.0 x.entry (sym f.1.0 ∙
-            ap (λ (k : ℕ). slice_get g.entries k) (sym same) ∙ may.effect.is_entry) in
+            let is_x : f.0 ≡ x.entry = same_Some f.0 x.entry (sym f.1.0 ∙ ap (λ (k : ℕ). slice_get g.entries k)
+            (sym same) ∙ may.effect.is_entry) in
             may.begun (subst (λ (o : Observation). IsBefore o x.entry) is_b
-            (subst (λ (o : Observation). IsBefore c.0 o) is_x (alike_before a e c.0 f.0 c.1.1 f.1.1 before)));
+            (subst (λ (o : Observation). IsBefore c.0 o) is_x (alike_before c.1.1 f.1.1 before)));
       }
 
-  pub asked_waits : (replies : List Reply) → Went h i node None →
-      IsAskedAt h (Some i) timeline.returns.items node replies replies
+  pub asked_waits : (replies : List Reply) → Went h i node None → IsAskedAt h
+      (Some i) timeline.returns.items node replies replies
   asked_waits replies went = record {
-    gets = none_new h (Some i) replies;
+    gets = none_new;
     stays = λ g aim j same. subst (λ (k : ℕ). IsTakeOf g timeline.returns.items node k None) (same_Some i j same)
-        (asked_takes h i timeline.returns.items node None replies g aim went (λ did at. absurd (none-some did at)));
+        (asked_takes None aim went (λ did at. absurd (none-some did at)));
   }
 
   -- the reply that it gets is added
   pub asked_replies : (did : CallTransition) (a : Observation) (old new : List Reply) →
-      MayGoOn h (Some i) timeline node →
-      slice_get h.entries (get_or timeline.returns.items node.past 0) ≡ Some a →
+      MayGoOn h (Some i) timeline node → slice_get h.entries (get_or timeline.returns.items node.past 0) ≡ Some a →
       ((e : Observation) → slice_get h.entries i ≡ Some e → ¬ IsBefore a e) → Went h i node (Some did) →
       Adds old did.reply new → IsAskedAt h (Some i) timeline.returns.items node old new
   asked_replies did a old new may at begun went adds = record {
     gets = record { more = adds.more; gets = λ reply has. new_one reply (adds.only reply has) };
     stays = λ g aim j same. subst (λ (k : ℕ). IsTakeOf g timeline.returns.items node k None) (same_Some i j same)
-        (asked_takes h i timeline.returns.items node (Some did) new g aim went (λ other is eq.
-        aim.other (subst (Contains new) (ap (λ (t : CallTransition). t.reply) (same_Some did other is) ∙ eq)
-        adds.added)));
+        (asked_takes (Some did) aim went (λ other is eq. aim.other (subst (Contains new)
+        (ap (λ (t : CallTransition). t.reply) (same_Some did other is) ∙ eq) adds.added)));
   }
     where
       asks : IsReturnAt h.entries i

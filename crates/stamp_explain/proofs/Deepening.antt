@@ -1,9 +1,9 @@
 -- The search in depth: of the nodes that it has looked at, those that an order completes lie on one way.
-use Rattle.std.proofs.Common.{◌≡◌, ◌⊎◌, ℕ, ◌+◌, ◌-◌, ◌<◌, ◌≤◌, zero, suc, List, [], ◌∷◌, ◌++◌, length, map}
+use Rattle.std.proofs.Common.{◌≡◌, ◌⊎◌, ℕ, ◌+◌, ◌-◌, ◌<◌, ◌≤◌, List, [], ◌∷◌, ◌++◌, length, map}
 use Rattle.std.proofs.Common.{refl, sym, ◌∙◌, ap, subst, inl, inr, arith, Option, None, Some, true}
 use Rattle.std.specs.Prelude.{slice_get}
 use Rattle.std.specs.List.{All, Contains}
-use Rattle.std.proofs.lemmas.List.{length-append, append-nil, append_assoc, length-map, map-append}
+use Rattle.std.proofs.lemmas.List.{length-append, append-nil, append_assoc, map-append}
 use Rattle.std.proofs.lemmas.List.Elements.{All-head, All-tail}
 use Rattle.std.proofs.lemmas.Option.{same_Some, slice_get_within}
 use Rattle.stamp_core.specs.declared.reply.Reply.{Reply}
@@ -15,7 +15,7 @@ use Rattle.stamp_explain.specs.declared.store.Store.{Store}
 use Rattle.stamp_explain.specs.Observed.{ObservedHistory}
 use Rattle.stamp_explain.specs.Configuration.{Configuration, GoesOnFrom, MovesOn}
 use Rattle.stamp_explain.specs.Node.{IsFirstNode, IsReached}
-use Rattle.stamp_explain.specs.Store.{Keeps, BeginsWith, IsStored}
+use Rattle.stamp_explain.specs.Store.{Keeps, BeginsWith}
 use Rattle.stamp_explain.specs.Asking.{AreMore, IsAim}
 use Rattle.stamp_explain.specs.Expand.{Hope, GoesOn, Suffice, ComesNext, Expands, LooksAt, waiting_from}
 use Rattle.stamp_explain.proofs.AddingNew.{read_left, read_right, read_last, read_push, read_both, read_map, map_read}
@@ -70,13 +70,14 @@ module _ (h : ObservedHistory) (asked : Option ℕ) (returns : List ℕ) where
       pub hope : Hope g returns entry.node left
       pub above : (i : ℕ) (w : Waiting) (y : Seen) → at ≤ i → slice_get waiting i ≡ Some w →
           slice_get seen w.origin.from ≡ Some y → GoesOnFrom h asked returns (seen_as x) (seen_as y)
-      pub follow : (q : ℕ) (y : Seen) → p < q → slice_get seen q ≡ Some y →
-          GoesOnFrom h asked returns (seen_as x) (seen_as y)
+      pub follow : (q : ℕ) (y : Seen) → p < q → slice_get seen q ≡ Some y → GoesOnFrom h asked returns (seen_as x)
+          (seen_as y)
 
   -- so many were expanded: those that an order completes are open, for each aim
   abbrev pub AreExpanded : List Reply → List Seen → List Waiting → ℕ → Type 0
-  AreExpanded replies seen waiting expanded = (g : ObservedHistory) → IsAim h asked replies g → (p : ℕ) (x : Seen)
-      (n : ℕ) → p < expanded → slice_get seen p ≡ Some x → Hope g returns x.node n → IsOpen g seen waiting p x
+  AreExpanded replies seen waiting expanded = (g : ObservedHistory) → IsAim h asked replies g →
+      (p : ℕ) (x : Seen) (n : ℕ) → p < expanded → slice_get seen p ≡ Some x → Hope g returns x.node n →
+      IsOpen g seen waiting p x
 
   -- what a search keeps that has expanded all that it has looked at
   pub record Deepens (replies : List Reply) (store : Store) (waiting : List Waiting) (expanded : ℕ) : Type 0 where
@@ -148,16 +149,16 @@ module _ (h : ObservedHistory) (asked : Option ℕ) (returns : List ℕ) where
       one : Next → Waiting
       one w = record { node = w.node; origin = record { from = expanded; took = w.took } }
 
-      of_last : (i : ℕ) (w : Waiting) (y : Seen) → slice_get those i ≡ Some w →
-          slice_get seen w.origin.from ≡ Some y → last ≡ y
+      of_last : (i : ℕ) (w : Waiting) (y : Seen) → slice_get those i ≡ Some w → slice_get seen w.origin.from ≡ Some y →
+          last ≡ y
       of_last i w y at_i here =
           let from : (v : Next) × ((slice_get nexts i ≡ Some v) × (one v ≡ w)) = read_map one nexts i w at_i in
           same_Some last y (sym is_last ∙ ap (λ (v : Waiting). slice_get seen v.origin.from) from.1.1 ∙ here)
 
       -- if it goes on from this one
       opens : (left : ℕ) → Hope g returns last.node left → GoesOnFrom h asked returns (seen_as x) (seen_as last) →
-          ((q : ℕ) (y : Seen) → p < q → slice_get seen q ≡ Some y →
-          GoesOnFrom h asked returns (seen_as x) (seen_as y)) → IsOpen g seen (waiting ++ those) p x
+          ((q : ℕ) (y : Seen) → p < q → slice_get seen q ≡ Some y → GoesOnFrom h asked returns (seen_as x) (seen_as y))
+          → IsOpen g seen (waiting ++ those) p x
       opens left hope goes follow = record {
         at = length waiting + found.0;
         entry = one next.next;
@@ -176,16 +177,16 @@ module _ (h : ObservedHistory) (asked : Option ℕ) (returns : List ℕ) where
           found = at_contains nexts next.next next.among
 
           from : (i : ℕ) (w : Waiting) (y : Seen) → length waiting ≤ i → slice_get seen w.origin.from ≡ Some y →
-              (slice_get waiting i ≡ Some w) ⊎ ((length waiting ≤ i) ×
-              (slice_get those (i - length waiting) ≡ Some w)) → last ≡ y
+              (slice_get waiting i ≡ Some w) ⊎ ((length waiting ≤ i) × (slice_get those (i - length waiting) ≡ Some w))
+              → last ≡ y
           from i w y le here (inl was) = absurd (omega (arith, le, slice_get_within waiting i w was))
           from i w y le here (inr (past, now)) = of_last (i - length waiting) w y now here
 
       which : (p < expanded) ⊎ (p ≡ expanded) → IsOpen g seen (waiting ++ those) p x
       which (inr is) = opens n (subst (λ (y : Seen). Hope g returns y.node n) (sym this) hope)
           (subst (λ (y : Seen). GoesOnFrom h asked returns (seen_as y) (seen_as last)) this
-          (same_goes_on h asked returns (seen_as last)))
-          (λ q y lt at_q. absurd (omega (arith, lt, is, count, slice_get_within seen q y at_q)))
+          (same_goes_on h asked returns (seen_as last))) (λ q y lt at_q. absurd
+          (omega (arith, lt, is, count, slice_get_within seen q y at_q)))
         where
           this : last ≡ x
           this = same_Some last x (sym is_last ∙ ap (λ (k : ℕ). slice_get seen k) (sym is) ∙ at)
@@ -198,12 +199,11 @@ module _ (h : ObservedHistory) (asked : Option ℕ) (returns : List ℕ) where
           goes = was.follow expanded last less is_last
 
           above : (i : ℕ) (w : Waiting) (y : Seen) → was.at ≤ i → slice_get seen w.origin.from ≡ Some y →
-              (slice_get waiting i ≡ Some w) ⊎ ((length waiting ≤ i) ×
-              (slice_get those (i - length waiting) ≡ Some w)) → GoesOnFrom h asked returns (seen_as x) (seen_as y)
+              (slice_get waiting i ≡ Some w) ⊎ ((length waiting ≤ i) × (slice_get those (i - length waiting) ≡ Some w))
+              → GoesOnFrom h asked returns (seen_as x) (seen_as y)
           above i w y le here (inl at_i) = was.above i w y le (read_left waiting (top ∷ []) i w at_i) here
-          above i w y le here (inr (past, now)) = subst
-              (λ (z : Seen). GoesOnFrom h asked returns (seen_as x) (seen_as z))
-              (of_last (i - length waiting) w y now here) goes
+          above i w y le here (inr (past, now)) = subst (λ (z : Seen). GoesOnFrom h asked returns (seen_as x)
+              (seen_as z)) (of_last (i - length waiting) w y now here) goes
 
           by : (slice_get waiting was.at ≡ Some was.entry) ⊎ ((was.at ≡ length waiting) × (top ≡ was.entry)) →
               IsOpen g seen (waiting ++ those) p x
@@ -221,16 +221,15 @@ module _ (h : ObservedHistory) (asked : Option ℕ) (returns : List ℕ) where
 
   pub deepens_expanded : (replies more : List Reply) (store : Store) (waiting : List Waiting) (expanded : ℕ)
       (nexts : List Next) (is : IsAtLast replies store waiting expanded) → AreMore replies more →
-      Expands h asked returns is.last.node more nexts →
-      Deepens more store (waiting ++ waiting_from expanded nexts) (expanded + 1)
+      Expands h asked returns is.last.node more nexts → Deepens more store (waiting ++ waiting_from expanded nexts)
+      (expanded + 1)
   deepens_expanded replies more store waiting expanded nexts is grows expands = record {
     seen = is.seen;
     are = is.are;
     count = is.count;
     led = λ i w at. led w (read_both waiting (waiting_from expanded nexts) w i at);
-    each = expanded_last more is.seen waiting (record { node = is.last.node; origin = is.last.origin }) expanded is.last
-        nexts (λ g aim. is.each g (fewer_aims h asked replies more g grows aim)) is.count is.is_last refl
-        expands.whole;
+    each = expanded_last more is.seen waiting (record { node = is.last.node; origin = is.last.origin }) expanded
+        is.last nexts (λ g aim. is.each g (fewer_aims h asked g grows aim)) is.count is.is_last refl expands.whole;
   }
     where
       one : Next → Waiting
@@ -268,8 +267,8 @@ module _ (h : ObservedHistory) (asked : Option ℕ) (returns : List ℕ) where
       found = at_contains store.nodes.items top.node visited
 
       seen : (x : Seen) × ((slice_get was.seen found.0 ≡ Some x) × (x.node ≡ top.node))
-      seen = read_map (λ (x : Seen). x.node) was.seen found.0 top.node
-          (ap (λ (ns : List Node). slice_get ns found.0) (sym was.are.nodes) ∙ found.1)
+      seen = read_map (λ (x : Seen). x.node) was.seen found.0 top.node (ap (λ (ns : List Node). slice_get ns found.0)
+          (sym was.are.nodes) ∙ found.1)
 
       move : MovesTo h asked returns led.from.node led.from.reached seen.0.node
       move = moves_to h asked returns led.from.node (record { node = seen.0.node; took = top.origin.took })
@@ -302,12 +301,12 @@ module _ (h : ObservedHistory) (asked : Option ℕ) (returns : List ℕ) where
             above = λ i w y le at_i. it.above i w y le (read_left waiting (top ∷ []) i w at_i);
             follow = it.follow;
           }
-          by (inr (end, same)) = absurd (dead g it.left aim
-              (subst (λ (w : Waiting). Hope g returns w.node it.left) (sym same) it.hope))
+          by (inr (end, same)) = absurd (dead g it.left aim (subst (λ (w : Waiting). Hope g returns w.node it.left)
+              (sym same) it.hope))
 
   pub all_passed_over : (replies : List Reply) (store : Store) (waiting passed : List Waiting) (expanded : ℕ) →
-      Deepens replies store (waiting ++ passed) expanded →
-      All (λ (w : Waiting). Contains store.nodes.items w.node) passed → Deepens replies store waiting expanded
+      Deepens replies store (waiting ++ passed) expanded → All (λ (w : Waiting). Contains store.nodes.items w.node)
+      passed → Deepens replies store waiting expanded
   all_passed_over replies store waiting [] expanded was visited =
       subst (λ (ws : List Waiting). Deepens replies store ws expanded) (append-nil waiting) was
   all_passed_over replies store waiting (w ∷ passed) expanded was visited =
@@ -318,8 +317,7 @@ module _ (h : ObservedHistory) (asked : Option ℕ) (returns : List ℕ) where
 
   -- the last that waits and was not looked at is looked at
   pub deepens_on : (replies : List Reply) (old new : Store) (waited waiting : List Waiting) (expanded : ℕ) →
-      Deepens replies old waited expanded → LooksAt old new waited waiting true →
-      IsAtLast replies new waiting expanded
+      Deepens replies old waited expanded → LooksAt old new waited waiting true → IsAtLast replies new waiting expanded
   deepens_on replies old new waited waiting expanded before looks = record {
     seen = was.seen ++ this ∷ [];
     are = record {
@@ -346,8 +344,8 @@ module _ (h : ObservedHistory) (asked : Option ℕ) (returns : List ℕ) where
 
       was : Deepens replies old (waiting ++ top ∷ []) expanded
       was = all_passed_over replies old (waiting ++ top ∷ []) looks.passed expanded
-          (subst (λ (ws : List Waiting). Deepens replies old ws expanded)
-          (looks.are ∙ sym (append_assoc waiting (top ∷ []) looks.passed)) before) looks.visited
+          (subst (λ (ws : List Waiting). Deepens replies old ws expanded) (looks.are ∙
+          sym (append_assoc waiting (top ∷ []) looks.passed)) before) looks.visited
 
       led : IsLedFrom was.seen top
       led = was.led (length waiting) top (read_last waiting top)
@@ -366,8 +364,8 @@ module _ (h : ObservedHistory) (asked : Option ℕ) (returns : List ℕ) where
         leads = is.leads;
       }
 
-      linked : (k : ℕ) (x : Seen) → 0 < k → (slice_get was.seen k ≡ Some x) ⊎ ((k ≡ length was.seen) ×
-          (this ≡ x)) → ComesFrom (was.seen ++ this ∷ []) k x
+      linked : (k : ℕ) (x : Seen) → 0 < k → (slice_get was.seen k ≡ Some x) ⊎ ((k ≡ length was.seen) × (this ≡ x)) →
+          ComesFrom (was.seen ++ this ∷ []) k x
       linked k x lt (inl at) =
           let it : ComesFrom was.seen k x = was.are.linked k x lt at in
           record {
@@ -406,12 +404,11 @@ module _ (h : ObservedHistory) (asked : Option ℕ) (returns : List ℕ) where
               let old : IsLedFrom was.seen w = was.led i w at_i in
               absurd (omega (arith, end, slice_get_within was.seen w.origin.from old.from old.is_from))
 
-          follow : (q : ℕ) (y : Seen) → p < q → (slice_get was.seen q ≡ Some y) ⊎ ((q ≡ length was.seen) ×
-              (this ≡ y)) → GoesOnFrom h asked returns (seen_as x) (seen_as y)
+          follow : (q : ℕ) (y : Seen) → p < q → (slice_get was.seen q ≡ Some y) ⊎
+              ((q ≡ length was.seen) × (this ≡ y)) → GoesOnFrom h asked returns (seen_as x) (seen_as y)
           follow q y later (inl found) = it.follow q y later found
-          follow q y later (inr (end, same)) = subst
-              (λ (z : Seen). GoesOnFrom h asked returns (seen_as x) (seen_as z)) same
-              (goes_on_through h asked returns (seen_as x) (seen_as led.from) (seen_as this)
+          follow q y later (inr (end, same)) = subst (λ (z : Seen). GoesOnFrom h asked returns (seen_as x) (seen_as z))
+              same (goes_on_through h asked returns (seen_as x) (seen_as led.from) (seen_as this)
               (it.above (length waiting) top led.from (omega (
                 arith,
                 slice_get_within (waiting ++ top ∷ []) it.at it.entry it.is_entry,

@@ -1,5 +1,5 @@
 -- What an order of the whole is to a search, and where one begins.
-use Rattle.std.proofs.Common.{◌≡◌, ◌⊎◌, ℕ, ◌≤◌, List, [], length, get_or, sym, subst, inl, inr, arith, Option, None, Some}
+use Rattle.std.proofs.Common.{◌≡◌, ◌⊎◌, ℕ, List, [], get_or, sym, subst, inl, inr, arith, Option, None}
 use Rattle.std.specs.Prelude.{take, drop}
 use Rattle.std.specs.List.{Contains}
 use Rattle.std.specs.Int.{bit_at}
@@ -32,18 +32,17 @@ completed_from h returns rest are by = record {
     right {i} (inl has) = absurd (none_in_empty i has)
     right (inr has) = has
 
-pub explained_by : (h : ObservedHistory) (returns : List ℕ) → AreReturns h.entries returns →
-    (explained : IsExplained h) → IsCompletedBy (StateTransition h.limits) h.entries returns (first_state h.width) []
-    explained.order
-explained_by h returns are explained =
+pub explained_by : {h : ObservedHistory} {returns : List ℕ} → AreReturns h.entries returns →
+    (explained : IsExplained h) → IsCompletedBy (StateTransition h.limits) h.entries returns
+    (first_state h.width) [] explained.order
+explained_by {h} {returns} are explained =
     let by = explained.by in
     record {
       effects = by.effects;
       once = by.once;
       fresh = λ k d lt. none_in_empty (get_or explained.order k d).index;
-      returned = All-weaker (IsReturnAt h.entries) (λ (i : ℕ). Contains [] i ⊎
-          Contains (indices_of explained.order) i) (λ i r. inr (by.returned i r.entry r.is_entry
-          (r.return, r.returned))) returns are.each;
+      returned = All-weaker (IsReturnAt h.entries) (λ (i : ℕ). Contains [] i ⊎ Contains (indices_of explained.order) i)
+          (λ i r. inr (by.returned i r.entry r.is_entry (r.return, r.returned))) returns are.each;
       ordered = by.ordered;
       runs = runs_legal h.limits [] (zeros h.width) (history_of explained.order) by.legal;
     }
@@ -65,13 +64,12 @@ opening_stands h returns node is = record {
     no_bit : (t : ℕ) → bit_at 0 t ≡ 1 → ⊥
     no_bit t bit = absurd (omega (arith, bit_at-zero t, bit))
 
-pub opening_way : (h : ObservedHistory) (asked : Option ℕ) (returns : List ℕ) (node : Node) → IsFirstNode h node →
+pub opening_way : {h : ObservedHistory} {asked : Option ℕ} {returns : List ℕ} {node : Node} → IsFirstNode h node →
     Reaches h asked returns (drop node.past returns) (first_state h.width) node.put []
-opening_way h asked returns node is =
+opening_way {h} {asked} {returns} {node} is =
     subst (λ (put : Option ℕ). Reaches h asked returns (drop node.past returns) (first_state h.width) put [])
-    (sym is.put) (subst (λ (n : ℕ). Reaches h asked returns (drop n returns) (first_state h.width) None []) (sym
-    is.past)
-    begins)
+    (sym is.put) (subst (λ (n : ℕ). Reaches h asked returns (drop n returns) (first_state h.width) None [])
+    (sym is.past) begins)
 
 abbrev pub opening_reached : (h : ObservedHistory) (asked : Option ℕ) (returns : List ℕ) (node : Node) →
     IsFirstNode h node → IsReached h
@@ -81,5 +79,5 @@ opening_reached h asked returns node is = record {
   taken = [];
   inside = omega (arith, is.past);
   stands = opening_stands h returns node is;
-  way = opening_way h asked returns node is;
+  way = opening_way is;
 }

@@ -82,15 +82,14 @@ awaits_next h asked returns v is awaited settled i rest same has = which (below 
     which : (v.past < length returns) ⊎ (length returns ≤ v.past) → ⊥
     which (inr all) = omega (arith, all, ap (λ (xs : List ℕ). length xs) same, length-drop v.past returns)
     which (inl inside) = settled.awaited there.entry (record { inside = inside; is_entry = there.is_entry })
-        (taken_by_bit h.entries (take v.past returns) v.threads is.taken (slice_index returns v.past) there.entry
-        is.stands.in_effect there.is_entry next.still (subst (Contains is.taken) first has)).0
+        (taken_by_bit (slice_index returns v.past) there.entry is.stands.in_effect there.is_entry next.still
+        (subst (Contains is.taken) first has)).0
       where
         there : IsReturnAt h.entries (slice_index returns v.past)
         there = awaited.are.each v.past 0 inside
 
         next : IsFirstLeft h.entries (take v.past returns) (slice_index returns v.past) there.entry
-        next = next_awaited h returns v.past there.entry awaited.observed awaited.are awaited.once inside
-            there.is_entry
+        next = next_awaited v.past awaited.observed awaited.are awaited.once inside there.is_entry
 
         first : i ≡ slice_index returns v.past
         first = ap (λ (l : List ℕ). get_or l 0 0) (sym same ∙ come returns v.past inside)
@@ -145,7 +144,7 @@ nothing_left h asked returns replies store waited expanded are before visited g 
     was = all_passed_over h asked returns replies store [] waited expanded before visited
 
     alike : AreAlike h g asked
-    alike = aim_alike h asked replies g aim
+    alike = aim_alike asked replies aim
 
     first : Seen h asked returns
     first = was.are.first
@@ -157,17 +156,17 @@ nothing_left h asked returns replies store waited expanded are before visited g 
     hope = record {
       state = first_state g.width;
       taken = [];
-      stands = opening_stands g returns first.node (opening_alike h g asked first.node alike was.are.is_first);
+      stands = opening_stands g returns first.node (opening_alike alike was.are.is_first);
       rest = explained.order;
       by = subst (λ (n : ℕ). IsCompletedBy (StateTransition g.limits) g.entries (drop n returns)
           (first_state g.width) [] explained.order) (sym was.are.is_first.past)
-          (explained_by g returns (returns_alike h g asked returns alike are) explained);
+          (explained_by (returns_alike alike are) explained);
       moves = refl;
     }
 
     it : IsOpen h asked returns g was.seen [] 0 first
-    it = was.each g aim 0 first moves
-        (omega (arith, was.count, slice_get_within was.seen 0 first was.are.at_first)) was.are.at_first hope
+    it = was.each g aim 0 first moves (omega (arith, was.count, slice_get_within was.seen 0 first was.are.at_first))
+        was.are.at_first hope
 
 module _ (h : ObservedHistory) (asked : Option ℕ) (returns : List ℕ) (replies : List Reply) (store : Store)
     (waiting : List Waiting) (expanded : ℕ) (is : IsAtLast h asked returns replies store waiting expanded)
@@ -182,20 +181,19 @@ module _ (h : ObservedHistory) (asked : Option ℕ) (returns : List ℕ) (replie
   seen_at k d lt = read_map (seen_as h asked returns) is.seen k (get_or reached k d) (slice_get-get_or reached k d lt)
 
   different : AllPairs (λ (c d : Configuration h asked returns). ¬ AreOne h asked returns c d) reached
-  different i j d lt inside one =
-      by (seen_at i d (omega (arith, lt, inside))) (seen_at j d inside)
+  different i j d lt inside one = by (seen_at i d (omega (arith, lt, inside))) (seen_at j d inside)
     where
       read : (k : ℕ) (x : Seen h asked returns) (u : Node) → slice_get is.seen k ≡ Some x →
           get_or store.nodes.items k u ≡ x.node
-      read k x u at = get_or_from_slice_get store.nodes.items k x.node u
-          (node_at h asked returns store is.seen k x is.are at)
+      read k x u at = get_or_from_slice_get store.nodes.items k x.node u (node_at h asked returns store is.seen k x
+          is.are at)
 
       by : SeenAs i (get_or reached i d) → SeenAs j (get_or reached j d) → ⊥
       by (x, (at_x, is_x)) (y, (at_y, is_y)) = is.are.keeps.different i j x.node lt
           (slice_get_within store.nodes.items j y.node (node_at h asked returns store is.seen j y is.are at_y))
-          (read i x x.node at_x ∙ one_node h asked returns x.node y.node x.reached y.reached
-          (subst (λ (c : Configuration h asked returns). AreOne h asked returns c (seen_as h asked returns y)) (sym is_x)
-          (subst (AreOne h asked returns (get_or reached i d)) (sym is_y) one)) ∙ sym (read j y x.node at_y))
+          (read i x x.node at_x ∙ one_node x.reached y.reached (subst (λ (c : Configuration h asked returns). AreOne h
+          asked returns c (seen_as h asked returns y)) (sym is_x) (subst (AreOne h asked returns (get_or reached i d))
+          (sym is_y) one)) ∙ sym (read j y x.node at_y))
 
   settled : All (IsSettledAt h asked returns) reached
   settled k d lt = by (seen_at k d lt)

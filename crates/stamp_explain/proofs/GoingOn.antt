@@ -1,5 +1,5 @@
 -- A configuration that goes on from another, and a node by which a search goes on from one.
-use Rattle.std.proofs.Common.{◌≡◌, ◌⊎◌, ℕ, ◌+◌, ◌<◌, ◌≤◌, List, [], ◌∷◌, ◌++◌, length, refl, sym, ◌∙◌, ap, subst}
+use Rattle.std.proofs.Common.{◌≡◌, ◌⊎◌, ℕ, List, [], ◌∷◌, ◌++◌, length, refl, sym, ◌∙◌, ap, subst}
 use Rattle.std.proofs.Common.{inl, inr, arith, Option, None, Some}
 use Rattle.std.specs.Prelude.{take, drop, slice_get, slice_index}
 use Rattle.std.specs.List.{Contains}

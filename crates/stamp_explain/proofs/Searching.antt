@@ -1,5 +1,5 @@
 -- What can be completed goes on by a move.
-use Rattle.std.proofs.Common.{◌≡◌, ◌⊎◌, ℕ, ◌+◌, ◌<◌, ◌≤◌, zero, suc, List, ◌∷◌, length, refl, subst, inl}
+use Rattle.std.proofs.Common.{◌≡◌, ◌⊎◌, ℕ, ◌+◌, suc, List, ◌∷◌, length, refl, inl}
 use Rattle.std.proofs.Common.{inr, arith}
 use Rattle.std.specs.List.{Contains}
 use Rattle.stamp_core.specs.Limits.{Bounds}
@@ -41,27 +41,27 @@ pub record GoesOnBy (limits : Bounds) (entries : List Observation) (i : ℕ) (a 
   pub completes : CompletesIn (StateTransition limits) entries (i ∷ to_come) state (effect.index ∷ taken) left
 
 -- what can be completed goes on by one of these two moves
-pub goes_on : (limits : Bounds) (entries : List Observation) (i : ℕ) (a : Observation) (to_come : List ℕ)
-    (s : LockState) (taken : List ℕ) (n : ℕ) → IsAwaited entries i a →
-    CompletesIn (StateTransition limits) entries (i ∷ to_come) s taken n →
-    GoesPast (StateTransition limits) entries i to_come s taken n ⊎ GoesOnBy limits entries i a to_come s taken n
-goes_on limits entries i a to_come s taken n awaited can = which (either_in taken i)
+pub goes_on : (limits : Bounds) {entries : List Observation} {i : ℕ} {a : Observation} (to_come : List ℕ)
+    {s : LockState} {taken : List ℕ} {n : ℕ} → IsAwaited entries i a → CompletesIn (StateTransition limits) entries
+    (i ∷ to_come) s taken n → GoesPast (StateTransition limits) entries i to_come s taken n ⊎ GoesOnBy limits entries i
+    a to_come s taken n
+goes_on limits {entries} {i} {a} to_come {s} {taken} {n} awaited can = which (either_in taken i)
   where
-    which : Contains taken i ⊎ (¬ Contains taken i) →
-        GoesPast (StateTransition limits) entries i to_come s taken n ⊎ GoesOnBy limits entries i a to_come s taken n
+    which : Contains taken i ⊎ (¬ Contains taken i) → GoesPast (StateTransition limits) entries i to_come s taken n ⊎
+        GoesOnBy limits entries i a to_come s taken n
     which (inl has) = inl (record {
       in_effect = has;
       left = length to_come + length can.rest;
       fewer = omega (arith, can.moves);
       completes = record {
         rest = can.rest;
-        by = past_return (StateTransition limits) entries i to_come s taken can.rest can.by;
+        by = past_return (StateTransition limits) i can.by;
         moves = refl;
       };
     })
     which (inr not_yet) =
         let one : TakesOfOneObject limits entries i a to_come s taken can.rest =
-        takes_of_one_object limits entries i a to_come s taken can.rest awaited not_yet can.by in
+        takes_of_one_object awaited not_yet can.by in
         inr (record {
           awaited = not_yet;
           effect = one.effect;

@@ -38,9 +38,9 @@ of_object_small h lock small = record {
 }
 
 -- it may be observed
-pub subhistory_observed : (h : ObservedHistory) (lock : Bool) (sub : Subhistory) → IsObserved h →
+pub subhistory_observed : {h : ObservedHistory} {lock : Bool} {sub : Subhistory} → IsObserved h →
     IsSubhistoryOf h lock sub → IsObserved sub.history
-subhistory_observed h lock sub observed is = subst IsObserved (sym is.history)
+subhistory_observed {h} {lock} observed is = subst IsObserved (sym is.history)
     (part_observed h (is_of_object lock) observed)
 
 pub subhistory_entries : (h : ObservedHistory) (lock : Bool) (sub : Subhistory) → IsSubhistoryOf h lock sub →
@@ -54,9 +54,9 @@ pub record IsSameCall (h : ObservedHistory) (lock : Bool) (sub : Subhistory) (k 
   pub is_entry : slice_get h.entries i ≡ Some e
   pub kind : is_of_object lock e ≡ true
 
-same_kept : (h : ObservedHistory) (lock : Bool) (sub : Subhistory) (k i : ℕ) (e : Observation) →
+same_kept : {h : ObservedHistory} {lock : Bool} {sub : Subhistory} {k i : ℕ} {e : Observation} →
     IsSubhistoryOf h lock sub → IsKeptAt (is_of_object lock) h.entries k i e → IsSameCall h lock sub k i e
-same_kept h lock sub k i e is at = record {
+same_kept {h} {lock} {sub} {k} {i} {e} is at = record {
   index = subst (λ (ns : List ℕ). slice_get ns k ≡ Some i) (sym is.indices)
       (indices_at (is_of_object lock) 0 h.entries k e at.is_kept ∙ ap (λ (n : ℕ). Some n) (omega (arith, at.index)));
   is_own = subst (λ (es : List Observation). slice_get es k ≡ Some e) (sym (subhistory_entries h lock sub is))
@@ -66,21 +66,21 @@ same_kept h lock sub k i e is at = record {
 }
 
 -- each of its calls stands in the whole, and each call of its object stands in it
-pub same_in_whole : (h : ObservedHistory) (lock : Bool) (sub : Subhistory) (k : ℕ) (e : Observation) →
+pub same_in_whole : {h : ObservedHistory} {lock : Bool} {sub : Subhistory} (k : ℕ) (e : Observation) →
     IsSubhistoryOf h lock sub → slice_get sub.history.entries k ≡ Some e → (i : ℕ) × IsSameCall h lock sub k i e
-same_in_whole h lock sub k e is at =
+same_in_whole {h} {lock} {sub} k e is at =
     let found : (i : ℕ) × IsKeptAt (is_of_object lock) h.entries k i e =
-    index_gives (is_of_object lock) h.entries k e
-    (subst (λ (es : List Observation). slice_get es k ≡ Some e) (subhistory_entries h lock sub is) at) in
-    (found.0, same_kept h lock sub k found.0 e is found.1)
+    index_gives (is_of_object lock) h.entries k e (subst (λ (es : List Observation). slice_get es k ≡ Some e)
+    (subhistory_entries h lock sub is) at) in
+    (found.0, same_kept is found.1)
 
-pub same_in_part : (h : ObservedHistory) (lock : Bool) (sub : Subhistory) (i : ℕ) (e : Observation) →
+pub same_in_part : {h : ObservedHistory} {lock : Bool} {sub : Subhistory} (i : ℕ) (e : Observation) →
     IsSubhistoryOf h lock sub → slice_get h.entries i ≡ Some e → is_of_object lock e ≡ true →
     (k : ℕ) × IsSameCall h lock sub k i e
-same_in_part h lock sub i e is at kind =
+same_in_part {h} {lock} i e is at kind =
     let found : (k : ℕ) × IsKeptAt (is_of_object lock) h.entries k i e =
     rank_gives (is_of_object lock) h.entries i e at kind in
-    (found.0, same_kept h lock sub found.0 i e is found.1)
+    (found.0, same_kept is found.1)
 
 -- the indices rise
 no_sooner : (p : Observation → Bool) (n : ℕ) (es : List Observation) → All (λ (i : ℕ). n ≤ i) (indices_where p n es)
@@ -104,9 +104,9 @@ rising p n (e ∷ es) = by (p e) (rising p (n + 1) es)
         (indices_where p (n + 1) es) (no_sooner p (n + 1) es)) all
     by false all = all
 
-pub indices_rise : (h : ObservedHistory) (lock : Bool) (sub : Subhistory) → IsSubhistoryOf h lock sub →
+pub indices_rise : {h : ObservedHistory} {lock : Bool} {sub : Subhistory} → IsSubhistoryOf h lock sub →
     AllPairs (λ (i j : ℕ). i < j) sub.indices.items
-indices_rise h lock sub is = subst (AllPairs (λ (i j : ℕ). i < j)) (sym is.indices)
+indices_rise {h} {lock} is = subst (AllPairs (λ (i j : ℕ). i < j)) (sym is.indices)
     (rising (is_of_object lock) 0 h.entries)
 
 -- all calls are of the lock where there is no record

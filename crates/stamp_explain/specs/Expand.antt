@@ -24,7 +24,7 @@ use Rattle.stamp_explain.specs.Configuration.{GivesUp, GivesUpApart, IsTried, No
 use Rattle.stamp_explain.specs.Configuration.{put_after}
 use Rattle.stamp_explain.specs.Node.{IsStateBy, StandsFor, IsReached, IsFirstNode}
 use Rattle.stamp_explain.specs.Timeline.{IsTimeline, IsAwaitedAt}
-use Rattle.stamp_explain.specs.Store.{IsStored, Keeps}
+use Rattle.stamp_explain.specs.Store.{IsStored}
 use Rattle.stamp_explain.specs.Linearization.{IsLinearizationOf}
 
 -- an order completes what the node stands for, in so many moves: returns and calls that take effect

@@ -11,7 +11,7 @@ use Rattle.stamp_core.specs.declared.reply.Reply.{Reply}
 use Rattle.stamp_explain.specs.declared.observed.Observation.{Observation}
 use Rattle.stamp_explain.specs.declared.node.Node.{Node}
 use Rattle.stamp_explain.specs.declared.node.CallTransition.{CallTransition}
-use Rattle.stamp_explain.specs.Observed.{ObservedHistory, IsBefore, AllowsReply}
+use Rattle.stamp_explain.specs.Observed.{ObservedHistory, IsBefore}
 use Rattle.stamp_explain.specs.Search.{LockState, StateTransition, first_state, after_call}
 use Rattle.stamp_explain.specs.Configuration.{Reaches, put_after}
 

@@ -39,13 +39,11 @@ offset_bounds-entries-i c =
 pub returns-then-is_before : goal.returns-then-is_before
 returns-then-is_before c = subst (λ (o : Option ℕ). IsAskedAt c.args.observed.now o c.args.timeline.now.returns.items
     c.args.node.now c.args.replies.now.items c.args.replies.now.items) (sym c.in-Some.is)
-    (asked_not_begun c.args.observed.now c.in-Some.i c.args.timeline.now c.args.node.now
-    c.index-entries-index.result c.index-entries-i.result c.args.replies.now.items
-    (awaits_read c.args.observed.now c.args.timeline.now c.args.node.now c.index.result.now
+    (asked_not_begun c.args.observed.now c.in-Some.i c.args.timeline.now c.args.node.now c.index-entries-index.result
+    c.index-entries-i.result c.args.replies.now.items (awaits_read c.args.node.now c.index.result.now
     c.entries-entries.result.now c.index-entries-index.result c.requires.is_timeline c.requires.past c.index.ensures
-    c.entries-entries.ensures.entries c.index-entries-index.is)
-    (read c.requires c.in-Some.is c.entries-entries.ensures.entries c.index-entries-i.is)
-    (c.is_before.ensures.0 c.if-is_before.true))
+    c.entries-entries.ensures.entries c.index-entries-index.is) (read c.requires c.in-Some.is
+    c.entries-entries.ensures.entries c.index-entries-i.is) (c.is_before.ensures.0 c.if-is_before.true))
 
 pub transition_of-requires-clause-inside : goal.transition_of-requires-clause-inside
 transition_of-requires-clause-inside c = asked_at c.requires c.in-Some.is
@@ -60,12 +58,11 @@ returns-in_ok-add c = subst (λ (o : Option ℕ). IsAskedAt c.args.observed.now 
     (asked_replies c.args.observed.now c.in-Some.i c.args.timeline.now c.args.node.now
     c.in-Some-transition_of.transition c.index-entries-index.result c.args.replies.now.items c.add.new.replies.items
     (subst (λ (o : Option ℕ). MayGoOn c.args.observed.now o c.args.timeline.now c.args.node.now) c.in-Some.is
-    c.requires)
-    (awaits_read c.args.observed.now c.args.timeline.now c.args.node.now c.index.result.now
-    c.entries-entries.result.now c.index-entries-index.result c.requires.is_timeline c.requires.past c.index.ensures
-    c.entries-entries.ensures.entries c.index-entries-index.is)
-    (λ e at before. false≢true (sym c.if-is_before.false ∙ c.is_before.ensures.1
-    (subst (λ (o : Observation). IsBefore c.index-entries-index.result o) (same_Some e c.index-entries-i.result (sym at ∙
+    c.requires) (awaits_read c.args.node.now c.index.result.now c.entries-entries.result.now
+    c.index-entries-index.result c.requires.is_timeline c.requires.past c.index.ensures
+    c.entries-entries.ensures.entries c.index-entries-index.is) (λ e at before. false≢true
+    (sym c.if-is_before.false ∙ c.is_before.ensures.1 (subst (λ (o : Observation). IsBefore
+    c.index-entries-index.result o) (same_Some e c.index-entries-i.result (sym at ∙
     read c.requires c.in-Some.is c.entries-entries.ensures.entries c.index-entries-i.is)) before)))
     c.in-Some-transition_of.ensures c.in_ok-add.ensures)
 

@@ -13,12 +13,10 @@ returns-then-width-eq0 c = IfOk-weaker c.find_alone.result (λ found. IsSearched
     (sym c.width.ensures.width ∙ c.if-width-eq0.true) is) c.find_alone.ensures
 
 pub find_alone-requires-2 : goal.find_alone-requires-2
-find_alone-requires-2 c = subhistory_observed c.args.observed.now true c.in_ok-lock_calls.lock_calls c.requires
-    c.in_ok-lock_calls.ensures
+find_alone-requires-2 c = subhistory_observed c.requires c.in_ok-lock_calls.ensures
 
 pub find_alone-requires-3 : goal.find_alone-requires-3
-find_alone-requires-3 c = subhistory_observed c.args.observed.now false c.in_ok-record_calls.record_calls c.requires
-    c.in_ok-record_calls.ensures
+find_alone-requires-3 c = subhistory_observed c.requires c.in_ok-record_calls.ensures
 
 pub returns-in-NoOrder : goal.returns-in-NoOrder
 returns-in-NoOrder c = none_of_one c.args.observed.now true c.in_ok-lock_calls.lock_calls c.requires

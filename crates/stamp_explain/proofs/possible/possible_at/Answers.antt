@@ -1,4 +1,4 @@
-use Rattle.std.proofs.Common.{List, Option, Vec, Global, sym, subst, inl, inr}
+use Rattle.std.proofs.Common.{Option, Vec, Global, sym, subst, inl, inr}
 use Rattle.std.specs.Prelude.{IfSome}
 use Rattle.std.specs.Option.{IfNone}
 use Rattle.std.proofs.lemmas.Result.{IfOk-weaker}

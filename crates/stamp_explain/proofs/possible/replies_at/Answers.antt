@@ -1,6 +1,5 @@
-use Rattle.std.proofs.Common.{◌≡◌, ℕ, ◌+◌, ◌-◌, List, Some, sym, ◌∙◌, ap, subst, arith}
-use Rattle.std.proofs.lemmas.Option.{none-some, same_Some}
-use Rattle.stamp_explain.specs.declared.found.SearchEnd.{SearchEnd}
+use Rattle.std.proofs.Common.{◌≡◌, ◌+◌, ◌-◌, List, Some, ◌∙◌, ap, subst, arith}
+use Rattle.std.proofs.lemmas.Option.{same_Some}
 use Rattle.stamp_explain.specs.declared.observed.Observation.{Observation}
 use Rattle.stamp_explain.specs.Observed.{IsReturnAt}
 use Rattle.stamp_explain.specs.Configuration.{ReachesMoreBeside}
@@ -16,12 +15,12 @@ there : (c : In_ok-seen) → IsSeenAt c.args.observed.now c.args.entry c.index-e
     c.in_ok-seen.seen c.index_then-index.result
 there c = record {
   observed = c.requires.observed;
-  is_entry = read_at c.args.observed.now c.args.entry c.index-entries-entry.result c.entries.result.now
-      c.requires.returned c.index-entries-entry.is c.entries.ensures.entries;
+  is_entry = read_at c.args.observed.now c.index-entries-entry.result c.entries.result.now c.requires.returned
+      c.index-entries-entry.is c.entries.ensures.entries;
   returned = c.in-Some.is;
   is_seen = c.in_ok-seen.ensures;
-  is_index = c.index_then-index.ensures ∙
-      ap (λ (es : List Observation). index_then c.in-Some.returned.last c.args.entry es) c.entries-2.ensures.entries;
+  is_index = c.index_then-index.ensures ∙ ap (λ (es : List Observation). index_then c.in-Some.returned.last
+      c.args.entry es) c.entries-2.ensures.entries;
 }
 
 pub timeline_of-requires : goal.timeline_of-requires

@@ -10,13 +10,13 @@ returns-in-Some-clause-one c replies =
     let h = c.args.observed.now in
     let node = c.args.node.now in
     let calls = c.as_slice-i-items.result.now in
-    expands_at_once h c.args.asked c.args.timeline.now node replies calls c.loop-i.i-index c.in-Some.next
+    expands_at_once c.in-Some.next
     c.settled.result c.requires
-    (opens_read h c.args.timeline.now node.past c.index.result.now calls c.requires.is_timeline c.requires.past
+    (opens_read c.index.result.now c.requires.is_timeline c.requires.past
     c.index.ensures c.as_slice-i-items.ensures.value)
     c.loop-i.invariant c.loop-i-test.true (c.goes_at_once.ensures.0 c.if-goes_at_once.true)
     (c.in-Some.ensures c.args.timeline.now.returns.items c.requires.is_timeline.are
-    (open_read h c.args.timeline.now node.past c.index.result.now calls c.loop-i.i-index c.requires.is_timeline
+    (open_read c.index.result.now calls c.loop-i.i-index c.requires.is_timeline
     c.requires.past c.index.ensures c.as_slice-i-items.ensures.value c.loop-i-test.true))
     (record {
       passes = c.settled.ensures.passes;
@@ -32,20 +32,16 @@ loop-i-preserved c =
     let calls = c.as_slice-i-items.result.now in
     elim c.if-goes_at_once.branch [
       | then-goes_at_once+in_default w ↦
-          none_by_took h c.args.asked returns node calls c.loop-i.i-index c.loop-i.invariant
+          none_by_took c.loop-i.invariant
           (w.in_default.ensures returns c.requires.is_timeline.are
-          (open_read h c.args.timeline.now node.past c.index.result.now calls c.loop-i.i-index c.requires.is_timeline
+          (open_read c.index.result.now calls c.loop-i.i-index c.requires.is_timeline
           c.requires.past c.index.ensures c.as_slice-i-items.ensures.value c.loop-i-test.true))
       | else-goes_at_once w ↦
-          none_by_test h c.args.asked returns node calls c.loop-i.i-index c.loop-i.invariant
+          none_by_test c.loop-i.invariant
           (λ both. false≢true (sym w.if-goes_at_once.false ∙ c.goes_at_once.ensures.1 both))
     ]
 
 pub returns-clause-none : goal.returns-clause-none
 returns-clause-none c =
-    none_at_once c.args.observed.now c.args.asked c.args.timeline.now c.args.node.now c.as_slice-i-items.result.now
-    c.loop-i.i-index
-    (opens_read c.args.observed.now c.args.timeline.now c.args.node.now.past c.index.result.now
-    c.as_slice-i-items.result.now c.requires.is_timeline c.requires.past c.index.ensures
-    c.as_slice-i-items.ensures.value)
-    (omega (arith, c.loop-i-test.false)) c.loop-i.invariant
+    none_at_once c.args.timeline.now (opens_read c.index.result.now c.requires.is_timeline c.requires.past
+    c.index.ensures c.as_slice-i-items.ensures.value) (omega (arith, c.loop-i-test.false)) c.loop-i.invariant

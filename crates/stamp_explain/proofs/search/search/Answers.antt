@@ -1,8 +1,5 @@
 use Rattle.std.proofs.Common.{List, sym, subst, arith, ◌+◌}
-use Rattle.std.proofs.Common.{[]}
-use Rattle.stamp_core.specs.declared.reply.Reply.{Reply}
 use Rattle.stamp_explain.specs.declared.node.Waiting.{Waiting}
-use Rattle.stamp_explain.proofs.Deepening.{IsAtLast, deepens_first}
 use Rattle.stamp_explain.proofs.GivingUp.{AreAwaited, Searches, begins_searching, given_up, gotten_more, last_ends}
 use Rattle.stamp_explain.proofs.GivingUp.{last_expanded, last_goes_on, last_linked, last_many, last_read, last_unasked}
 use Rattle.stamp_explain.proofs.GivingUp.{looked_no_more, looked_on}

@@ -1,4 +1,4 @@
-use Rattle.std.proofs.Common.{◌≡◌, get_or, sym, ◌∙◌, ap, subst}
+use Rattle.std.proofs.Common.{◌≡◌, sym, ◌∙◌, ap, subst}
 use Rattle.std.specs.Prelude.{IsTrue}
 use Rattle.std.specs.Int.{bit_at}
 use Rattle.std.proofs.lemmas.Bool.{false≢true}
@@ -15,7 +15,7 @@ returns-then-has_thread c returns are it = record {
   takes = λ a s taken awaited stands.
       let same : it.entry ≡ c.index-entries-i.result = entry_is c.args.observed.now.entries c.entries.result.now
       c.args.i it.entry c.index-entries-i.result it.is_entry c.entries.ensures.entries ∙ sym c.index-entries-i.is in
-      none_by_bit c.args.observed.now returns c.args.node.now a c.args.i s taken
+      none_by_bit
       (trying c.requires.observed are awaited stands it)
       (ap (λ (o : Observation). bit_at c.args.node.now.threads o.thread) same ∙ c.has_thread.ensures.0
       c.if-has_thread.true);
@@ -28,9 +28,7 @@ transition_of-requires-clause-suits c e at = at_index (λ (o : Observation). IsT
 
 pub returns-in_default : goal.returns-in_default
 returns-in_default c returns are it = record {
-  takes = λ a s taken awaited stands.
-      none_by_wait c.args.observed.now returns c.args.node.now a c.args.i s taken
-      (trying c.requires.observed are awaited stands it)
+  takes = λ a s taken awaited stands. none_by_wait (trying c.requires.observed are awaited stands it)
       (λ e at. c.in_default.ensures e s at stands.at);
 }
 
@@ -39,7 +37,7 @@ returns-then-not-allows_reply c returns are it = record {
   takes = λ a s taken awaited stands.
       let same : it.entry ≡ c.index-entries-i.result = entry_is c.args.observed.now.entries c.entries.result.now
       c.args.i it.entry c.index-entries-i.result it.is_entry c.entries.ensures.entries ∙ sym c.index-entries-i.is in
-      none_by_reply c.args.observed.now returns c.args.node.now a c.args.i s taken c.in-Some.transition
+      none_by_reply c.in-Some.transition
       (trying c.requires.observed are awaited stands it)
       (λ allows. false≢true (sym c.if-not-allows_reply.true ∙ c.allows_reply.ensures.1
       (subst (λ (o : Observation). AllowsReply o c.in-Some.transition.reply) same allows)))
@@ -51,7 +49,7 @@ returns c order are it = record {
   takes = λ a s taken awaited stands.
       let same : it.entry ≡ c.index-entries-i.result = entry_is c.args.observed.now.entries c.entries.result.now
       c.args.i it.entry c.index-entries-i.result it.is_entry c.entries.ensures.entries ∙ sym c.index-entries-i.is in
-      taken_to c.args.observed.now order c.args.node.now a c.args.i s taken c.with_thread.result c.in-Some.transition
+      taken_to c.in-Some.transition
       (trying c.requires.observed are awaited stands it)
       (λ bit. false≢true (sym c.if-has_thread.false ∙ c.has_thread.ensures.1
       (ap (λ (o : Observation). bit_at c.args.node.now.threads o.thread) (sym same) ∙ bit)))
