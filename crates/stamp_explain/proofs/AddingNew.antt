@@ -37,8 +37,8 @@ read_both {X} xs ys y k at = by (below k)
     below : (k : ℕ) → (k < length xs) ⊎ (length xs ≤ k)
     below k = grind arith
 
-    by : (k < length xs) ⊎ (length xs ≤ k) →
-        (slice_get xs k ≡ Some y) ⊎ ((length xs ≤ k) × (slice_get ys (k - length xs) ≡ Some y))
+    by : (k < length xs) ⊎ (length xs ≤ k) → (slice_get xs k ≡ Some y) ⊎ ((length xs ≤ k) ×
+        (slice_get ys (k - length xs) ≡ Some y))
     by (inl less) =
         let was : slice_get xs k ≡ Some (get_or xs k y) = slice_get-get_or xs k y less in
         inl (was ∙ sym (read_left xs ys k (get_or xs k y) was) ∙ at)
@@ -66,8 +66,8 @@ pub read_map : {X Y : Type 0} (f : X → Y) (xs : List X) (k : ℕ) (y : Y) → 
     (x : X) × ((slice_get xs k ≡ Some x) × (f x ≡ y))
 read_map {X} {Y} f xs k y at = by (slice_get xs k) refl (sym (slice_get-map f xs k) ∙ at)
   where
-    by : (o : Option X) → slice_get xs k ≡ o → option_map f o ≡ Some y →
-        (x : X) × ((slice_get xs k ≡ Some x) × (f x ≡ y))
+    by : (o : Option X) → slice_get xs k ≡ o → option_map f o ≡ Some y → (x : X) ×
+        ((slice_get xs k ≡ Some x) × (f x ≡ y))
     by None e is = absurd (none-some y is)
     by (Some x) e is = (x, (e, same_Some (f x) y is))
 

@@ -50,21 +50,21 @@ pub seen_index : (last b n : ℕ) (es : List Observation) (i : ℕ) (e : Observa
 seen_index last b n [] i e at begun known = absurd (none-some e at)
 seen_index last b n (x ∷ es) zero e at begun known =
     ap (λ (t : Bool). slice_get (after_first last t (cut_entry last b n x) (cut_entries last b (n + 1) es)) 0)
-    (begun_kept last b n x ∙ ap (is_begun last) same ∙ begun) ∙
-    ap (λ (o : Observation). Some o) (ap (cut_entry last b n) same ∙ known n (omega arith))
+    (begun_kept last b n x ∙ ap (is_begun last) same ∙ begun) ∙ ap (λ (o : Observation). Some o)
+    (ap (cut_entry last b n) same ∙ known n (omega arith))
   where
     same : x ≡ e
     same = same_Some x e at
 seen_index last b n (x ∷ es) (suc i) e at begun known = by (is_begun last x) refl
     (seen_index last b (n + 1) es i e at begun (λ m is. known m (omega (arith, is))))
   where
-    by : (t : Bool) → is_begun last x ≡ t →
-        slice_get (begun_by last (cut_entries last b (n + 1) es)) (index_then last i es) ≡ Some e →
-        slice_get (begun_by last (cut_entries last b n (x ∷ es))) (index_then last (suc i) (x ∷ es)) ≡ Some e
+    by : (t : Bool) → is_begun last x ≡ t → slice_get (begun_by last (cut_entries last b (n + 1) es))
+        (index_then last i es) ≡ Some e → slice_get (begun_by last (cut_entries last b n (x ∷ es)))
+        (index_then last (suc i) (x ∷ es)) ≡ Some e
     by t is rest =
         ap (λ (u : Bool). slice_get (after_first last u (cut_entry last b n x) (cut_entries last b (n + 1) es))
-        (index_then last (suc i) (x ∷ es))) (begun_kept last b n x ∙ is) ∙
-        ap (λ (u : Bool). slice_get (after_first last t (cut_entry last b n x) (cut_entries last b (n + 1) es))
+        (index_then last (suc i) (x ∷ es))) (begun_kept last b n x ∙ is) ∙ ap
+        (λ (u : Bool). slice_get (after_first last t (cut_entry last b n x) (cut_entries last b (n + 1) es))
         (length (cond u (x ∷ begun_by last (take i es)) (begun_by last (take i es))))) is ∙ step t rest
       where
         step : (t : Bool) → slice_get (begun_by last (cut_entries last b (n + 1) es)) (index_then last i es) ≡ Some e →
@@ -76,34 +76,33 @@ seen_index last b n (x ∷ es) (suc i) e at begun known = by (is_begun last x) r
 -- another entry instead of it is seen at its index
 pub seen_set : (last b n : ℕ) (es : List Observation) (i : ℕ) (e y : Observation) → slice_get es i ≡ Some e →
     is_begun last e ≡ true → is_begun last y ≡ true → ((m : ℕ) → m ≡ n + i → cut_entry last b m y ≡ y) →
-    begun_by last (cut_entries last b n (set es i y)) ≡
-    set (begun_by last (cut_entries last b n es)) (index_then last i es) y
+    begun_by last (cut_entries last b n (set es i y)) ≡ set (begun_by last (cut_entries last b n es))
+    (index_then last i es) y
 seen_set last b n [] i e y at begun too known = absurd (none-some e at)
 seen_set last b n (x ∷ es) zero e y at begun too known =
     ap (λ (o : Observation). after_first last (is_begun last o) o (cut_entries last b (n + 1) es))
-    (known n (omega arith)) ∙
-    ap (λ (t : Bool). after_first last t y (cut_entries last b (n + 1) es)) too ∙
+    (known n (omega arith)) ∙ ap (λ (t : Bool). after_first last t y (cut_entries last b (n + 1) es)) too ∙
     sym (ap (λ (t : Bool). set (after_first last t (cut_entry last b n x) (cut_entries last b (n + 1) es)) 0 y)
     (begun_kept last b n x ∙ ap (is_begun last) (same_Some x e at) ∙ begun))
 seen_set last b n (x ∷ es) (suc i) e y at begun too known = by (is_begun last x) refl
     (seen_set last b (n + 1) es i e y at begun too (λ m is. known m (omega (arith, is))))
   where
-    by : (t : Bool) → is_begun last x ≡ t → begun_by last (cut_entries last b (n + 1) (set es i y)) ≡
-        set (begun_by last (cut_entries last b (n + 1) es)) (index_then last i es) y →
-        begun_by last (cut_entries last b n (x ∷ set es i y)) ≡
-        set (begun_by last (cut_entries last b n (x ∷ es))) (index_then last (suc i) (x ∷ es)) y
+    by : (t : Bool) → is_begun last x ≡ t → begun_by last (cut_entries last b (n + 1) (set es i y)) ≡ set
+        (begun_by last (cut_entries last b (n + 1) es)) (index_then last i es) y →
+        begun_by last (cut_entries last b n (x ∷ set es i y)) ≡ set (begun_by last (cut_entries last b n (x ∷ es)))
+        (index_then last (suc i) (x ∷ es)) y
     by t is rest =
         ap (λ (u : Bool). after_first last u (cut_entry last b n x) (cut_entries last b (n + 1) (set es i y)))
-        (begun_kept last b n x ∙ is) ∙ step t rest ∙
-        sym (ap (λ (u : Bool). set (after_first last u (cut_entry last b n x) (cut_entries last b (n + 1) es))
+        (begun_kept last b n x ∙ is) ∙ step t rest ∙ sym (ap (λ (u : Bool). set
+        (after_first last u (cut_entry last b n x) (cut_entries last b (n + 1) es))
         (index_then last (suc i) (x ∷ es)) y) (begun_kept last b n x ∙ is) ∙
         ap (λ (u : Bool). set (after_first last t (cut_entry last b n x) (cut_entries last b (n + 1) es))
         (length (cond u (x ∷ begun_by last (take i es)) (begun_by last (take i es)))) y) is)
       where
-        step : (t : Bool) → begun_by last (cut_entries last b (n + 1) (set es i y)) ≡
-            set (begun_by last (cut_entries last b (n + 1) es)) (index_then last i es) y →
-            after_first last t (cut_entry last b n x) (cut_entries last b (n + 1) (set es i y)) ≡
-            set (after_first last t (cut_entry last b n x) (cut_entries last b (n + 1) es))
+        step : (t : Bool) → begun_by last (cut_entries last b (n + 1) (set es i y)) ≡ set
+            (begun_by last (cut_entries last b (n + 1) es)) (index_then last i es) y →
+            after_first last t (cut_entry last b n x) (cut_entries last b (n + 1) (set es i y)) ≡ set
+            (after_first last t (cut_entry last b n x) (cut_entries last b (n + 1) es))
             (length (cond t (x ∷ begun_by last (take i es)) (begun_by last (take i es)))) y
         step true rest = ap (λ (os : List Observation). cut_entry last b n x ∷ os) rest
         step false rest = rest
@@ -113,15 +112,15 @@ begun_then : (e : Observation) (r : Returned) → e.first ≤ r.last → is_begu
 begun_then e r le = grind (arith, nat_tests)
 
 pub asked_there : (h : ObservedHistory) (i : ℕ) (e : Observation) (r : Returned) → slice_get h.entries i ≡ Some e →
-    e.returned ≡ Some r → e.first ≤ r.last →
-    slice_get (seen_at r.last (i + 1) h).entries (index_then r.last i h.entries) ≡ Some e
+    e.returned ≡ Some r → e.first ≤ r.last → slice_get (seen_at r.last (i + 1) h).entries
+    (index_then r.last i h.entries) ≡ Some e
 asked_there h i e r at returned le = seen_index r.last (i + 1) 0 h.entries i e at (begun_then e r le)
     (λ m is. known_kept e r (i + 1) m returned (omega (arith, is)))
 
 pub seen_answered : (h : ObservedHistory) (i : ℕ) (e : Observation) (r : Returned) (reply : Reply) →
     slice_get h.entries i ≡ Some e → e.returned ≡ Some r → e.first ≤ r.last →
-    seen_at r.last (i + 1) (with_reply i e r reply h) ≡
-    with_reply (index_then r.last i h.entries) e r reply (seen_at r.last (i + 1) h)
+    seen_at r.last (i + 1) (with_reply i e r reply h) ≡ with_reply (index_then r.last i h.entries) e r reply
+    (seen_at r.last (i + 1) h)
 seen_answered h i e r reply at returned le = ap (λ (es : List Observation). record h { entries = es })
     (seen_set r.last (i + 1) 0 h.entries i e (returned_with e r reply) at (begun_then e r le) (begun_then e r le)
     (λ m is. known_kept (returned_with e r reply) (record r { reply = reply }) (i + 1) m refl (omega (arith, is))))
@@ -225,8 +224,8 @@ undecided_by h i most replies observed are some = record { reply = some.0; undec
     is_entry = same_Some are.at.entry own.entry (sym are.at.is_entry ∙ own.is_entry)
 
     is_return : are.at.return ≡ own.return
-    is_return = same_Some are.at.return own.return (sym are.at.returned ∙
-        ap (λ (o : Observation). o.returned) is_entry ∙ own.returned)
+    is_return = same_Some are.at.return own.return (sym are.at.returned ∙ ap
+        (λ (o : Observation). o.returned) is_entry ∙ own.returned)
 
     seen_by : Returned → ObservedHistory
     seen_by r = seen_at r.last (i + 1) h
@@ -242,9 +241,8 @@ undecided_by h i most replies observed are some = record { reply = some.0; undec
     same = sym (same_Some (index own.return) gets.index gets.is_asked)
 
     entry : gets.entry ≡ own.entry
-    entry = same_Some gets.entry own.entry (sym gets.is_entry ∙
-        ap (λ (k : ℕ). slice_get (seen_by own.return).entries k) same ∙
-        asked_there h i own.entry own.return own.is_entry own.returned
+    entry = same_Some gets.entry own.entry (sym gets.is_entry ∙ ap (λ (k : ℕ). slice_get
+        (seen_by own.return).entries k) same ∙ asked_there h i own.entry own.return own.is_entry own.returned
         (ended h i own.entry own.return observed own.is_entry own.returned))
 
     seen : GetsBeside (seen_by own.return) (index own.return) own.entry some.0

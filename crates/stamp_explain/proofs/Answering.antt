@@ -84,8 +84,8 @@ turned is = record {
 }
 
 -- the entry of the other history
-pub there : (h g : ObservedHistory) (asked : Option ℕ) (k : ℕ) (e : Observation) → AreAlike h g asked → slice_get h.entries k ≡ Some e →
-    (f : Observation) × ((slice_get g.entries k ≡ Some f) × IsAlike e f)
+pub there : (h g : ObservedHistory) (asked : Option ℕ) (k : ℕ) (e : Observation) → AreAlike h g asked →
+    slice_get h.entries k ≡ Some e → (f : Observation) × ((slice_get g.entries k ≡ Some f) × IsAlike e f)
 there h g asked k e is at = (
   get_or g.entries k e,
   (

@@ -180,8 +180,8 @@ unchanging_calls_at_once limits entries awaited to_come s t taken x may returned
     record { rest = now.others; by = now.by }
 
 -- so it is a move of a search
-pub record TakesAtOnce {S : Type 0} (Goes : S → Call × Reply → S →
-    Type 0) (entries : List Observation) (to_come : List ℕ) (s : S) (taken : List ℕ) (n : ℕ) : Type 0 where
+pub record TakesAtOnce {S : Type 0} (Goes : S → Call × Reply → S → Type 0) (entries : List Observation)
+    (to_come : List ℕ) (s : S) (taken : List ℕ) (n : ℕ) : Type 0 where
   pub left : ℕ
   pub fewer : suc left ≤ n
   pub completes : CompletesIn Goes entries to_come s taken left

@@ -67,10 +67,9 @@ the_awaited {timeline} {node} {a} is = record {
   begun = not_before_itself a ((orderly is.observed).interval (get_or timeline.returns.items node.past 0) a is.at);
 }
 
-pub not_yet : (h : ObservedHistory) (timeline : Timeline) (node : Node) (a : Observation) (s : LockState) (taken :
-    List ℕ) →
-    Awaits h timeline node a → bit_at node.threads a.thread ≢ 1 → StandsFor h timeline.returns.items node s taken →
-    ¬ Contains taken (get_or timeline.returns.items node.past 0)
+pub not_yet : (h : ObservedHistory) (timeline : Timeline) (node : Node) (a : Observation) (s : LockState)
+    (taken : List ℕ) → Awaits h timeline node a → bit_at node.threads a.thread ≢ 1 →
+    StandsFor h timeline.returns.items node s taken → ¬ Contains taken (get_or timeline.returns.items node.past 0)
 not_yet h timeline node a s taken is bit stands has =
     bit (taken_by_bit (get_or timeline.returns.items node.past 0) a stands.in_effect is.at (the_next is).still has).0
 
@@ -166,33 +165,6 @@ leads_past is bit clears = record {
   };
 }
 
-pub suffices_past : {h : ObservedHistory} {timeline : Timeline} {node : Node} {a : Observation} {threads : ℕ} →
-    Awaits h timeline node a → bit_at node.threads a.thread ≡ 1 → ClearsBit node.threads threads a.thread →
-    Suffice h timeline.returns.items node (past_of node threads ∷ [])
-suffices_past {h} {timeline} {node} {a} {threads} is bit clears n hope =
-    goes (goes_on h.limits (drop (suc node.past) timeline.returns.items) (the_awaited is) (hope_completes is hope))
-  where
-    i : ℕ
-    i = get_or timeline.returns.items node.past 0
-
-    next : Next
-    next = past_of node threads
-
-    next_left : drop (suc node.past) timeline.returns.items ≡ drop next.node.past timeline.returns.items
-    next_left = ap (λ (k : ℕ). drop k timeline.returns.items) (one_more node.past)
-
-    goes : GoesPast (StateTransition h.limits) h.entries i (drop (suc node.past) timeline.returns.items) hope.state
-        hope.taken n ⊎ GoesOnBy h.limits h.entries i a (drop (suc node.past) timeline.returns.items) hope.state
-        hope.taken n → GoesOn h timeline.returns.items (next ∷ []) n
-    goes (inl past) =
-        let P : List ℕ → Type 0 = λ (to_come : List ℕ). CompletesIn (StateTransition h.limits) h.entries to_come
-        hope.state hope.taken past.left in
-        goes_on_to next (alone next)
-        (omega (arith, past.fewer))
-        (stands_past is bit clears hope.stands)
-        (subst P next_left past.completes)
-    goes (inr on) = absurd (on.awaited (awaited_in_effect is bit hope.stands))
-
 -- what is behind so many of a list is in the rest
 pub in_drop : (xs : List ℕ) (n k j : ℕ) → n ≤ k → k < length xs → get_or xs k j ≡ j → Contains (drop n xs) j
 in_drop xs n k j le lt is =
@@ -240,8 +212,7 @@ pending h timeline node s taken is stands = record {
 pub index_read : (returns : List ℕ) (past i : ℕ) → past < length returns → i ≡ get_or returns past i →
     get_or returns past 0 ≡ i
 index_read returns past i inside read = same_Some (get_or returns past 0) i
-    (sym (slice_get-get_or returns past 0 inside) ∙
-    slice_get_read returns (length returns) past i refl inside read)
+    (sym (slice_get-get_or returns past 0 inside) ∙ slice_get_read returns (length returns) past i refl inside read)
 
 pub awaited_inside : {h : ObservedHistory} {timeline : Timeline} (past i : ℕ) → IsTimeline h timeline →
     past < length timeline.returns.items → i ≡ get_or timeline.returns.items past i → i < length h.entries
@@ -249,11 +220,6 @@ awaited_inside {h} {timeline} past i is inside read =
     let there : IsReturnAt h.entries (get_or timeline.returns.items past i) = is.are.each past i inside in
     subst (λ (k : ℕ). k < length h.entries) (sym read)
     (slice_get_within h.entries (get_or timeline.returns.items past i) there.entry there.is_entry)
-
-pub awaited_read : {h : ObservedHistory} {returns : List ℕ} {past : ℕ} (i : ℕ) {a : Observation} →
-    IsAwaitedAt h returns past a → i ≡ get_or returns past i → slice_get h.entries i ≡ Some a
-awaited_read {h} {returns} {past} i awaited read =
-    ap (λ (k : ℕ). slice_get h.entries k) (sym (index_read returns past i awaited.inside read)) ∙ awaited.is_entry
 
 -- and its entry
 pub awaits_of : {h : ObservedHistory} {timeline : Timeline} {node : Node} (i : ℕ) (read : List Observation)

@@ -88,14 +88,6 @@ counted_none {last} {k} {es} e lt at begun is = record {
 pub none_new : {h : ObservedHistory} {asked : Option ℕ} {replies : List Reply} → GetsMore h asked replies replies
 none_new = record { more = no_more; gets = λ reply has. inl has }
 
--- where no call is asked
-pub none_asked : {h : ObservedHistory} {asked : Option ℕ} {returns : List ℕ} {node : Node} {replies : List Reply} →
-    asked ≡ None → IsAskedAt h asked returns node replies replies
-none_asked none = record {
-  gets = none_new;
-  stays = λ g aim i some. absurd (none-some i (sym none ∙ some));
-}
-
 -- the entry that is asked, with another reply
 asked_entry : {h : ObservedHistory} {i : ℕ} {replies : List Reply} {g : ObservedHistory} (f : Observation) →
     (is : HasOther h i replies g) → slice_get g.entries i ≡ Some f → f ≡ returned_with is.at.entry is.at.return

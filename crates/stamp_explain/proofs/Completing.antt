@@ -218,11 +218,11 @@ takes_first Goes returns x rest awaited not_yet by = (
 )
 
 -- nothing is left to take effect only where the return is not awaited
-pub never_empty : {S : Type 0} (Goes : S → Call × Reply → S →
-    Type 0) (entries : List Observation) (i : ℕ) (returns : List ℕ) (s : S) (taken : List ℕ) → ¬ Contains taken i →
-    ¬ IsCompletedBy Goes entries (i ∷ returns) s taken []
-never_empty Goes entries i returns s taken not_yet by = neither
-    (All-head (λ (j : ℕ). Contains taken j ⊎ Contains (indices_of []) j) i returns by.returned)
+pub never_empty : {S : Type 0} (Goes : S → Call × Reply → S → Type 0) (entries : List Observation) (i : ℕ)
+    (returns : List ℕ) (s : S) (taken : List ℕ) → ¬ Contains taken i → ¬ IsCompletedBy Goes entries
+    (i ∷ returns) s taken []
+never_empty Goes entries i returns s taken not_yet by = neither (All-head
+    (λ (j : ℕ). Contains taken j ⊎ Contains (indices_of []) j) i returns by.returned)
   where
     neither : Contains taken i ⊎ Contains (indices_of []) i → ⊥
     neither (inl has) = not_yet has

@@ -14,8 +14,7 @@ use Rattle.stamp_explain.proofs.Standing.{taken_by_bit}
 
 -- the configuration that a node stands for
 abbrev pub configuration_of : (h : ObservedHistory) (asked : Option ℕ) (returns : List ℕ) (v : Node) →
-    IsReached h asked returns v →
-    Configuration h asked returns
+    IsReached h asked returns v → Configuration h asked returns
 configuration_of h asked returns v reached = record {
   to_come = drop v.past returns;
   state = reached.state;

@@ -112,16 +112,14 @@ once : (h : ObservedHistory) (asked : Option ℕ) (returns : List ℕ) {xs : Lis
 once h asked returns begins = pairs_none (λ (i j : ℕ). i ≢ j)
 once h asked returns (goes_past way has) = once h asked returns way
 once h asked returns (goes_on_by {i} {to_come} {s} {put} {taken} way awaited x t is_awaited not_yet tried may) =
-    pairs_cons (λ (i j : ℕ). i ≢ j) x.index taken
-    (λ k d lt same. may.fresh (k, omega (arith, lt), get_at taken k d x.index lt ∙ sym same))
-    (once h asked returns way)
+    pairs_cons (λ (i j : ℕ). i ≢ j) x.index taken (λ k d lt same. may.fresh
+    (k, omega (arith, lt), get_at taken k d x.index lt ∙ sym same)) (once h asked returns way)
   where
     get_at : (xs : List ℕ) (k d e : ℕ) → k < length xs → get_or xs k e ≡ get_or xs k d
     get_at xs k d e lt = get_or_default xs k e d lt
 
 left : (h : ObservedHistory) (asked : Option ℕ) (returns : List ℕ) {xs : List ℕ} {s : LockState} {put : Option ℕ}
-    {taken : List ℕ} →
-    Reaches h asked returns xs s put taken → (n : ℕ) × (xs ≡ drop n returns)
+    {taken : List ℕ} → Reaches h asked returns xs s put taken → (n : ℕ) × (xs ≡ drop n returns)
 left h asked returns begins = (0, refl)
 left h asked returns (goes_on_by way awaited x t is_awaited not_yet tried may) = left h asked returns way
 left h asked returns (goes_past {i} {to_come} way has) = let was : (n : ℕ) × (i ∷ to_come ≡ drop n returns) =

@@ -177,8 +177,8 @@ entry_is es read i e d at same = sym (ap (λ (xs : List Observation). get_or xs 
     get_or_from_slice_get es i e d at)
 
 -- what is known where the call of an entry is tried
-pub record Trying (h : ObservedHistory) (returns : List ℕ) (node : Node) (a : Observation) (i : ℕ)
-    (s : LockState) (taken : List ℕ) : Type 0 where
+pub record Trying (h : ObservedHistory) (returns : List ℕ) (node : Node) (a : Observation) (i : ℕ) (s : LockState)
+    (taken : List ℕ) : Type 0 where
   pub observed : IsObserved h
   pub are : AreReturns h.entries returns
   pub inside : node.past < length returns

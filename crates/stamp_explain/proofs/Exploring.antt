@@ -1,5 +1,5 @@
 -- What an order of the whole is to a search, and where one begins.
-use Rattle.std.proofs.Common.{◌≡◌, ◌⊎◌, ℕ, List, [], get_or, sym, subst, inl, inr, arith, Option, None}
+use Rattle.std.proofs.Common.{◌≡◌, ◌⊎◌, ℕ, ◌+◌, ◌≤◌, List, [], length, get_or, sym, subst, inl, inr, arith, Option, None}
 use Rattle.std.specs.Prelude.{take, drop}
 use Rattle.std.specs.List.{Contains}
 use Rattle.std.specs.Int.{bit_at}
@@ -9,12 +9,13 @@ use Rattle.stamp_core.specs.Content.{zeros}
 use Rattle.stamp_explain.specs.declared.node.Node.{Node}
 use Rattle.stamp_explain.specs.Observed.{ObservedHistory, IsReturnAt}
 use Rattle.stamp_explain.specs.Explained.{Effect, IsExplained, IsExplainedBy, history_of, indices_of}
-use Rattle.stamp_explain.specs.Search.{StateTransition, IsCompletedBy, AreReturns, first_state}
+use Rattle.stamp_explain.specs.Search.{StateTransition, CanComplete, IsCompletedBy, AreReturns, first_state}
 use Rattle.stamp_explain.specs.Configuration.{Reaches}
 use Rattle.stamp_explain.specs.Configuration.Reaches.{begins}
 use Rattle.stamp_explain.specs.Node.{AreTaken, IsFirstNode, StandsFor, IsReached}
 use Rattle.stamp_explain.proofs.Lists.{none_in_empty}
-use Rattle.stamp_explain.proofs.Finding.{runs_legal, legal_runs}
+use Rattle.stamp_explain.specs.ExplainLaws.{JustInTime}
+use Rattle.stamp_explain.proofs.Finding.{IsSoundReturn, completes, finds, legal_runs, runs_legal, sound_return}
 
 -- what an order of the whole history is to a search
 pub completed_from : (h : ObservedHistory) (returns : List ℕ) (rest : List Effect) → AreReturns h.entries returns →
@@ -22,8 +23,8 @@ pub completed_from : (h : ObservedHistory) (returns : List ℕ) (rest : List Eff
 completed_from h returns rest are by = record {
   effects = by.effects;
   once = by.once;
-  returned = λ i e at returned. right (All-contains (λ (j : ℕ). Contains [] j ⊎ Contains (indices_of rest) j)
-      returns i by.returned (are.whole i e at returned));
+  returned = λ i e at returned. right (All-contains (λ (j : ℕ). Contains [] j ⊎ Contains (indices_of rest) j) returns i
+      by.returned (are.whole i e at returned));
   ordered = by.ordered;
   legal = legal_runs h.limits [] (zeros h.width) (history_of rest) by.runs;
 }
@@ -46,6 +47,19 @@ explained_by {h} {returns} are explained =
       ordered = by.ordered;
       runs = runs_legal h.limits [] (zeros h.width) (history_of explained.order) by.legal;
     }
+
+-- just in time: an order is found exactly where there is one
+pub just_in_time : JustInTime
+just_in_time h returns observed are = (
+  λ explained. finds (StateTransition h.limits) h.entries (length returns + length explained.order) returns
+      (first_state h.width) [] explained.order (omega arith) (All-weaker (IsReturnAt h.entries)
+      (IsSoundReturn h.entries) (λ i r. sound_return observed r) returns are.each) (explained_by are explained),
+  λ found.
+      let left : CanComplete (StateTransition h.limits) h.entries returns (first_state h.width) [] =
+      completes (StateTransition h.limits) found
+      (record { whole = λ i e at returned _. are.whole i e at returned; in_order = are.in_order }) in
+      record { order = left.rest; by = completed_from h returns left.rest are left.by },
+)
 
 -- the first node is reached, and hopes for any order
 pub opening_stands : (h : ObservedHistory) (returns : List ℕ) (node : Node) → IsFirstNode h node →
@@ -72,8 +86,7 @@ opening_way {h} {asked} {returns} {node} is =
     (sym is.past) begins)
 
 abbrev pub opening_reached : (h : ObservedHistory) (asked : Option ℕ) (returns : List ℕ) (node : Node) →
-    IsFirstNode h node → IsReached h
-    asked returns node
+    IsFirstNode h node → IsReached h asked returns node
 opening_reached h asked returns node is = record {
   state = first_state h.width;
   taken = [];

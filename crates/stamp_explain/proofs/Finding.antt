@@ -35,8 +35,8 @@ FindsWithin {S} Goes entries n = (to_come : List ℕ) (s : S) (taken : List ℕ)
     IsCompletedBy Goes entries to_come s taken rest → FindsOrder Goes entries to_come s taken
 
 -- what an order completes is found; n bounds the moves
-pub finds : {S : Type 0} (Goes : S → Call × Reply → S → Type 0) (entries : List Observation) (n : ℕ)
-    (to_come : List ℕ) (s : S) (taken : List ℕ) (rest : List Effect) → length to_come + length rest ≤ n →
+pub finds : {S : Type 0} (Goes : S → Call × Reply → S → Type 0) (entries : List Observation) (n : ℕ) (to_come : List ℕ)
+    (s : S) (taken : List ℕ) (rest : List Effect) → length to_come + length rest ≤ n →
     All (IsSoundReturn entries) to_come → IsCompletedBy Goes entries to_come s taken rest →
     FindsOrder Goes entries to_come s taken
 finds Goes entries n [] s taken rest few sound by = at_end
@@ -115,30 +115,12 @@ pub completes : {S : Type 0} (Goes : S → Call × Reply → S → Type 0) {entr
     {s : S} {taken : List ℕ} → FindsOrder Goes entries to_come s taken → ArePending entries to_come taken →
     CanComplete Goes entries to_come s taken
 completes Goes (at_end {s} {taken}) pending = record { rest = []; by = completed_by_none Goes }
-completes Goes {entries} (returns {i} {to_come} {s} {taken} has found) pending =
-    let more : ArePending entries to_come taken = record {
-      whole = λ j e at back not_yet. other (contains_cases i to_come j (pending.whole j e at back not_yet)) not_yet;
-      in_order = pairs_tail (AreInOrder entries) i to_come pending.in_order;
-    } in
-    let left : CanComplete Goes entries to_come s taken = completes Goes found more in
+completes Goes (returns {i} has found) pending =
+    let left = completes Goes found (past_pending i has pending) in
     record { rest = left.rest; by = before_return Goes i has left.by }
-  where
-    other : {j : ℕ} → (i ≡ j) ⊎ Contains to_come j → ¬ Contains taken j → Contains to_come j
-    other (inl e) not_yet = absurd (not_yet (subst (λ (k : ℕ). Contains taken k) e has))
-    other (inr found) not_yet = found
-completes Goes {entries} (takes {i} {to_come} {s} {taken} a x t at not_yet may found) pending =
-    let more : ArePending entries (i ∷ to_come) (x.index ∷ taken) = record {
-      whole = λ j e at_j back misses. pending.whole j e at_j back (λ has. misses (rest_of j has));
-      in_order = pending.in_order;
-    } in
-    let left : CanComplete Goes entries (i ∷ to_come) t (x.index ∷ taken) = completes Goes found more in
-    record {
-      rest = x ∷ left.rest;
-      by = puts_first Goes (first_of_pending i a to_come at pending) may left.by;
-    }
-  where
-    rest_of : (j : ℕ) → Contains taken j → Contains (x.index ∷ taken) j
-    rest_of j (k, lt, e) = let less : suc k < length (x.index ∷ taken) = omega arith in (suc k, less, e)
+completes Goes (takes {i} {to_come} a x t at not_yet may found) pending =
+    let left = completes Goes found (taken_pending x.index pending) in
+    record { rest = x ∷ left.rest; by = puts_first Goes (first_of_pending i a to_come at pending) may left.by }
 
 -- legal histories are those that lock and record run
 pub runs_legal : (limits : Bounds) (events : List LockEvent) (content : List ℕ) (history : History) →
@@ -157,8 +139,8 @@ pub legal_runs : (limits : Bounds) (events : List LockEvent) (content : List ℕ
 legal_runs limits events content [] runs = tt
 legal_runs limits events content (x ∷ xs) runs = (
   runs.1.0.replies,
-  legal_runs limits (events ++ appended_by (transition limits events x.0))
-      (content_next content x.0 x.1) xs (subst (λ (t : LockState). Runs (StateTransition limits) t xs) runs.1.0.next
+  legal_runs limits (events ++ appended_by (transition limits events x.0)) (content_next content x.0 x.1) xs
+      (subst (λ (t : LockState). Runs (StateTransition limits) t xs) runs.1.0.next
       runs.1.1),
 )
 
@@ -180,50 +162,3 @@ sound_return {h} {i} observed r = record {
         (observed.intervals i r.entry (slice_get_within h.entries i r.entry r.is_entry)));
   };
 }
-
-pub just_in_time : JustInTime
-just_in_time h to_come observed are = (there, back)
-  where
-    there : IsExplained h → FindsOrder (StateTransition h.limits) h.entries to_come (first_state h.width) []
-    there explained =
-        let by = explained.by in
-        finds (StateTransition h.limits) h.entries (length to_come + length explained.order) to_come
-        (first_state h.width) []
-        explained.order (omega arith)
-        (All-weaker (IsReturnAt h.entries) (IsSoundReturn h.entries) (λ i r. sound_return observed r) to_come
-        are.each)
-        (record {
-          effects = by.effects;
-          once = by.once;
-          fresh = λ k d lt. none_in_empty (get_or explained.order k d).index;
-          returned = All-weaker (IsReturnAt h.entries) (λ (i : ℕ). Contains [] i ⊎ Contains
-              (indices_of explained.order) i) (λ i r. inr (by.returned i r.entry r.is_entry (r.return, r.returned)))
-              to_come are.each;
-          ordered = by.ordered;
-          runs = runs_legal h.limits [] (zeros h.width) (history_of explained.order) by.legal;
-        })
-
-    back : FindsOrder (StateTransition h.limits) h.entries to_come (first_state h.width) [] → IsExplained h
-    back found =
-        let left : CanComplete (StateTransition h.limits) h.entries to_come (first_state h.width) [] =
-        completes (StateTransition h.limits) found (record {
-          whole = λ i e at returned _. are.whole i e at returned;
-          in_order = are.in_order;
-        }) in
-        let by = left.by in
-        record {
-          order = left.rest;
-          by = record {
-            effects = by.effects;
-            once = by.once;
-            returned = λ i e at returned. right (indices_of left.rest) i (All-contains
-                (λ (j : ℕ). Contains [] j ⊎ Contains (indices_of left.rest) j) to_come i by.returned
-                (are.whole i e at returned));
-            ordered = by.ordered;
-            legal = legal_runs h.limits [] (zeros h.width) (history_of left.rest) by.runs;
-          };
-        }
-      where
-        right : (xs : List ℕ) (i : ℕ) → Contains [] i ⊎ Contains xs i → Contains xs i
-        right xs i (inl has) = absurd (none_in_empty i has)
-        right xs i (inr has) = has

@@ -43,8 +43,8 @@ use Rattle.stamp_explain.proofs.Deepening.{all_passed_over, deepens_expanded, de
 
 -- on no way of a search the call that is asked takes effect
 never_asked : (h : ObservedHistory) (asked : Option ℕ) (returns : List ℕ) (i : ℕ) → asked ≡ Some i →
-    {to_come : List ℕ} {s : LockState} {put : Option ℕ} {taken : List ℕ} →
-    Reaches h asked returns to_come s put taken → ¬ Contains taken i
+    {to_come : List ℕ} {s : LockState} {put : Option ℕ} {taken : List ℕ} → Reaches h asked returns to_come s put
+    taken → ¬ Contains taken i
 never_asked h asked returns i same begins has = none_in_empty i has
 never_asked h asked returns i same (goes_past way in_effect) has = never_asked h asked returns i same way has
 never_asked h asked returns i same (goes_on_by {s} {taken} way awaited x t is_awaited not_yet tried may) has =
@@ -98,8 +98,8 @@ awaits_next h asked returns v is awaited settled i rest same has = which (below 
 seen_settled : (h : ObservedHistory) (asked : Option ℕ) (returns : List ℕ) (store : Store)
     (seen : List (Seen h asked returns)) (k : ℕ) (x : Seen h asked returns) → AreSeen h asked returns store seen →
     slice_get seen k ≡ Some x → IsSettled h returns x.node
-seen_settled h asked returns store seen zero x are at = subst (λ (y : Seen h asked returns). IsSettled h returns y.node)
-    (same_Some are.first x (sym are.at_first ∙ at)) (first_settled h returns are.first.node are.is_first)
+seen_settled h asked returns store seen zero x are at = subst (λ (y : Seen h asked returns). IsSettled h returns
+    y.node) (same_Some are.first x (sym are.at_first ∙ at)) (first_settled h returns are.first.node are.is_first)
 seen_settled h asked returns store seen (suc k) x are at =
     let link : ComesFrom h asked returns seen (suc k) x = are.linked (suc k) x (omega arith) at in
     link.led.leads.settled
@@ -134,9 +134,8 @@ links h returns store seen are = record {
 -- where all that waited was looked at, no order explains an aim
 nothing_left : (h : ObservedHistory) (asked : Option ℕ) (returns : List ℕ) (replies : List Reply) (store : Store)
     (waited : List Waiting) (expanded : ℕ) → AreReturns h.entries returns →
-    Deepens h asked returns replies store waited expanded →
-    All (λ (w : Waiting). Contains store.nodes.items w.node) waited → (g : ObservedHistory) →
-    IsAim h asked replies g → ¬ IsExplained g
+    Deepens h asked returns replies store waited expanded → All (λ (w : Waiting). Contains store.nodes.items w.node)
+    waited → (g : ObservedHistory) → IsAim h asked replies g → ¬ IsExplained g
 nothing_left h asked returns replies store waited expanded are before visited g aim explained =
     omega (arith, slice_get_within [] it.at it.entry it.is_entry)
   where
@@ -248,10 +247,14 @@ given_up h None returns replies store waiting expanded most is awaited enough = 
   are = awaited.are;
   once = awaited.once;
   searched = reached_more h None returns replies store waiting expanded is awaited (most + 1) enough;
-  in_depth = λ i j d lt inside alive. deep i j d lt
-      (omega (arith, inside, is.count, length-map is.seen (seen_as h None returns)))
-      (seen_at h None returns replies store waiting expanded is awaited i d (omega (arith, lt, inside)))
-      (seen_at h None returns replies store waiting expanded is awaited j d inside) alive;
+  in_depth = λ i j d lt inside alive. deep i j d lt (omega (
+    arith,
+    inside,
+    is.count,
+    length-map is.seen
+        (seen_as h None returns),
+  )) (seen_at h None returns replies store waiting expanded is awaited i d
+      (omega (arith, lt, inside))) (seen_at h None returns replies store waiting expanded is awaited j d inside) alive;
 }
   where
     reached_then : List (Configuration h None returns)
@@ -260,14 +263,14 @@ given_up h None returns replies store waiting expanded most is awaited enough = 
     As : ℕ → Configuration h None returns → Type 0
     As k c = (x : Seen h None returns) × ((slice_get is.seen k ≡ Some x) × (seen_as h None returns x ≡ c))
 
-    deep : (i j : ℕ) (d : Configuration h None returns) → i < j → j < expanded + 1 →
-        As i (get_or reached_then i d) → As j (get_or reached_then j d) → IsAlive h returns (get_or reached_then i d) →
+    deep : (i j : ℕ) (d : Configuration h None returns) → i < j → j < expanded + 1 → As i (get_or reached_then i d) →
+        As j (get_or reached_then j d) → IsAlive h returns (get_or reached_then i d) →
         GoesOnFrom h None returns (get_or reached_then i d) (get_or reached_then j d)
     deep i j d lt inside (x, (at_x, is_x)) (y, (at_y, is_y)) alive =
         let living : IsAlive h returns (seen_as h None returns x) = subst (IsAlive h returns) (sym is_x) alive in
-        let it : IsOpen h None returns h is.seen (waiting ++ record { node = is.last.node; origin = is.last.origin }
-        ∷ []) i x =
-        is.each h refl i x (length (drop x.node.past returns) + length living.rest) (omega (arith, lt, inside)) at_x
+        let it : IsOpen h None returns h is.seen (waiting ++ record { node = is.last.node; origin = is.last.origin } ∷
+        []) i x = is.each h refl i x (length (drop x.node.past returns) + length living.rest)
+        (omega (arith, lt, inside)) at_x
         (record {
           state = x.reached.state;
           taken = x.reached.taken;
@@ -280,8 +283,7 @@ given_up h None returns replies store waiting expanded most is awaited enough = 
         (subst (GoesOnFrom h None returns (seen_as h None returns x)) is_y (it.follow j y lt at_y))
 
 -- a search that may look at none reaches its beginning
-pub one_reached : (h : ObservedHistory) (i : ℕ) (timeline : Timeline) → IsTimeline h timeline →
-    ReachesMoreBeside h i 0
+pub one_reached : (h : ObservedHistory) (i : ℕ) (timeline : Timeline) → IsTimeline h timeline → ReachesMoreBeside h i 0
 one_reached h i timeline is = record {
   returns = returns;
   are = is.are;
@@ -376,8 +378,8 @@ module _ {h : ObservedHistory} {asked : Option ℕ} {returns : List ℕ} {replie
 
   -- and no call was asked, since that would have to be in effect
   pub last_unasked : {many : ℕ} {v : Node} {slice : List ℕ} → IsLastRead many v → slice ≡ returns →
-      length slice ≤ v.past → AreReturns h.entries returns →
-      ((i : ℕ) → asked ≡ Some i → IsReturnAt h.entries i) → asked ≡ None
+      length slice ≤ v.past → AreReturns h.entries returns → ((i : ℕ) → asked ≡ Some i → IsReturnAt h.entries i) →
+      asked ≡ None
   last_unasked {many} {v} {slice} read same past are returned = by asked refl
     where
       all : length returns ≤ is.last.node.past
@@ -403,8 +405,8 @@ module _ {h : ObservedHistory} {asked : Option ℕ} {returns : List ℕ} {replie
       left ≡ waiting ++ waiting_from (many - 1) those → Deepens h asked returns more store left (expanded + 1)
   last_expanded {many} {v} {more} {nexts} {those} {left} read grows expands all leaves =
       subst (λ (ws : List Waiting). Deepens h asked returns more store ws (expanded + 1))
-      (ap (λ (n : ℕ). waiting ++ waiting_from n nexts) (sym read.index) ∙
-      ap (λ (ns : List Next). waiting ++ waiting_from (many - 1) ns) (sym all) ∙ sym leaves)
+      (ap (λ (n : ℕ). waiting ++ waiting_from n nexts) (sym read.index) ∙ ap
+      (λ (ns : List Next). waiting ++ waiting_from (many - 1) ns) (sym all) ∙ sym leaves)
       (deepens_expanded h asked returns replies more store waiting expanded nexts is grows
       (subst (λ (u : Node). Expands h asked returns u more nexts) (sym read.node) expands))
 
@@ -414,23 +416,23 @@ pub last_goes_on : {h : ObservedHistory} {asked : Option ℕ} {timeline : Timeli
     (is : IsAtLast h asked timeline.returns.items replies store waiting expanded) → IsLastRead is many v →
     IsObserved h → IsTimeline h timeline → ((i : ℕ) → asked ≡ Some i → IsReturnAt h.entries i) →
     slice ≡ timeline.returns.items → v.past < length slice → MayGoOn h asked timeline v
-last_goes_on {h} {asked} {timeline} {slice} {replies} {store} {waiting} {expanded} {many} {v} is read observed timed
-    returned same past =
+last_goes_on {h} {asked} {timeline} {slice} {replies} {store} {waiting} {expanded} {many}
+    {v} is read observed timed returned same past =
     record {
       observed = observed;
       is_timeline = timed;
       returned = returned;
       reached = subst (IsReached h asked timeline.returns.items) read.node is.last.reached;
       past = subst (λ (rs : List ℕ). v.past < length rs) same past;
-      settled = subst (IsSettled h timeline.returns.items) read.node
-          (seen_settled h asked timeline.returns.items store is.seen expanded is.last is.are is.is_last);
+      settled = subst (IsSettled h timeline.returns.items) read.node (seen_settled h asked timeline.returns.items store
+          is.seen expanded is.last is.are is.is_last);
     }
 
 -- then the next one that was not visited is the last
 pub looked_on : {h : ObservedHistory} {asked : Option ℕ} {returns : List ℕ} {replies : List Reply} {old new : Store}
-    {waited waiting : List Waiting} {expanded : ℕ} {found : Bool} →
-    Deepens h asked returns replies old waited expanded → LooksAt old new waited waiting found → found ≡ true →
-    IsAtLast h asked returns replies new waiting expanded
+    {waited waiting : List Waiting} {expanded : ℕ} {found : Bool} → Deepens h asked returns replies old waited
+    expanded → LooksAt old new waited waiting found → found ≡ true → IsAtLast h asked returns replies new waiting
+    expanded
 looked_on {h} {asked} {returns} {replies} {old} {new} {waited} {waiting} {expanded} {found} before looks is =
     deepens_on h asked returns replies old new waited waiting expanded before
     (subst (LooksAt old new waited waiting) is looks)
@@ -442,5 +444,5 @@ pub looked_no_more : {h : ObservedHistory} {asked : Option ℕ} {returns : List 
     LooksAt old new waited waiting found → found ≡ false → (g : ObservedHistory) → IsAim h asked replies g →
     ¬ IsExplained g
 looked_no_more {h} {asked} {returns} {replies} {old} {waited} {expanded} {found} new waiting are before looks is =
-    nothing_left h asked returns replies old waited expanded are before
-    (subst (LooksAt old new waited waiting) is looks)
+    nothing_left h asked returns replies old waited expanded are before (subst
+    (LooksAt old new waited waiting) is looks)

@@ -36,8 +36,8 @@ module _ (h : ObservedHistory) (asked : Option ℕ) (returns : List ℕ) where
       GoesOnFrom h asked returns c d → GoesOnFrom h asked returns b d
   goes_on_through b c d one two = record {
     later = two.later ++ one.later;
-    taken = two.taken ∙ ap (λ (xs : List ℕ). two.later ++ xs) one.taken ∙
-        sym (append_assoc two.later one.later b.taken);
+    taken = two.taken ∙ ap (λ (xs : List ℕ). two.later ++ xs) one.taken ∙ sym
+        (append_assoc two.later one.later b.taken);
     passed = one.passed ++ two.passed;
     to_come = one.to_come ∙ ap (λ (xs : List ℕ). one.passed ++ xs) two.to_come ∙
         sym (append_assoc one.passed two.passed d.to_come);
@@ -110,8 +110,7 @@ module _ (h : ObservedHistory) (asked : Option ℕ) (returns : List ℕ) where
           on = passes via next.node at leads.passes
 
           there : drop v.past returns ≡ slice_index returns v.past ∷ (on.passed ++ drop next.node.past returns)
-          there = come returns v.past leads.comes.inside ∙
-              ap (λ (rest : List ℕ). slice_index returns v.past ∷ rest)
+          there = come returns v.past leads.comes.inside ∙ ap (λ (rest : List ℕ). slice_index returns v.past ∷ rest)
               (come_less returns v.past via.past l.past ∙ on.to_come)
       by (Some i) l = record {
         reached = on.reached;
@@ -125,9 +124,10 @@ module _ (h : ObservedHistory) (asked : Option ℕ) (returns : List ℕ) where
           one = omega arith;
         };
         is_new = λ b back. l.may.fresh (subst (λ (xs : List ℕ). Contains xs l.effect.index) (sym back.taken)
-            (Contains-append_right back.later b.taken l.effect.index (taken_in_both h (take next.node.past returns)
-            next.node.threads on.reached.taken b.taken l.effect.index l.effect.entry on.reached.stands.in_effect
-            b.stands.in_effect l.may.effect.is_entry (subst (λ (xs : List ℕ). Contains xs l.effect.index) (sym on.same)
+            (Contains-append_right back.later b.taken l.effect.index (taken_in_both h
+            (take next.node.past returns) next.node.threads on.reached.taken b.taken l.effect.index l.effect.entry
+            on.reached.stands.in_effect b.stands.in_effect l.may.effect.is_entry
+            (subst (λ (xs : List ℕ). Contains xs l.effect.index) (sym on.same)
             (contains_first l.effect.index is.taken l.effect.index refl)))));
       }
         where

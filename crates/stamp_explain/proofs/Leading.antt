@@ -20,8 +20,8 @@ use Rattle.stamp_explain.proofs.Finding.{ArePending, first_of_pending, past_pend
 use Rattle.stamp_explain.proofs.Expanding.{one_reply}
 
 -- the returns to come, by their first
-pub come : (returns : List ℕ) (past : ℕ) → past < length returns →
-    drop past returns ≡ slice_index returns past ∷ drop (suc past) returns
+pub come : (returns : List ℕ) (past : ℕ) → past < length returns → drop past returns ≡ slice_index returns past ∷ drop
+    (suc past) returns
 come returns past lt = drop-cons returns past 0 lt
 
 pub come_less : (returns : List ℕ) (past w : ℕ) → w ≡ past + 1 → drop (suc past) returns ≡ drop w returns
@@ -59,8 +59,8 @@ way_by {h} {asked} {returns} {node} {w} {s} {taken} inside way l =
 
 -- so the next node is reached, by a return or by a call
 abbrev pub reached_past : (h : ObservedHistory) (asked : Option ℕ) (returns : List ℕ) (node w : Node) →
-    (is : IsReached h asked returns node) → node.past < length returns →
-    ComesByReturn h returns node w is.state is.taken → IsReached h asked returns w
+    (is : IsReached h asked returns node) → node.past < length returns → ComesByReturn h returns node w is.state
+    is.taken → IsReached h asked returns w
 reached_past h asked returns node w is inside l = record {
   state = is.state;
   taken = is.taken;
@@ -70,8 +70,8 @@ reached_past h asked returns node w is inside l = record {
 }
 
 abbrev pub reached_by : (h : ObservedHistory) (asked : Option ℕ) (returns : List ℕ) (node w : Node) (i : ℕ) →
-    (is : IsReached h asked returns node) → node.past < length returns →
-    ComesByCall h asked returns node w is.state is.taken i → IsReached h asked returns w
+    (is : IsReached h asked returns node) → node.past < length returns → ComesByCall h asked returns node w is.state
+    is.taken i → IsReached h asked returns w
 reached_by h asked returns node w i is inside l = record {
   state = l.state;
   taken = l.effect.index ∷ is.taken;

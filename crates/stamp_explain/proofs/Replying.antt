@@ -184,13 +184,13 @@ return_here read {i} o r same at is = record {
   returned = is;
 }
 
-pub no_return_here : (es read : List Observation) (i : ℕ) (o : Observation) → read ≡ es →
-    slice_get read i ≡ Some o → o.returned ≡ None → ¬ IsReturnAt es i
+pub no_return_here : (es read : List Observation) (i : ℕ) (o : Observation) → read ≡ es → slice_get read i ≡ Some o →
+    o.returned ≡ None → ¬ IsReturnAt es i
 no_return_here es read i o same at none is =
-    let e : is.entry ≡ o = same_Some is.entry o (sym is.is_entry ∙
-    ap (λ (xs : List Observation). slice_get xs i) (sym same) ∙ at) in
+    let e : is.entry ≡ o = same_Some is.entry o (sym is.is_entry ∙ ap (λ (xs : List Observation). slice_get xs i)
+    (sym same) ∙ at) in
     none-some is.return (sym none ∙ ap (λ (x : Observation). x.returned) (sym e) ∙ is.returned)
 
 pub no_entry_here : (es read : List Observation) (i : ℕ) → read ≡ es → slice_get read i ≡ None → ¬ IsReturnAt es i
-no_entry_here es read i same none is = none-some is.entry (sym none ∙
-    ap (λ (xs : List Observation). slice_get xs i) same ∙ is.is_entry)
+no_entry_here es read i same none is = none-some is.entry (sym none ∙ ap (λ (xs : List Observation). slice_get xs i)
+    same ∙ is.is_entry)

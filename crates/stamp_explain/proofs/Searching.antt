@@ -14,15 +14,15 @@ use Rattle.stamp_explain.proofs.Completing.{IsAwaited, past_return}
 use Rattle.stamp_explain.proofs.Swapping.{TakesOfOneObject, takes_of_one_object}
 
 -- an order completes it, in so many moves: returns and calls that take effect
-pub record CompletesIn {S : Type 0} (Goes : S → Call × Reply → S →
-    Type 0) (entries : List Observation) (to_come : List ℕ) (s : S) (taken : List ℕ) (n : ℕ) : Type 0 where
+pub record CompletesIn {S : Type 0} (Goes : S → Call × Reply → S → Type 0) (entries : List Observation)
+    (to_come : List ℕ) (s : S) (taken : List ℕ) (n : ℕ) : Type 0 where
   pub rest : List Effect
   pub by : IsCompletedBy Goes entries to_come s taken rest
   pub moves : length to_come + length rest ≡ n
 
 -- the return is past, and the rest takes a move less
-pub record GoesPast {S : Type 0} (Goes : S → Call × Reply → S →
-    Type 0) (entries : List Observation) (i : ℕ) (to_come : List ℕ) (s : S) (taken : List ℕ) (n : ℕ) : Type 0 where
+pub record GoesPast {S : Type 0} (Goes : S → Call × Reply → S → Type 0) (entries : List Observation) (i : ℕ)
+    (to_come : List ℕ) (s : S) (taken : List ℕ) (n : ℕ) : Type 0 where
   pub in_effect : Contains taken i
   pub left : ℕ
   pub fewer : n ≡ suc left

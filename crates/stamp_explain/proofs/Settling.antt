@@ -99,18 +99,16 @@ ends_passes (passes_more {u} before step) after =
     ends_passes before (ends_past (record { inside = step.inside; leads = step.leads }) after)
 
 pub follows_past : (h : ObservedHistory) (returns : List ℕ) (node w : Node) (left : List OrderedCall) →
-    ComesNext h None returns node (record { node = w; took = None }) → Ends h returns w left →
-    Ends h returns node left
+    ComesNext h None returns node (record { node = w; took = None }) → Ends h returns w left → Ends h returns node left
 follows_past h returns node w left leads after = ends_past leads.comes (ends_passes leads.passes after)
 
-pub follows_call : (h : ObservedHistory) (returns : List ℕ) (node w : Node) (i : ℕ) (one : OrderedCall) (left : List
-    OrderedCall) →
-    ComesNext h None returns node (record { node = w; took = Some i }) → one.index ≡ i → RepliesAt h node one →
-    Ends h returns w left → Ends h returns node (one ∷ left)
+pub follows_call : (h : ObservedHistory) (returns : List ℕ) (node w : Node) (i : ℕ) (one : OrderedCall)
+    (left : List OrderedCall) → ComesNext h None returns node (record { node = w; took = Some i }) → one.index ≡ i →
+    RepliesAt h node one → Ends h returns w left → Ends h returns node (one ∷ left)
 follows_call h returns node w i one left leads same replies after = ends_call i one leads.comes same replies
     (ends_passes leads.passes after)
 
 pub follows_led : (h : ObservedHistory) (returns : List ℕ) (node w : Node) (took : Option ℕ) →
-    IsReached h None returns node → ComesNext h None returns node (record { node = w; took = took }) → IsLed h node
-    took
+    IsReached h None returns node → ComesNext h None returns node (record { node = w; took = took }) →
+    IsLed h node took
 follows_led h returns node w took reached leads = led_by leads.via took reached leads.comes

@@ -26,9 +26,8 @@ pub not_both : (e f : Observation) → IsInterval e → IsInterval f → IsBefor
 not_both e f ie if_ ef fe = by e.returned f.returned ie if_ ef fe
   where
     by : (p q : Option Returned) → MatchOption p (Unit {0}) (λ (r : Returned). e.first ≤ r.last) →
-        MatchOption q (Unit {0}) (λ (r : Returned). f.first ≤ r.last) →
-        MatchOption p ⊥ (λ (r : Returned). r.last < f.first) →
-        MatchOption q ⊥ (λ (r : Returned). r.last < e.first) → ⊥
+        MatchOption q (Unit {0}) (λ (r : Returned). f.first ≤ r.last) → MatchOption p ⊥
+        (λ (r : Returned). r.last < f.first) → MatchOption q ⊥ (λ (r : Returned). r.last < e.first) → ⊥
     by None q ie if_ ef fe = ef
     by (Some p) None ie if_ ef fe = fe
     by (Some p) (Some q) ie if_ ef fe = omega arith

@@ -58,14 +58,12 @@ laid_out l = by (units_of l) (either_layout l)
     by u (inl h) = record {
       writer = omega (arith, h.1);
       readers = omega (arith, h.1, h.2);
-      version =
-          omega (arith, h.0, h.1);
+      version = omega (arith, h.0, h.1);
     }
     by u (inr h) = record {
       writer = omega (arith, h.1);
       readers = omega (arith, h.1, h.2);
-      version =
-          omega (arith, h.0, h.1);
+      version = omega (arith, h.0, h.1);
     }
 
 stamp_inj : (a b : ℕ) → Stamp a ≡ Stamp b → a ≡ b
@@ -109,8 +107,8 @@ other_stamp : (n r s : ℕ) → (r ≡ 0) ⊎ (r ≡ s) → 0 < n → n ≢ s �
 other_stamp n r s (inl zero) some other e = let m : n ≡ r = stamp_inj n r e in omega arith
 other_stamp n r s (inr own) some other e = other (stamp_inj n r e ∙ own)
 
-to_write_stays : (l : Bounds) (c : Counts) (s r : ℕ) → AreLaidOut (units l) → (r ≡ 0) ⊎ (r ≡ s) →
-    Stays (row l c (ToWrite s)) (Stamp r)
+to_write_stays : (l : Bounds) (c : Counts) (s r : ℕ) → AreLaidOut (units l) →
+    (r ≡ 0) ⊎ (r ≡ s) → Stays (row l c (ToWrite s)) (Stamp r)
 to_write_stays l c s r are own =
     stays_if (is_held_write (units l) c s) _ _ (λ _. stays_answer _) (λ _. stays_if
     (is_held_read (units l) c s && (c.readers == 1) && nat_lt c.write_count l.versions) _ _
@@ -124,8 +122,8 @@ to_write_stays l c s r are own =
     (λ e. omega arith)))
     (λ _. stays_answer _)))
 
-to_read_stays : (l : Bounds) (c : Counts) (s r : ℕ) → AreLaidOut (units l) → (r ≡ 0) ⊎ (r ≡ s) →
-    Stays (row l c (ToRead s)) (Stamp r)
+to_read_stays : (l : Bounds) (c : Counts) (s r : ℕ) → AreLaidOut (units l) →
+    (r ≡ 0) ⊎ (r ≡ s) → Stays (row l c (ToRead s)) (Stamp r)
 to_read_stays l c s r are own =
     stays_if (is_held_write (units l) c s) _ _ (λ b. let same = write_number (units l) c s b in
     stays_other _ _ (other_stamp (read_stamp (units l) c.write_count 1) r s own (omega arith) (λ e. omega arith)))
@@ -136,8 +134,8 @@ to_read_stays l c s r are own =
     (λ e. omega arith)))
     (λ _. stays_answer _)))
 
-to_optimistic_stays : (l : Bounds) (c : Counts) (s r : ℕ) → AreLaidOut (units l) → (r ≡ 0) ⊎ (r ≡ s) →
-    Stays (row l c (ToOptimistic s)) (Stamp r)
+to_optimistic_stays : (l : Bounds) (c : Counts) (s r : ℕ) → AreLaidOut (units l) →
+    (r ≡ 0) ⊎ (r ≡ s) → Stays (row l c (ToOptimistic s)) (Stamp r)
 to_optimistic_stays l c s r are own =
     stays_if (is_held_write (units l) c s) _ _ (λ b. let same = write_number (units l) c s b in
     stays_other _ _ (other_stamp (optimistic_stamp (units l) c.write_count) r s own (omega arith)
@@ -231,9 +229,8 @@ appended_none limits events content call reply are h replies =
 pub unchanging_calls_change_nothing : UnchangingCallsChangeNothing
 unchanging_calls_change_nothing limits call reply s t h steps =
     steps.next ∙ both (s.0 ++ appended_by (transition limits s.0 call)) (content_next s.1 call reply)
-    (none_more s.0 (appended_by (transition limits s.0 call))
-    (appended_none limits s.0 s.1 call reply (laid_out limits.layout) h steps.replies))
-    (content_stays s.1 call reply h)
+    (none_more s.0 (appended_by (transition limits s.0 call)) (appended_none limits s.0 s.1 call reply
+    (laid_out limits.layout) h steps.replies)) (content_stays s.1 call reply h)
   where
     both : (events : List LockEvent) (content : List ℕ) → events ≡ s.0 → content ≡ s.1 → (events, content) ≡ s
     both events content e c = ap (λ (x : List LockEvent). (x, content)) e ∙ ap (λ (y : List ℕ). (s.0, y)) c

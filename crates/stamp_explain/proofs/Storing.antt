@@ -70,28 +70,11 @@ same_key_laws = record {
   congr = λ a b c h. ap (λ (k : Key). same_key k c) (exact_key a b h);
 }
 
+abbrev node_by : Key → Node
+node_by k = record { past = k.0; bits = k.1; put = k.2; threads = k.3 }
+
 exact_node : (v w : Node) → key_of v ≡ key_of w → v ≡ w
-exact_node v w h =
-    let e0 : v.past ≡ w.past = ap (λ (k : Key). k.0) h in
-    let e1 : v.bits ≡ w.bits = ap (λ (k : Key). k.1) h in
-    let e2 : v.put ≡ w.put = ap (λ (k : Key). k.2) h in
-    let e3 : v.threads ≡ w.threads = ap (λ (k : Key). k.3) h in
-    ap (λ (x : ℕ). record v { past = x }) e0 ∙ ap (λ (x : ℕ). record {
-      past = w.past;
-      bits = x;
-      put = v.put;
-      threads = v.threads;
-    }) e1 ∙ ap (λ (x : Option ℕ). record {
-      past = w.past;
-      bits = w.bits;
-      put = x;
-      threads = v.threads;
-    }) e2 ∙ ap (λ (x : ℕ). record {
-      past = w.past;
-      bits = w.bits;
-      put = w.put;
-      threads = x;
-    }) e3
+exact_node v w h = ap node_by h
 
 pub stored : {old new : Store} {node : Node} {origin : Origin} → Keeps old →
     new.nodes.items ≡ old.nodes.items ++ node ∷ [] → new.origins.items ≡ old.origins.items ++ origin ∷ [] →

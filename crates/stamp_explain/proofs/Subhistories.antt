@@ -26,8 +26,8 @@ pub record ReadSoFar (p : Observation → Bool) (i : ℕ) (es read : List Observ
 
 pub all_read : (p : Observation → Bool) (i : ℕ) (es read : List Observation) (indices : List ℕ) → length es ≤ i →
     ReadSoFar p i es read indices → read ≡ filter p es
-all_read p i es read indices over so_far = sym (append-nil read) ∙
-    ap (λ (xs : List Observation). read ++ filter p xs) (sym (drop_of_length-le es over)) ∙ so_far.are
+all_read p i es read indices over so_far = sym (append-nil read) ∙ ap (λ (xs : List Observation). read ++ filter p xs)
+    (sym (drop_of_length-le es over)) ∙ so_far.are
 
 -- it is no larger
 pub of_object_small : (h : ObservedHistory) (lock : Bool) → IsSmall h → IsSmall (of_object lock h)
@@ -100,8 +100,8 @@ rising p n (e ∷ es) = by (p e) (rising p (n + 1) es)
     by : (b : Bool) → AllPairs (λ (i j : ℕ). i < j) (indices_where p (n + 1) es) →
         AllPairs (λ (i j : ℕ). i < j) (cond b (n ∷ indices_where p (n + 1) es) (indices_where p (n + 1) es))
     by true all = pairs_cons (λ (i j : ℕ). i < j) n (indices_where p (n + 1) es)
-        (All-weaker (λ (i : ℕ). n + 1 ≤ i) (λ (i : ℕ). n < i) (λ i le. omega (arith, le))
-        (indices_where p (n + 1) es) (no_sooner p (n + 1) es)) all
+        (All-weaker (λ (i : ℕ). n + 1 ≤ i) (λ (i : ℕ). n < i) (λ i le. omega (arith, le)) (indices_where p (n + 1) es)
+        (no_sooner p (n + 1) es)) all
     by false all = all
 
 pub indices_rise : {h : ObservedHistory} {lock : Bool} {sub : Subhistory} → IsSubhistoryOf h lock sub →
@@ -110,13 +110,13 @@ indices_rise {h} {lock} is = subst (AllPairs (λ (i j : ℕ). i < j)) (sym is.in
     (rising (is_of_object lock) 0 h.entries)
 
 -- all calls are of the lock where there is no record
-all_pass : (p : Observation → Bool) (es : List Observation) → All (λ (e : Observation). p e ≡ true) es → filter p es
-    ≡ es
+all_pass : (p : Observation → Bool) (es : List Observation) → All (λ (e : Observation). p e ≡ true) es →
+    filter p es ≡ es
 all_pass p [] passes = refl
 all_pass p (e ∷ es) passes =
-    ap (λ (b : Bool). if b then (e ∷ filter p es) else filter p es)
-    (All-head (λ (e : Observation). p e ≡ true) e es passes) ∙
-    ap (λ (xs : List Observation). e ∷ xs) (all_pass p es (All-tail (λ (e : Observation). p e ≡ true) e es passes))
+    ap (λ (b : Bool). if b then (e ∷ filter p es) else filter p es) (All-head
+    (λ (e : Observation). p e ≡ true) e es passes) ∙ ap (λ (xs : List Observation). e ∷ xs)
+    (all_pass p es (All-tail (λ (e : Observation). p e ≡ true) e es passes))
 
 pub all_of_lock : (h : ObservedHistory) → IsObserved h → h.width ≡ 0 → of_lock h ≡ h
 all_of_lock h observed none = ap (λ (es : List Observation). record h { entries = es })
@@ -133,9 +133,9 @@ none_pass : (p : Observation → Bool) (es : List Observation) → All (λ (e : 
     filter p es ≡ []
 none_pass p [] fails = refl
 none_pass p (e ∷ es) fails =
-    ap (λ (b : Bool). if b then (e ∷ filter p es) else filter p es)
-    (All-head (λ (e : Observation). p e ≡ false) e es fails) ∙
-    none_pass p es (All-tail (λ (e : Observation). p e ≡ false) e es fails)
+    ap (λ (b : Bool). if b then (e ∷ filter p es) else filter p es) (All-head
+    (λ (e : Observation). p e ≡ false) e es fails) ∙ none_pass p es (All-tail
+    (λ (e : Observation). p e ≡ false) e es fails)
 
 -- and none of the record
 pub none_of_record : (h : ObservedHistory) → IsObserved h → h.width ≡ 0 → (of_record h).entries ≡ []

@@ -47,8 +47,9 @@ use Rattle.stamp_explain.proofs.Trying.{Tries, none_tried, tried_none, tried_som
 pub record NoneOfFirst (h : ObservedHistory) (asked : Option ℕ) (returns : List ℕ) (node : Node) (calls : List ℕ)
     (k : ℕ) : Type 0 where
   pub none : (a : Observation) (s : LockState) (taken : List ℕ) → IsAwaitedAt h returns node.past a →
-      StandsFor h returns node s taken → (x : Effect) (t : LockState) → IsAtOnce asked x → (p : ℕ) → p < k →
-      p < length calls → get_or calls p 0 ≡ x.index → ¬ MayTake (StateTransition h.limits) h.entries a s taken x t
+      StandsFor h returns node s taken → (x : Effect) (t : LockState) → IsAtOnce asked x →
+      (p : ℕ) → p < k → p < length calls → get_or calls p 0 ≡ x.index → ¬ MayTake
+      (StateTransition h.limits) h.entries a s taken x t
 
 pub none_of_none : {h : ObservedHistory} {asked : Option ℕ} {returns : List ℕ} {node : Node} {calls : List ℕ} →
     NoneOfFirst h asked returns node calls 0
@@ -199,8 +200,8 @@ unchanging_so : (e : Observation) (reply : Reply) → is_unchanging e ≡ true �
 unchanging_so e reply is may = by e.returned refl is may
   where
     by : (o : Option Returned) → e.returned ≡ o → unchanging_by e.call o ≡ true →
-        MatchOption o (Unit {0}) (λ (r : Returned). r.reply ≡ reply) →
-        HasReturned e × (changes_nothing e.call reply ≡ true)
+        MatchOption o (Unit {0}) (λ (r : Returned). r.reply ≡ reply) → HasReturned e ×
+        (changes_nothing e.call reply ≡ true)
     by None at is may = absurd (false≢true is)
     by (Some r) at is may = ((r, at), ap (changes_nothing e.call) (sym may) ∙ is)
 

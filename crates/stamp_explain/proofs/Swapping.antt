@@ -119,8 +119,8 @@ same_or_other true false = inr true≢false
 same_or_other false true = inr (λ e. true≢false (sym e))
 
 -- an effect of another object is of another call
-other_call : (entries : List Observation) (i : ℕ) (a : Observation) → slice_get entries i ≡ Some a → (y : Effect) →
-    IsEffectOf entries y → IsOfOther (is_lock_call a.call) y → y.index ≢ i
+other_call : (entries : List Observation) (i : ℕ) (a : Observation) → slice_get entries i ≡ Some a →
+    (y : Effect) → IsEffectOf entries y → IsOfOther (is_lock_call a.call) y → y.index ≢ i
 other_call entries i a at y is other same =
     other (ap (λ (o : Observation). is_lock_call o.call) (same_entry entries y i a is same at))
 

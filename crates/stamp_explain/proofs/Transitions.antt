@@ -59,15 +59,15 @@ lock_did_not {h} i e {s} lock at goes reply t steps =
 
 -- what the record holds by the put whose words it has
 content_put : (width : ℕ) (entries : List Observation) (put : Option ℕ) (i : ℕ) (e : Observation) (reply : Reply) →
-    slice_get entries i ≡ Some e → content_by width entries (put_after put i e.call reply) ≡
-    content_next (content_by width entries put) e.call reply
+    slice_get entries i ≡ Some e → content_by width entries (put_after put i e.call reply) ≡ content_next
+    (content_by width entries put) e.call reply
 content_put width entries put i e reply at = by e.call reply refl
   where
     put_here : (words : List ℕ) → words_put width e.call ≡ words → content_by width entries (Some i) ≡ words
     put_here words same = ap (λ (o : Option Observation). words_put_at width o) at ∙ same
 
-    by : (call : Call) (r : Reply) → e.call ≡ call → content_by width entries (put_after put i call r) ≡
-        content_next (content_by width entries put) call r
+    by : (call : Call) (r : Reply) → e.call ≡ call → content_by width entries (put_after put i call r) ≡ content_next
+        (content_by width entries put) call r
     by (Put words) r same = put_here words (ap (λ (c : Call). words_put width c) same)
     by (PutIf expected words) Yes same = put_here words (ap (λ (c : Call). words_put width c) same)
     by call r same = refl

@@ -48,9 +48,8 @@ pub record Makes (h : ObservedHistory) (returns : List ℕ) (node : Node) (u : L
   pub passes : PassesTo h returns via next.node
 
 -- or another call goes ahead of it
-abbrev pub MakesOrWaits : ObservedHistory → Option ℕ → List ℕ → Node → List ℕ → Effect → LockState → List ℕ → List
-    Next →
-    Type 0
+abbrev pub MakesOrWaits : ObservedHistory → Option ℕ → List ℕ → Node → List ℕ → Effect → LockState → List ℕ →
+    List Next → Type 0
 MakesOrWaits h asked returns node calls x u taken nexts =
     GivesWay h asked node calls x.index ⊎ Makes h returns node u (x.index ∷ taken) nexts
 
@@ -59,10 +58,10 @@ MakesOrWaits h asked returns node calls x u taken nexts =
 pub record Tries (h : ObservedHistory) (asked : Option ℕ) (returns : List ℕ) (node : Node) (calls : List ℕ) (k : ℕ)
     (nexts : List Next) : Type 0 where
   pub tried : (a : Observation) (s : LockState) (taken : List ℕ) → IsAwaitedAt h returns node.past a →
-      StandsFor h returns node s taken → (x : Effect) (u : LockState) →
-      MayTake (StateTransition h.limits) h.entries a s taken x u → AreOfOneObject a x.entry →
-      is_question_under_way x.entry ≡ false → (p : ℕ) → p < length calls → length calls ≤ p + k → get_or calls p 0 ≡
-      x.index → MakesOrWaits h asked returns node calls x u taken nexts
+      StandsFor h returns node s taken → (x : Effect) (u : LockState) → MayTake
+      (StateTransition h.limits) h.entries a s taken x u → AreOfOneObject a x.entry →
+      is_question_under_way x.entry ≡ false → (p : ℕ) → p < length calls → length calls ≤ p + k →
+      get_or calls p 0 ≡ x.index → MakesOrWaits h asked returns node calls x u taken nexts
 
 pub none_tried : {h : ObservedHistory} {asked : Option ℕ} {returns : List ℕ} {node : Node} {calls : List ℕ} →
     Tries h asked returns node calls 0 []
@@ -197,8 +196,8 @@ pub record Completes (h : ObservedHistory) (timeline : Timeline) (node : Node) (
   object : AreOfOneObject a x.entry
   no_question : is_question_under_way x.entry ≡ false
   may : MayTake (StateTransition h.limits) h.entries a s taken x u
-  rest : CompletesIn (StateTransition h.limits) h.entries (get_or timeline.returns.items node.past 0 ∷
-      drop (suc node.past) timeline.returns.items) u (x.index ∷ taken) left
+  rest : CompletesIn (StateTransition h.limits) h.entries (get_or timeline.returns.items node.past 0 ∷ drop
+      (suc node.past) timeline.returns.items) u (x.index ∷ taken) left
 
 -- so may one that goes ahead of it
 pub completes_ahead : {h : ObservedHistory} {asked : Option ℕ} {timeline : Timeline} {node : Node} {a : Observation}
@@ -382,8 +381,7 @@ suffice_by_one {h} {timeline} {node} {a} {nexts} is bit are all tries {n} again 
             hope.stands tries fewer (omega arith) (record {
               object = on.object;
               no_question = no_question;
-              may
-                  = on.may;
+              may = on.may;
               rest = on.completes;
             })
 

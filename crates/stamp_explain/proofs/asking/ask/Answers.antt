@@ -28,8 +28,8 @@ read {h} {asked} {timeline} {node} {i} {read} {e} may some same is =
     (is ∙ ap (λ (es : List Observation). get_or es i e) same)
 
 pub bounds-entries-i : goal.bounds-entries-i
-bounds-entries-i c = subst (λ (es : List Observation). c.in-Some.i < length es)
-    (sym c.entries-entries.ensures.entries) (asked_at c.requires c.in-Some.is)
+bounds-entries-i c = subst (λ (es : List Observation). c.in-Some.i < length es) (sym c.entries-entries.ensures.entries)
+    (asked_at c.requires c.in-Some.is)
 
 pub offset_bounds-entries-i : goal.offset_bounds-entries-i
 offset_bounds-entries-i c =
@@ -50,7 +50,8 @@ transition_of-requires-clause-inside c = asked_at c.requires c.in-Some.is
 
 pub transition_of-requires-clause-suits : goal.transition_of-requires-clause-suits
 transition_of-requires-clause-suits c e at = at_index (λ (o : Observation). IsTrue
-    (call_suits c.args.observed.now.width o.call)) c.args.observed.now.entries c.in-Some.i e c.requires.observed.suit at
+    (call_suits c.args.observed.now.width o.call)) c.args.observed.now.entries c.in-Some.i e c.requires.observed.suit
+    at
 
 pub returns-in_ok-add : goal.returns-in_ok-add
 returns-in_ok-add c = subst (λ (o : Option ℕ). IsAskedAt c.args.observed.now o c.args.timeline.now.returns.items

@@ -11,6 +11,6 @@ is_zero n is = grind (arith, nat_tests)
 
 pub recorded_with_points-requires-clause-order : goal.recorded_with_points-requires-clause-order
 recorded_with_points-requires-clause-order c = order_of_none c.args.observed.now c.in_ok-return_keys.return_keys.items
-    (subst (λ (es : List Observation). AreReturnKeys es c.in_ok-return_keys.return_keys.items) c.entries.ensures.entries
-    c.in_ok-return_keys.ensures)
-    (sym c.in_ok-return_keys.return_keys.ok.0 ∙ is_zero c.in_ok-return_keys.return_keys.len c.if-is_empty.ensures)
+    (subst (λ (es : List Observation). AreReturnKeys es c.in_ok-return_keys.return_keys.items)
+    c.entries.ensures.entries c.in_ok-return_keys.ensures) (sym c.in_ok-return_keys.return_keys.ok.0 ∙
+    is_zero c.in_ok-return_keys.return_keys.len c.if-is_empty.ensures)

@@ -13,9 +13,8 @@ returns-in_default-clause-undecided c = λ _. inl (subst (λ (o : Option (Vec Re
     (IsUndecidedWithout c.args.observed.now c.args.entry c.args.most)) c.in_default.is c.in_ok-replies.ensures.none)
 
 pub returns-clause-possible : goal.returns-clause-possible
-returns-clause-possible c = IfOk-weaker c.possible_among.result
-    (λ found. ArePossible c.args.observed.now c.args.entry c.as_slice.result.now found.items)
-    (λ found. AreAllPossible c.args.observed.now c.args.entry found.items)
+returns-clause-possible c = IfOk-weaker c.possible_among.result (λ found. ArePossible c.args.observed.now c.args.entry
+    c.as_slice.result.now found.items) (λ found. AreAllPossible c.args.observed.now c.args.entry found.items)
     (λ found possible. all_possible c.args.observed.now c.args.entry c.as_slice.result.now found.items
     c.requires.observed (subst (AreRepliesAt c.args.observed.now c.args.entry) (sym c.as_slice.ensures.value)
     (subst (λ (o : Option (Vec Reply Global)). IfSome o (λ replies. AreRepliesAt c.args.observed.now c.args.entry

@@ -38,8 +38,8 @@ search-requires-clause-observed c = seen_observed (there (goal.at.search-require
 
 pub search-requires-clause-returned : goal.search-requires-clause-returned
 search-requires-clause-returned c i same = subst (IsReturnAt c.in_ok-seen.seen.entries)
-    (same_Some c.index_then-index.result i same)
-    (seen_return (there (goal.at.search-requires-clause-returned c).In_ok-seen))
+    (same_Some c.index_then-index.result i same) (seen_return (there (goal.at.search-requires-clause-returned
+    c).In_ok-seen))
 
 pub returns-in-NoOrder-clause-some : goal.returns-in-NoOrder-clause-some
 returns-in-NoOrder-clause-some c = seen_replies (there (goal.at.returns-in-NoOrder-clause-some c).In_ok-seen)

@@ -6,9 +6,8 @@ use Rattle.stamp_explain.proofs.GivingUp.{looked_no_more, looked_on}
 use Rattle.stamp_explain.proofs.search.search.Goals as goal
 
 pub loop-init : goal.loop-init
-loop-init c = subst (λ (ws : List Waiting). Searches c.args.observed.now c.args.asked
-    c.args.timeline.now.returns.items c.new-replies.result.items c.in_ok-store.store ws 0)
-    (sym c.new-waiting.ensures.items)
+loop-init c = subst (λ (ws : List Waiting). Searches c.args.observed.now c.args.asked c.args.timeline.now.returns.items
+    c.new-replies.result.items c.in_ok-store.store ws 0) (sym c.new-waiting.ensures.items)
     (begins_searching c.args.observed.now c.args.asked c.args.timeline.now.returns.items c.new-replies.result.items
     c.in_ok-store.store c.first_node.result c.new-replies.ensures.items c.in_ok-store.ensures c.first_node.ensures)
 
@@ -24,9 +23,8 @@ linearization_to-requires-clause-linked c = last_linked c.loop.invariant.at
     c.as_slice-returns.ensures.value c.if-node-returns.true c.requires.timeline.are c.requires.returned)
 
 pub linearization_to-requires-clause-end : goal.linearization_to-requires-clause-end
-linearization_to-requires-clause-end c = last_ends c.loop.invariant.at
-    (last_read c.loop.invariant.at c.len-index.ensures c.index.ensures) c.as_slice-returns.ensures.value
-    c.if-node-returns.true
+linearization_to-requires-clause-end c = last_ends c.loop.invariant.at (last_read c.loop.invariant.at
+    c.len-index.ensures c.index.ensures) c.as_slice-returns.ensures.value c.if-node-returns.true
 
 pub returns-then-node-returns : goal.returns-then-node-returns
 returns-then-node-returns c = (
@@ -36,9 +34,9 @@ returns-then-node-returns c = (
 )
 
 pub successors-requires : goal.successors-requires
-successors-requires c = last_goes_on c.loop.invariant.at
-    (last_read c.loop.invariant.at c.len-index.ensures c.index.ensures) c.requires.observed c.requires.timeline
-    c.requires.returned c.as_slice-returns.ensures.value c.if-node-returns.false
+successors-requires c = last_goes_on c.loop.invariant.at (last_read c.loop.invariant.at c.len-index.ensures
+    c.index.ensures) c.requires.observed c.requires.timeline c.requires.returned c.as_slice-returns.ensures.value
+    c.if-node-returns.false
 
 pub look-requires : goal.look-requires
 look-requires c = c.loop.invariant.at.are.keeps
@@ -54,10 +52,9 @@ returns-then-not-branch c = record {
 
 pub loop-preserved : goal.loop-preserved
 loop-preserved c = record {
-  at = looked_on (last_expanded c.loop.invariant.at
-      (last_read c.loop.invariant.at c.len-index.ensures c.index.ensures) c.in_ok-successors.ensures.gets.more
-      c.in_ok-successors.ensures.expands c.as_slice.ensures.value c.in_ok-leave.ensures) c.in_ok-look.ensures
-      c.if-not-branch.false;
+  at = looked_on (last_expanded c.loop.invariant.at (last_read c.loop.invariant.at c.len-index.ensures c.index.ensures)
+      c.in_ok-successors.ensures.gets.more c.in_ok-successors.ensures.expands c.as_slice.ensures.value
+      c.in_ok-leave.ensures) c.in_ok-look.ensures c.if-not-branch.false;
   gotten = gotten_more c.loop.invariant.gotten c.in_ok-successors.ensures.gets;
 }
 

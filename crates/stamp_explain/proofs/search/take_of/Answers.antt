@@ -23,8 +23,7 @@ returns-then-has_thread c returns are it = record {
 
 pub transition_of-requires-clause-suits : goal.transition_of-requires-clause-suits
 transition_of-requires-clause-suits c e at = at_index (λ (o : Observation). IsTrue
-    (call_suits c.args.observed.now.width o.call)) c.args.observed.now.entries c.args.i e
-    c.requires.observed.suit at
+    (call_suits c.args.observed.now.width o.call)) c.args.observed.now.entries c.args.i e c.requires.observed.suit at
 
 pub returns-in_default : goal.returns-in_default
 returns-in_default c returns are it = record {

@@ -7,10 +7,10 @@ use Rattle.stamp_explain.specs.Node.{IsTransitionOf, Does}
 use Rattle.stamp_explain.proofs.Transitions.{record_went, record_did_not, suits_some}
 use Rattle.stamp_explain.proofs.transition.transition_of.Goals as goal
 
-entry_at : (es read : List Observation) (i : ℕ) (e : Observation) → i < length es → e ≡ get_or read i e →
-    read ≡ es → slice_get es i ≡ Some e
-entry_at es read i e lt is same = slice_get_read es (length es) i e refl lt (is ∙
-    ap (λ (xs : List Observation). get_or xs i e) same)
+entry_at : (es read : List Observation) (i : ℕ) (e : Observation) → i < length es → e ≡ get_or read i e → read ≡ es →
+    slice_get es i ≡ Some e
+entry_at es read i e lt is same = slice_get_read es (length es) i e refl lt
+    (is ∙ ap (λ (xs : List Observation). get_or xs i e) same)
 
 pub record_transition-requires : goal.record_transition-requires
 record_transition-requires c =
