@@ -36,9 +36,6 @@ is_begun last e = not (nat_lt last e.first)
 pub no_more : {xs : List Reply} → AreMore xs xs
 no_more = record { kept = λ r has. has; once = λ once. once }
 
-pub adds_none : {xs : List Reply} {reply : Reply} → Contains xs reply → Adds xs reply xs
-adds_none has = record { more = no_more; added = has; only = λ other has. inl has }
-
 pub adds_one : {xs : List Reply} {reply : Reply} → ¬ Contains xs reply → Adds xs reply (xs ++ reply ∷ [])
 adds_one {xs} {reply} misses = record {
   more = record {
@@ -54,36 +51,6 @@ adds_one {xs} {reply} misses = record {
 pub record IsCounted (last k : ℕ) (es : List Observation) (n : ℕ) : Type 0 where
   pub few : n ≤ k
   pub count : n ≡ length (begun_by last (take k es))
-
-pub counted_one : {last k : ℕ} {es : List Observation} (e : Observation) {n : ℕ} → k < length es → e ≡ get_or es k e →
-    e.first ≤ last → IsCounted last k es n → IsCounted last (k + 1) es (n + 1)
-counted_one {last} {k} {es} e lt at begun is = record {
-  few = omega (arith, is.few);
-  count = omega (
-    arith,
-    is.count,
-    length-filter_more (is_begun last) es k e lt,
-    ap {B = ℕ} (λ (b : Bool). cond b 1 0) (ap (is_begun last) (sym at) ∙ early),
-  );
-}
-  where
-    early : is_begun last e ≡ true
-    early = grind (arith, nat_tests)
-
-pub counted_none : {last k : ℕ} {es : List Observation} (e : Observation) {n : ℕ} → k < length es → e ≡ get_or es k e →
-    ¬ (e.first ≤ last) → IsCounted last k es n → IsCounted last (k + 1) es n
-counted_none {last} {k} {es} e lt at begun is = record {
-  few = omega (arith, is.few);
-  count = omega (
-    arith,
-    is.count,
-    length-filter_more (is_begun last) es k e lt,
-    ap {B = ℕ} (λ (b : Bool). cond b 1 0) (ap (is_begun last) (sym at) ∙ late),
-  );
-}
-  where
-    late : is_begun last e ≡ false
-    late = grind (arith, nat_tests)
 
 pub none_new : {h : ObservedHistory} {asked : Option ℕ} {replies : List Reply} → GetsMore h asked replies replies
 none_new = record { more = no_more; gets = λ reply has. inl has }

@@ -65,23 +65,6 @@ same_kept {h} {lock} {sub} {k} {i} {e} is at = record {
   kind = at.passes;
 }
 
--- each of its calls stands in the whole, and each call of its object stands in it
-pub same_in_whole : {h : ObservedHistory} {lock : Bool} {sub : Subhistory} (k : ℕ) (e : Observation) →
-    IsSubhistoryOf h lock sub → slice_get sub.history.entries k ≡ Some e → (i : ℕ) × IsSameCall h lock sub k i e
-same_in_whole {h} {lock} {sub} k e is at =
-    let found : (i : ℕ) × IsKeptAt (is_of_object lock) h.entries k i e =
-    index_gives (is_of_object lock) h.entries k e (subst (λ (es : List Observation). slice_get es k ≡ Some e)
-    (subhistory_entries h lock sub is) at) in
-    (found.0, same_kept is found.1)
-
-pub same_in_part : {h : ObservedHistory} {lock : Bool} {sub : Subhistory} (i : ℕ) (e : Observation) →
-    IsSubhistoryOf h lock sub → slice_get h.entries i ≡ Some e → is_of_object lock e ≡ true →
-    (k : ℕ) × IsSameCall h lock sub k i e
-same_in_part {h} {lock} i e is at kind =
-    let found : (k : ℕ) × IsKeptAt (is_of_object lock) h.entries k i e =
-    rank_gives (is_of_object lock) h.entries i e at kind in
-    (found.0, same_kept is found.1)
-
 -- the indices rise
 no_sooner : (p : Observation → Bool) (n : ℕ) (es : List Observation) → All (λ (i : ℕ). n ≤ i) (indices_where p n es)
 no_sooner p n [] = All-nil (λ (i : ℕ). n ≤ i)
@@ -103,11 +86,6 @@ rising p n (e ∷ es) = by (p e) (rising p (n + 1) es)
         (All-weaker (λ (i : ℕ). n + 1 ≤ i) (λ (i : ℕ). n < i) (λ i le. omega (arith, le)) (indices_where p (n + 1) es)
         (no_sooner p (n + 1) es)) all
     by false all = all
-
-pub indices_rise : {h : ObservedHistory} {lock : Bool} {sub : Subhistory} → IsSubhistoryOf h lock sub →
-    AllPairs (λ (i j : ℕ). i < j) sub.indices.items
-indices_rise {h} {lock} is = subst (AllPairs (λ (i j : ℕ). i < j)) (sym is.indices)
-    (rising (is_of_object lock) 0 h.entries)
 
 -- all calls are of the lock where there is no record
 all_pass : (p : Observation → Bool) (es : List Observation) → All (λ (e : Observation). p e ≡ true) es →

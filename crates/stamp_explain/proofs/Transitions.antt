@@ -31,32 +31,6 @@ lock_puts_none put i (Put words) reply lock = absurd (false≢true lock)
 lock_puts_none put i (PutIf expected words) reply lock = absurd (false≢true lock)
 lock_puts_none put i call reply lock = refl
 
-pub lock_went : {h : ObservedHistory} {i : ℕ} {e : Observation} {s : LockState} {bits : ℕ} (next : ℕ) {put : Option ℕ}
-    (reply : Reply) → is_lock_call e.call ≡ true → IsStateBy h bits put s →
-    LockGoes h.limits bits e.call (Some (next, reply)) → Does h i e put s (record
-    { bits = next; put = put; reply = reply })
-lock_went {h} {i} {e} {s} next {put} reply lock at goes =
-    let found = goes.after s.0 at.word in
-    record {
-      goes = record {
-        replies = subst (λ (b : Bool). MatchBool b (Replies (transition h.limits s.0 e.call) reply)
-            (RecordReplies s.1 e.call reply)) (sym lock) found.0;
-        next = refl;
-      };
-      at = record {
-        word = found.1;
-        content = at.content ∙ sym (lock_leaves s.1 e.call reply lock);
-      };
-      leaves = lock_puts_none put i e.call reply lock;
-    }
-
-pub lock_did_not : {h : ObservedHistory} (i : ℕ) (e : Observation) {s : LockState} {bits : ℕ} {put : Option ℕ} →
-    is_lock_call e.call ≡ true → IsStateBy h bits put s → LockGoes h.limits bits e.call None →
-    IsTransitionOf h i e put s None
-lock_did_not {h} i e {s} lock at goes reply t steps =
-    goes.after s.0 at.word reply (MatchBool-at_true (Replies (transition h.limits s.0 e.call) reply)
-    (RecordReplies s.1 e.call reply) lock steps.replies)
-
 -- what the record holds by the put whose words it has
 content_put : (width : ℕ) (entries : List Observation) (put : Option ℕ) (i : ℕ) (e : Observation) (reply : Reply) →
     slice_get entries i ≡ Some e → content_by width entries (put_after put i e.call reply) ≡ content_next
