@@ -15,9 +15,9 @@ use Rattle.stamp_explain.proofs.Lists.{none_in_empty, contains_cases, contains_f
 use Rattle.stamp_explain.proofs.Lists.{pairs_tail, pairs_cons, pairs_none}
 
 -- with no return to come nothing is left to do
-pub completed_by_none : {S : Type 0} (Goes : S → Call × Reply → S →
-    Type 0) (entries : List Observation) (s : S) (taken : List ℕ) → IsCompletedBy Goes entries [] s taken []
-completed_by_none Goes entries s taken = record {
+pub completed_by_none : {S : Type 0} (Goes : S → Call × Reply → S → Type 0) {entries : List Observation} {s : S}
+    {taken : List ℕ} → IsCompletedBy Goes entries [] s taken []
+completed_by_none Goes {entries} {taken} = record {
   effects = All-nil (IsEffectOf entries);
   once = pairs_none AreOfTwoEntries;
   fresh = All-nil (λ (x : Effect). ¬ Contains taken x.index);
@@ -27,10 +27,10 @@ completed_by_none Goes entries s taken = record {
 }
 
 -- a call in effect may return
-pub past_return : {S : Type 0} (Goes : S → Call × Reply → S →
-    Type 0) (entries : List Observation) (i : ℕ) (returns : List ℕ) (s : S) (taken : List ℕ) (rest : List Effect) →
-    IsCompletedBy Goes entries (i ∷ returns) s taken rest → IsCompletedBy Goes entries returns s taken rest
-past_return Goes entries i returns s taken rest by = record {
+pub past_return : {S : Type 0} (Goes : S → Call × Reply → S → Type 0) {entries : List Observation} (i : ℕ)
+    {returns : List ℕ} {s : S} {taken : List ℕ} {rest : List Effect} → IsCompletedBy Goes entries
+    (i ∷ returns) s taken rest → IsCompletedBy Goes entries returns s taken rest
+past_return Goes i {returns} {taken} {rest} by = record {
   effects = by.effects;
   once = by.once;
   fresh = by.fresh;
@@ -39,11 +39,10 @@ past_return Goes entries i returns s taken rest by = record {
   runs = by.runs;
 }
 
-pub before_return : {S : Type 0} (Goes : S → Call × Reply → S →
-    Type 0) (entries : List Observation) (i : ℕ) (returns : List ℕ) (s : S) (taken : List ℕ) (rest : List Effect) →
-    Contains taken i → IsCompletedBy Goes entries returns s taken rest →
-    IsCompletedBy Goes entries (i ∷ returns) s taken rest
-before_return Goes entries i returns s taken rest has by = record {
+pub before_return : {S : Type 0} (Goes : S → Call × Reply → S → Type 0) {entries : List Observation} (i : ℕ)
+    {returns : List ℕ} {s : S} {taken : List ℕ} {rest : List Effect} → Contains taken i →
+    IsCompletedBy Goes entries returns s taken rest → IsCompletedBy Goes entries (i ∷ returns) s taken rest
+before_return Goes i {returns} {taken} {rest} has by = record {
   effects = by.effects;
   once = by.once;
   fresh = by.fresh;
@@ -83,63 +82,61 @@ pub data IsBehind (P : Effect → Type 0) (x : Effect) : List Effect → List Ef
   at_first : {xs : List Effect} → IsBehind P x (x ∷ xs) xs
   behind : {y : Effect} {xs ys : List Effect} → P y → IsBehind P x xs ys → IsBehind P x (y ∷ xs) (y ∷ ys)
 
-behind_all : (P Q : Effect → Type 0) (x : Effect) {xs ys : List Effect} → IsBehind P x xs ys → All Q xs →
+behind_all : (P Q : Effect → Type 0) {x : Effect} {xs ys : List Effect} → IsBehind P x xs ys → All Q xs →
     Q x × All Q ys
-behind_all P Q x (at_first {xs}) all = (All-head Q x xs all, All-tail Q x xs all)
-behind_all P Q x (behind {y} {xs} {ys} p b) all =
-    let both : Q x × All Q ys = behind_all P Q x b (All-tail Q y xs all) in
+behind_all P Q {x} (at_first {xs}) all = (All-head Q x xs all, All-tail Q x xs all)
+behind_all P Q {x} (behind {y} {xs} {ys} p b) all =
+    let both : Q x × All Q ys = behind_all P Q b (All-tail Q y xs all) in
     (both.0, All-cons Q y ys (All-head Q y xs all) both.1)
 
-behind_pairs : (P : Effect → Type 0) (R : Effect → Effect → Type 0) (x : Effect) {xs ys : List Effect} →
+behind_pairs : (P : Effect → Type 0) (R : Effect → Effect → Type 0) {x : Effect} {xs ys : List Effect} →
     IsBehind P x xs ys → AllPairs R xs → AllPairs R ys
-behind_pairs P R x (at_first {xs}) all = pairs_tail R x xs all
-behind_pairs P R x (behind {y} {xs} {ys} p b) all = pairs_cons R y ys
-    (behind_all P (R y) x b (pairs_head R y xs all)).1 (behind_pairs P R x b (pairs_tail R y xs all))
+behind_pairs P R {x} (at_first {xs}) all = pairs_tail R x xs all
+behind_pairs P R (behind {y} {xs} {ys} p b) all = pairs_cons R y ys (behind_all P (R y) b (pairs_head R y xs all)).1
+    (behind_pairs P R b (pairs_tail R y xs all))
 
-behind_apart : (P : Effect → Type 0) (x : Effect) {xs ys : List Effect} → IsBehind P x xs ys →
+behind_apart : (P : Effect → Type 0) {x : Effect} {xs ys : List Effect} → IsBehind P x xs ys →
     AllPairs AreOfTwoEntries xs → All (AreOfTwoEntries x) ys
-behind_apart P x (at_first {xs}) all = pairs_head AreOfTwoEntries x xs all
-behind_apart P x (behind {y} {xs} {ys} p b) all = All-cons (AreOfTwoEntries x) y ys
-    (λ e. (behind_all P (AreOfTwoEntries y) x b (pairs_head AreOfTwoEntries y xs all)).0 (sym e))
-    (behind_apart P x b (pairs_tail AreOfTwoEntries y xs all))
+behind_apart P {x} (at_first {xs}) all = pairs_head AreOfTwoEntries x xs all
+behind_apart P {x} (behind {y} {xs} {ys} p b) all = All-cons (AreOfTwoEntries x) y ys
+    (λ e. (behind_all P (AreOfTwoEntries y) b (pairs_head AreOfTwoEntries y xs all)).0 (sym e))
+    (behind_apart P b (pairs_tail AreOfTwoEntries y xs all))
 
-behind_index : (P : Effect → Type 0) (x : Effect) (j : ℕ) {xs ys : List Effect} → IsBehind P x xs ys →
+behind_index : (P : Effect → Type 0) {x : Effect} (j : ℕ) {xs ys : List Effect} → IsBehind P x xs ys →
     Contains (indices_of xs) j → (x.index ≡ j) ⊎ Contains (indices_of ys) j
-behind_index P x j (at_first {xs}) has = contains_cases x.index (indices_of xs) j has
-behind_index P x j (behind {y} {xs} {ys} p b) has = by (contains_cases y.index (indices_of xs) j has)
-    (behind_index P x j b)
+behind_index P {x} j (at_first {xs}) has = contains_cases x.index (indices_of xs) j has
+behind_index P {x} j (behind {y} {xs} {ys} p b) has = by (contains_cases y.index (indices_of xs) j has)
+    (behind_index P j b)
   where
     more : (x.index ≡ j) ⊎ Contains (indices_of ys) j → (x.index ≡ j) ⊎ Contains (y.index ∷ indices_of ys) j
     more (inl same) = inl same
     more (inr has) = inr (contains_rest y.index (indices_of ys) j has)
 
-    by : (y.index ≡ j) ⊎ Contains (indices_of xs) j →
-        (Contains (indices_of xs) j → (x.index ≡ j) ⊎ Contains (indices_of ys) j) →
-        (x.index ≡ j) ⊎ Contains (y.index ∷ indices_of ys) j
+    by : (y.index ≡ j) ⊎ Contains (indices_of xs) j → (Contains (indices_of xs) j →
+        (x.index ≡ j) ⊎ Contains (indices_of ys) j) → (x.index ≡ j) ⊎ Contains (y.index ∷ indices_of ys) j
     by (inl same) again = inr (contains_first y.index (indices_of ys) j same)
     by (inr has) again = more (again has)
 
-pub behind_length : (P : Effect → Type 0) (x : Effect) {xs ys : List Effect} → IsBehind P x xs ys →
+pub behind_length : (P : Effect → Type 0) {x : Effect} {xs ys : List Effect} → IsBehind P x xs ys →
     length xs ≡ suc (length ys)
-behind_length P x at_first = refl
-behind_length P x (behind p b) = ap suc (behind_length P x b)
+behind_length P at_first = refl
+behind_length P (behind p b) = ap suc (behind_length P b)
 
 -- it began no later than the awaited call returned, if that does not stand before it
-behind_begun : (P : Effect → Type 0) (entries : List Observation) (i : ℕ) (a : Observation) (x : Effect)
+behind_begun : (P : Effect → Type 0) {entries : List Observation} {i : ℕ} {a : Observation} {x : Effect}
     {xs ys : List Effect} → IsAwaited entries i a → ((y : Effect) → IsEffectOf entries y → P y → y.index ≢ i) →
     IsBehind P x xs ys → All (IsEffectOf entries) xs → AllPairs RespectsBefore xs → Contains (indices_of xs) i →
     ¬ IsBefore a x.entry
-behind_begun P entries i a x awaited other (at_first {xs}) effects ordered has =
+behind_begun P {entries} {i} {a} {x} awaited other (at_first {xs}) effects ordered has =
     which (contains_cases x.index (indices_of xs) i has)
   where
     which : (x.index ≡ i) ⊎ Contains (indices_of xs) i → ¬ IsBefore a x.entry
-    which (inl same) = subst (λ (o : Observation). ¬ IsBefore a o)
-        (sym (same_entry entries x i a (All-head (IsEffectOf entries) x xs effects) same awaited.is_entry))
-        awaited.begun
+    which (inl same) = subst (λ (o : Observation). ¬ IsBefore a o) (sym (same_entry entries x i a
+        (All-head (IsEffectOf entries) x xs effects) same awaited.is_entry)) awaited.begun
     which (inr has) = later_of entries i a x.entry xs awaited.is_entry (All-tail (IsEffectOf entries) x xs effects)
         (pairs_head RespectsBefore x xs ordered) has
-behind_begun P entries i a x awaited other (behind {y} {xs} {ys} p b) effects ordered has =
-    behind_begun P entries i a x awaited other b (All-tail (IsEffectOf entries) y xs effects)
+behind_begun P {entries} {i} awaited other (behind {y} {xs} {ys} p b) effects ordered has =
+    behind_begun P awaited other b (All-tail (IsEffectOf entries) y xs effects)
     (pairs_tail RespectsBefore y xs ordered) (rest_only (contains_cases y.index (indices_of xs) i has))
   where
     rest_only : (y.index ≡ i) ⊎ Contains (indices_of xs) i → Contains (indices_of xs) i
@@ -157,27 +154,27 @@ awaited_in i returns taken rest not_yet returned =
     by (inr has) = has
 
 -- an effect of an order may be the next, if what stands before it may wait; the others complete what it leaves
-pub takes_next : {S : Type 0} (Goes : S → Call × Reply → S → Type 0) (entries : List Observation) (i : ℕ)
-    (a : Observation) (returns : List ℕ) (s t : S) (taken : List ℕ) (P : Effect → Type 0) (x : Effect)
+pub takes_next : {S : Type 0} (Goes : S → Call × Reply → S → Type 0) {entries : List Observation} {i : ℕ}
+    {a : Observation} (returns : List ℕ) {s : S} (t : S) {taken : List ℕ} (P : Effect → Type 0) {x : Effect}
     {rest others : List Effect} → IsAwaited entries i a → ¬ Contains taken i →
     ((y : Effect) → IsEffectOf entries y → P y → y.index ≢ i) → IsBehind P x rest others →
-    Goes s (x.entry.call, x.reply) t → Runs Goes t (history_of others) →
-    IsCompletedBy Goes entries (i ∷ returns) s taken rest →
-    MayTake Goes entries a s taken x t × IsCompletedBy Goes entries (i ∷ returns) t (x.index ∷ taken) others
-takes_next Goes entries i a returns s t taken P x {rest} {others} awaited not_yet other b steps runs by = (may, left)
+    Goes s (x.entry.call, x.reply) t → Runs Goes t (history_of others) → IsCompletedBy Goes entries
+    (i ∷ returns) s taken rest → MayTake Goes entries a s taken x t × IsCompletedBy Goes entries (i ∷ returns) t
+    (x.index ∷ taken) others
+takes_next Goes {entries} {i} {a} returns {s} t {taken} P {x} {rest} {others} awaited not_yet other b steps runs by = (may, left)
   where
     effects : IsEffectOf entries x × All (IsEffectOf entries) others
-    effects = behind_all P (IsEffectOf entries) x b by.effects
+    effects = behind_all P (IsEffectOf entries) b by.effects
 
     fresh : (¬ Contains taken x.index) × All (λ (y : Effect). ¬ Contains taken y.index) others
-    fresh = behind_all P (λ (y : Effect). ¬ Contains taken y.index) x b by.fresh
+    fresh = behind_all P (λ (y : Effect). ¬ Contains taken y.index) b by.fresh
 
     may : MayTake Goes entries a s taken x t
     may = record {
       effect = effects.0;
       fresh = fresh.0;
-      begun = behind_begun P entries i a x awaited other b by.effects by.ordered
-          (awaited_in i returns taken rest not_yet by.returned);
+      begun = behind_begun P awaited other b by.effects by.ordered (awaited_in i returns taken rest not_yet
+          by.returned);
       goes = steps;
     }
 
@@ -188,56 +185,55 @@ takes_next Goes entries i a returns s t taken P x {rest} {others} awaited not_ye
         neither (inl e) = apart e
         neither (inr has) = misses has
 
-    moved : (j : ℕ) → Contains taken j ⊎ Contains (indices_of rest) j →
-        Contains (x.index ∷ taken) j ⊎ Contains (indices_of others) j
+    moved : (j : ℕ) → Contains taken j ⊎ Contains (indices_of rest) j → Contains (x.index ∷ taken) j ⊎ Contains
+        (indices_of others) j
     moved j (inl has) = inl (contains_rest x.index taken j has)
-    moved j (inr has) = which (behind_index P x j b has)
+    moved j (inr has) = which (behind_index P j b has)
       where
-        which : (x.index ≡ j) ⊎ Contains (indices_of others) j →
-            Contains (x.index ∷ taken) j ⊎ Contains (indices_of others) j
+        which : (x.index ≡ j) ⊎ Contains (indices_of others) j → Contains (x.index ∷ taken) j ⊎ Contains
+            (indices_of others) j
         which (inl e) = inl (contains_first x.index taken j e)
         which (inr has) = inr has
 
     left : IsCompletedBy Goes entries (i ∷ returns) t (x.index ∷ taken) others
     left = record {
       effects = effects.1;
-      once = behind_pairs P AreOfTwoEntries x b by.once;
-      fresh = λ k d lt. still_fresh (get_or others k d) (behind_apart P x b by.once k d lt) (fresh.1 k d lt);
+      once = behind_pairs P AreOfTwoEntries b by.once;
+      fresh = λ k d lt. still_fresh (get_or others k d) (behind_apart P b by.once k d lt) (fresh.1 k d lt);
       returned = All-weaker (λ (j : ℕ). Contains taken j ⊎ Contains (indices_of rest) j)
           (λ (j : ℕ). Contains (x.index ∷ taken) j ⊎ Contains (indices_of others) j) moved (i ∷ returns) by.returned;
-      ordered = behind_pairs P RespectsBefore x b by.ordered;
+      ordered = behind_pairs P RespectsBefore b by.ordered;
       runs = runs;
     }
 
 -- the first call of an order may take effect
-pub takes_first : {S : Type 0} (Goes : S → Call × Reply → S →
-    Type 0) (entries : List Observation) (i : ℕ) (a : Observation) (returns : List ℕ) (s : S) (taken : List ℕ)
-    (x : Effect) (rest : List Effect) → IsAwaited entries i a → ¬ Contains taken i →
-    IsCompletedBy Goes entries (i ∷ returns) s taken (x ∷ rest) →
+pub takes_first : {S : Type 0} (Goes : S → Call × Reply → S → Type 0) {entries : List Observation} {i : ℕ}
+    {a : Observation} (returns : List ℕ) {s : S} {taken : List ℕ} (x : Effect) (rest : List Effect) →
+    IsAwaited entries i a → ¬ Contains taken i → IsCompletedBy Goes entries (i ∷ returns) s taken (x ∷ rest) →
     (t : S) × (MayTake Goes entries a s taken x t × IsCompletedBy Goes entries (i ∷ returns) t (x.index ∷ taken) rest)
-takes_first Goes entries i a returns s taken x rest awaited not_yet by = (
+takes_first Goes returns x rest awaited not_yet by = (
   by.runs.0,
-  takes_next Goes entries i a returns s by.runs.0 taken (λ (y : Effect). ⊥) x awaited not_yet
+  takes_next Goes returns by.runs.0 (λ (y : Effect). ⊥) awaited not_yet
       (λ y is none. absurd none) at_first by.runs.1.0 by.runs.1.1 by,
 )
 
 -- nothing is left to take effect only where the return is not awaited
-pub never_empty : {S : Type 0} (Goes : S → Call × Reply → S →
-    Type 0) (entries : List Observation) (i : ℕ) (returns : List ℕ) (s : S) (taken : List ℕ) → ¬ Contains taken i →
-    ¬ IsCompletedBy Goes entries (i ∷ returns) s taken []
-never_empty Goes entries i returns s taken not_yet by = neither
-    (All-head (λ (j : ℕ). Contains taken j ⊎ Contains (indices_of []) j) i returns by.returned)
+pub never_empty : {S : Type 0} (Goes : S → Call × Reply → S → Type 0) (entries : List Observation) (i : ℕ)
+    (returns : List ℕ) (s : S) (taken : List ℕ) → ¬ Contains taken i → ¬ IsCompletedBy Goes entries
+    (i ∷ returns) s taken []
+never_empty Goes entries i returns s taken not_yet by = neither (All-head
+    (λ (j : ℕ). Contains taken j ⊎ Contains (indices_of []) j) i returns by.returned)
   where
     neither : Contains taken i ⊎ Contains (indices_of []) i → ⊥
     neither (inl has) = not_yet has
     neither (inr has) = none_in_empty i has
 
 -- and conversely: a call that may take effect, and an order that completes what it leaves, make an order
-pub puts_first : {S : Type 0} (Goes : S → Call × Reply → S →
-    Type 0) (entries : List Observation) (a : Observation) (returns : List ℕ) (s t : S) (taken : List ℕ) (x : Effect)
-    (rest : List Effect) → IsFirstReturn entries taken a → MayTake Goes entries a s taken x t →
-    IsCompletedBy Goes entries returns t (x.index ∷ taken) rest → IsCompletedBy Goes entries returns s taken (x ∷ rest)
-puts_first {S} Goes entries a returns s t taken x rest first may by = record {
+pub puts_first : {S : Type 0} (Goes : S → Call × Reply → S → Type 0) {entries : List Observation} {a : Observation}
+    {returns : List ℕ} {s t : S} {taken : List ℕ} {x : Effect} {rest : List Effect} → IsFirstReturn entries taken a →
+    MayTake Goes entries a s taken x t → IsCompletedBy Goes entries returns t (x.index ∷ taken) rest →
+    IsCompletedBy Goes entries returns s taken (x ∷ rest)
+puts_first {S} Goes {entries} {returns} {t} {taken} {x} {rest} first may by = record {
   effects = All-cons (IsEffectOf entries) x rest may.effect by.effects;
   once = pairs_cons AreOfTwoEntries x rest (λ k d lt. apart (get_or rest k d) (by.fresh k d lt)) by.once;
   fresh = All-cons (λ (y : Effect). ¬ Contains taken y.index) x rest may.fresh

@@ -31,19 +31,19 @@ use Rattle.stamp_explain.specs.ExplainLaws.{UnchangingCallsChangeNothing}
 record Stays (t : Option Transition) (reply : Reply) : Type 0 where
   stays : Replies t reply → appended_by t ≡ []
 
-stays_if : (b : Bool) (x y : Option Transition) (reply : Reply) → (b ≡ true → Stays x reply) →
+stays_if : (b : Bool) (x y : Option Transition) {reply : Reply} → (b ≡ true → Stays x reply) →
     (b ≡ false → Stays y reply) → Stays (if b then x else y) reply
-stays_if true x y reply t f = t refl
-stays_if false x y reply t f = f refl
+stays_if true x y t f = t refl
+stays_if false x y t f = f refl
 
-stays_answer : (r reply : Reply) → Stays (answer r) reply
-stays_answer r reply = record { stays = λ _. refl }
+stays_answer : (r : Reply) {reply : Reply} → Stays (answer r) reply
+stays_answer r = record { stays = λ _. refl }
 
-stays_none : (reply : Reply) → Stays None reply
-stays_none reply = record { stays = λ h. absurd h }
+stays_none : {reply : Reply} → Stays None reply
+stays_none = record { stays = λ h. absurd h }
 
-stays_other : (events : List LockEvent) (r reply : Reply) → (r ≡ reply → ⊥) → Stays (change events r) reply
-stays_other events r reply other = record { stays = λ h. absurd (other h) }
+stays_other : (events : List LockEvent) (r : Reply) {reply : Reply} → (r ≡ reply → ⊥) → Stays (change events r) reply
+stays_other events r other = record { stays = λ h. absurd (other h) }
 
 -- what the units are to one another
 record AreLaidOut (u : Units) : Type 0 where
@@ -58,14 +58,12 @@ laid_out l = by (units_of l) (either_layout l)
     by u (inl h) = record {
       writer = omega (arith, h.1);
       readers = omega (arith, h.1, h.2);
-      version =
-          omega (arith, h.0, h.1);
+      version = omega (arith, h.0, h.1);
     }
     by u (inr h) = record {
       writer = omega (arith, h.1);
       readers = omega (arith, h.1, h.2);
-      version =
-          omega (arith, h.0, h.1);
+      version = omega (arith, h.0, h.1);
     }
 
 stamp_inj : (a b : ℕ) → Stamp a ≡ Stamp b → a ≡ b
@@ -75,15 +73,11 @@ zero_or_own : (r s : ℕ) → ((r == 0) || (r == s)) ≡ true → (r ≡ 0) ⊎ 
 zero_or_own r s h = grind (arith, nat_tests)
 
 -- stamps that are acquired are not 0
-write_some : (u : Units) (k r : ℕ) → AreLaidOut u → r ≡ 0 → Stamp (write_stamp u k) ≡ Stamp r → ⊥
-write_some u k r are none e = let n : write_stamp u k ≡ r = stamp_inj (write_stamp u k) r e in omega arith
+write_some : {u : Units} (k r : ℕ) → AreLaidOut u → r ≡ 0 → Stamp (write_stamp u k) ≡ Stamp r → ⊥
+write_some {u} k r are none e = let n : write_stamp u k ≡ r = stamp_inj (write_stamp u k) r e in omega arith
 
-read_some : (u : Units) (k c r : ℕ) → AreLaidOut u → r ≡ 0 → Stamp (read_stamp u k c) ≡ Stamp r → ⊥
-read_some u k c r are none e = let n : read_stamp u k c ≡ r = stamp_inj (read_stamp u k c) r e in omega arith
-
-optimistic_some : (u : Units) (k r : ℕ) → AreLaidOut u → r ≡ 0 → Stamp (optimistic_stamp u k) ≡ Stamp r → ⊥
-optimistic_some u k r are none e = let n : optimistic_stamp u k ≡ r = stamp_inj (optimistic_stamp u k) r e in
-    omega arith
+read_some : {u : Units} (k c r : ℕ) → AreLaidOut u → r ≡ 0 → Stamp (read_stamp u k c) ≡ Stamp r → ⊥
+read_some {u} k c r are none e = let n : read_stamp u k c ≡ r = stamp_inj (read_stamp u k c) r e in omega arith
 
 -- what the tests say of a stamp
 write_number : (u : Units) (c : Counts) (s : ℕ) → is_held_write u c s ≡ true → s ≡ u.version * c.write_count + u.writer
@@ -109,73 +103,69 @@ other_stamp : (n r s : ℕ) → (r ≡ 0) ⊎ (r ≡ s) → 0 < n → n ≢ s �
 other_stamp n r s (inl zero) some other e = let m : n ≡ r = stamp_inj n r e in omega arith
 other_stamp n r s (inr own) some other e = other (stamp_inj n r e ∙ own)
 
-to_write_stays : (l : Bounds) (c : Counts) (s r : ℕ) → AreLaidOut (units l) → (r ≡ 0) ⊎ (r ≡ s) →
-    Stays (row l c (ToWrite s)) (Stamp r)
+to_write_stays : (l : Bounds) (c : Counts) (s r : ℕ) → AreLaidOut (units l) →
+    (r ≡ 0) ⊎ (r ≡ s) → Stays (row l c (ToWrite s)) (Stamp r)
 to_write_stays l c s r are own =
-    stays_if (is_held_write (units l) c s) _ _ _ (λ _. stays_answer _ _)
-    (λ _. stays_if (is_held_read (units l) c s && (c.readers == 1) && nat_lt c.write_count l.versions) _ _ _
+    stays_if (is_held_write (units l) c s) _ _ (λ _. stays_answer _) (λ _. stays_if
+    (is_held_read (units l) c s && (c.readers == 1) && nat_lt c.write_count l.versions) _ _
     (λ b. let high = read_high (units l) c s (and_first (is_held_read (units l) c s) (c.readers == 1)
     (nat_lt c.write_count l.versions) b) in
-    stays_other _ _ _ (other_stamp (write_stamp (units l) (c.write_count + 1)) r s own (omega arith)
+    stays_other _ _ (other_stamp (write_stamp (units l) (c.write_count + 1)) r s own (omega arith)
     (λ e. omega arith)))
-    (λ _. stays_if ((s == optimistic_stamp (units l) c.write_count) && may_write l c) _ _ _
+    (λ _. stays_if ((s == optimistic_stamp (units l) c.write_count) && may_write l c) _ _
     (λ b. let same = optimistic_number (units l) c.write_count s (may_write l c) b in
-    stays_other _ _ _ (other_stamp (write_stamp (units l) (c.write_count + 1)) r s own (omega arith)
+    stays_other _ _ (other_stamp (write_stamp (units l) (c.write_count + 1)) r s own (omega arith)
     (λ e. omega arith)))
-    (λ _. stays_answer _ _)))
+    (λ _. stays_answer _)))
 
-to_read_stays : (l : Bounds) (c : Counts) (s r : ℕ) → AreLaidOut (units l) → (r ≡ 0) ⊎ (r ≡ s) →
-    Stays (row l c (ToRead s)) (Stamp r)
+to_read_stays : (l : Bounds) (c : Counts) (s r : ℕ) → AreLaidOut (units l) →
+    (r ≡ 0) ⊎ (r ≡ s) → Stays (row l c (ToRead s)) (Stamp r)
 to_read_stays l c s r are own =
-    stays_if (is_held_write (units l) c s) _ _ _
-    (λ b. let same = write_number (units l) c s b in
-    stays_other _ _ _ (other_stamp (read_stamp (units l) c.write_count 1) r s own (omega arith) (λ e. omega arith)))
-    (λ _. stays_if (is_held_read (units l) c s) _ _ _ (λ _. stays_answer _ _)
-    (λ _. stays_if ((s == optimistic_stamp (units l) c.write_count) && may_read l c) _ _ _
+    stays_if (is_held_write (units l) c s) _ _ (λ b. let same = write_number (units l) c s b in
+    stays_other _ _ (other_stamp (read_stamp (units l) c.write_count 1) r s own (omega arith) (λ e. omega arith)))
+    (λ _. stays_if (is_held_read (units l) c s) _ _ (λ _. stays_answer _)
+    (λ _. stays_if ((s == optimistic_stamp (units l) c.write_count) && may_read l c) _ _
     (λ b. let same = optimistic_number (units l) c.write_count s (may_read l c) b in
-    stays_other _ _ _ (other_stamp (read_stamp (units l) c.write_count (c.readers + 1)) r s own (omega arith)
+    stays_other _ _ (other_stamp (read_stamp (units l) c.write_count (c.readers + 1)) r s own (omega arith)
     (λ e. omega arith)))
-    (λ _. stays_answer _ _)))
+    (λ _. stays_answer _)))
 
-to_optimistic_stays : (l : Bounds) (c : Counts) (s r : ℕ) → AreLaidOut (units l) → (r ≡ 0) ⊎ (r ≡ s) →
-    Stays (row l c (ToOptimistic s)) (Stamp r)
+to_optimistic_stays : (l : Bounds) (c : Counts) (s r : ℕ) → AreLaidOut (units l) →
+    (r ≡ 0) ⊎ (r ≡ s) → Stays (row l c (ToOptimistic s)) (Stamp r)
 to_optimistic_stays l c s r are own =
-    stays_if (is_held_write (units l) c s) _ _ _
-    (λ b. let same = write_number (units l) c s b in
-    stays_other _ _ _ (other_stamp (optimistic_stamp (units l) c.write_count) r s own (omega arith)
+    stays_if (is_held_write (units l) c s) _ _ (λ b. let same = write_number (units l) c s b in
+    stays_other _ _ (other_stamp (optimistic_stamp (units l) c.write_count) r s own (omega arith)
     (λ e. omega arith)))
-    (λ _. stays_if (is_held_read (units l) c s) _ _ _
+    (λ _. stays_if (is_held_read (units l) c s) _ _
     (λ b. let low = read_low (units l) c s b in
-    stays_other _ _ _ (other_stamp (optimistic_stamp (units l) c.write_count) r s own (omega arith)
+    stays_other _ _ (other_stamp (optimistic_stamp (units l) c.write_count) r s own (omega arith)
     (λ e. omega arith)))
-    (λ _. stays_if ((s == optimistic_stamp (units l) c.write_count) && (c.writers == 0)) _ _ _ (λ _. stays_answer _ _)
-    (λ _. stays_answer _ _)))
+    (λ _. stays_if ((s == optimistic_stamp (units l) c.write_count) && (c.writers == 0)) _ _ (λ _. stays_answer _)
+    (λ _. stays_answer _)))
 
 row_stays : (l : Bounds) (c : Counts) (call : Call) (reply : Reply) → AreLaidOut (units l) →
     changes_nothing call reply ≡ true → Stays (row l c call) reply
-row_stays l c TryWrite (Stamp s) are h = stays_if (may_write l c) _ _ _
-    (λ _. stays_other _ _ _ (write_some (units l) (c.write_count + 1) s are (eqb-true s 0 h))) (λ _. stays_answer _ _)
+row_stays l c TryWrite (Stamp s) are h = stays_if (may_write l c) _ _ (λ _. stays_other _ _
+    (write_some (c.write_count + 1) s are (eqb-true s 0 h))) (λ _. stays_answer _)
 row_stays l c TryWrite _ are h = absurd (false≢true h)
-row_stays l c TryRead (Stamp s) are h = stays_if (may_read l c) _ _ _
-    (λ _. stays_other _ _ _ (read_some (units l) c.write_count (c.readers + 1) s are (eqb-true s 0 h)))
-    (λ _. stays_answer _ _)
+row_stays l c TryRead (Stamp s) are h = stays_if (may_read l c) _ _ (λ _. stays_other _ _
+    (read_some c.write_count (c.readers + 1) s are (eqb-true s 0 h))) (λ _. stays_answer _)
 row_stays l c TryRead _ are h = absurd (false≢true h)
-row_stays l c WriteLock (Stamp s) are h = stays_if (c.write_count == l.versions) _ _ _ (λ _. stays_answer _ _)
-    (λ _. stays_if (may_write l c) _ _ _ (λ _. stays_other _ _ _
-    (write_some (units l) (c.write_count + 1) s are (eqb-true s 0 h))) (λ _. stays_none _))
+row_stays l c WriteLock (Stamp s) are h = stays_if (c.write_count == l.versions) _ _ (λ _. stays_answer _)
+    (λ _. stays_if (may_write l c) _ _ (λ _. stays_other _ _ (write_some (c.write_count + 1) s are (eqb-true s 0 h)))
+    (λ _. stays_none))
 row_stays l c WriteLock _ are h = absurd (false≢true h)
 row_stays l c ReadLock _ are h = absurd (false≢true h)
-row_stays l c Optimistic _ are h = stays_answer _ _
-row_stays l c (Validate s) _ are h = stays_answer _ _
-row_stays l c (UnlockWrite s) Mismatch are h = stays_if (is_held_write (units l) c s) _ _ _
-    (λ _. stays_other _ _ _ (λ e. cc)) (λ _. stays_answer _ _)
+row_stays l c Optimistic _ are h = stays_answer _
+row_stays l c (Validate s) _ are h = stays_answer _
+row_stays l c (UnlockWrite s) Mismatch are h = stays_if (is_held_write (units l) c s) _ _
+    (λ _. stays_other _ _ (λ e. cc)) (λ _. stays_answer _)
 row_stays l c (UnlockWrite s) _ are h = absurd (false≢true h)
-row_stays l c (UnlockRead s) Mismatch are h = stays_if (is_held_read (units l) c s) _ _ _
-    (λ _. stays_other _ _ _ (λ e. cc)) (λ _. stays_answer _ _)
+row_stays l c (UnlockRead s) Mismatch are h = stays_if (is_held_read (units l) c s) _ _
+    (λ _. stays_other _ _ (λ e. cc)) (λ _. stays_answer _)
 row_stays l c (UnlockRead s) _ are h = absurd (false≢true h)
-row_stays l c (Unlock s) Mismatch are h = stays_if (is_held_write (units l) c s) _ _ _
-    (λ _. stays_other _ _ _ (λ e. cc)) (λ _. stays_if (is_held_read (units l) c s) _ _ _
-    (λ _. stays_other _ _ _ (λ e. cc)) (λ _. stays_answer _ _))
+row_stays l c (Unlock s) Mismatch are h = stays_if (is_held_write (units l) c s) _ _ (λ _. stays_other _ _ (λ e. cc))
+    (λ _. stays_if (is_held_read (units l) c s) _ _ (λ _. stays_other _ _ (λ e. cc)) (λ _. stays_answer _))
 row_stays l c (Unlock s) _ are h = absurd (false≢true h)
 row_stays l c (ToWrite s) (Stamp r) are h = to_write_stays l c s r are (zero_or_own r s h)
 row_stays l c (ToWrite s) _ are h = absurd (false≢true h)
@@ -183,18 +173,18 @@ row_stays l c (ToRead s) (Stamp r) are h = to_read_stays l c s r are (zero_or_ow
 row_stays l c (ToRead s) _ are h = absurd (false≢true h)
 row_stays l c (ToOptimistic s) (Stamp r) are h = to_optimistic_stays l c s r are (zero_or_own r s h)
 row_stays l c (ToOptimistic s) _ are h = absurd (false≢true h)
-row_stays l c TryUnlockWrite No are h = stays_if (c.writers == 1) _ _ _ (λ _. stays_other _ _ _ (λ e. cc))
-    (λ _. stays_answer _ _)
+row_stays l c TryUnlockWrite No are h = stays_if (c.writers == 1) _ _ (λ _. stays_other _ _ (λ e. cc))
+    (λ _. stays_answer _)
 row_stays l c TryUnlockWrite _ are h = absurd (false≢true h)
-row_stays l c TryUnlockRead No are h = stays_if (nat_lt 0 c.readers) _ _ _ (λ _. stays_other _ _ _ (λ e. cc))
-    (λ _. stays_answer _ _)
+row_stays l c TryUnlockRead No are h = stays_if (nat_lt 0 c.readers) _ _ (λ _. stays_other _ _ (λ e. cc))
+    (λ _. stays_answer _)
 row_stays l c TryUnlockRead _ are h = absurd (false≢true h)
-row_stays l c IsWriteLocked _ are h = stays_answer _ _
-row_stays l c IsReadLocked _ are h = stays_answer _ _
-row_stays l c ReadCount _ are h = stays_answer _ _
-row_stays l c Get _ are h = stays_none _
-row_stays l c (Put words) _ are h = stays_none _
-row_stays l c (PutIf expected words) _ are h = stays_none _
+row_stays l c IsWriteLocked _ are h = stays_answer _
+row_stays l c IsReadLocked _ are h = stays_answer _
+row_stays l c ReadCount _ are h = stays_answer _
+row_stays l c Get _ are h = stays_none
+row_stays l c (Put words) _ are h = stays_none
+row_stays l c (PutIf expected words) _ are h = stays_none
 
 -- events to which none is appended
 none_more : (events appended : List LockEvent) → appended ≡ [] → events ++ appended ≡ events
@@ -235,9 +225,8 @@ appended_none limits events content call reply are h replies =
 pub unchanging_calls_change_nothing : UnchangingCallsChangeNothing
 unchanging_calls_change_nothing limits call reply s t h steps =
     steps.next ∙ both (s.0 ++ appended_by (transition limits s.0 call)) (content_next s.1 call reply)
-    (none_more s.0 (appended_by (transition limits s.0 call))
-    (appended_none limits s.0 s.1 call reply (laid_out limits.layout) h steps.replies))
-    (content_stays s.1 call reply h)
+    (none_more s.0 (appended_by (transition limits s.0 call)) (appended_none limits s.0 s.1 call reply
+    (laid_out limits.layout) h steps.replies)) (content_stays s.1 call reply h)
   where
     both : (events : List LockEvent) (content : List ℕ) → events ≡ s.0 → content ≡ s.1 → (events, content) ≡ s
     both events content e c = ap (λ (x : List LockEvent). (x, content)) e ∙ ap (λ (y : List ℕ). (s.0, y)) c

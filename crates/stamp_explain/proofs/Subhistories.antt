@@ -26,8 +26,8 @@ pub record ReadSoFar (p : Observation → Bool) (i : ℕ) (es read : List Observ
 
 pub all_read : (p : Observation → Bool) (i : ℕ) (es read : List Observation) (indices : List ℕ) → length es ≤ i →
     ReadSoFar p i es read indices → read ≡ filter p es
-all_read p i es read indices over so_far = sym (append-nil read) ∙
-    ap (λ (xs : List Observation). read ++ filter p xs) (sym (drop_of_length-le es over)) ∙ so_far.are
+all_read p i es read indices over so_far = sym (append-nil read) ∙ ap (λ (xs : List Observation). read ++ filter p xs)
+    (sym (drop_of_length-le es over)) ∙ so_far.are
 
 -- it is no larger
 pub of_object_small : (h : ObservedHistory) (lock : Bool) → IsSmall h → IsSmall (of_object lock h)
@@ -38,9 +38,9 @@ of_object_small h lock small = record {
 }
 
 -- it may be observed
-pub subhistory_observed : (h : ObservedHistory) (lock : Bool) (sub : Subhistory) → IsObserved h →
+pub subhistory_observed : {h : ObservedHistory} {lock : Bool} {sub : Subhistory} → IsObserved h →
     IsSubhistoryOf h lock sub → IsObserved sub.history
-subhistory_observed h lock sub observed is = subst IsObserved (sym is.history)
+subhistory_observed {h} {lock} observed is = subst IsObserved (sym is.history)
     (part_observed h (is_of_object lock) observed)
 
 pub subhistory_entries : (h : ObservedHistory) (lock : Bool) (sub : Subhistory) → IsSubhistoryOf h lock sub →
@@ -54,9 +54,9 @@ pub record IsSameCall (h : ObservedHistory) (lock : Bool) (sub : Subhistory) (k 
   pub is_entry : slice_get h.entries i ≡ Some e
   pub kind : is_of_object lock e ≡ true
 
-same_kept : (h : ObservedHistory) (lock : Bool) (sub : Subhistory) (k i : ℕ) (e : Observation) →
+same_kept : {h : ObservedHistory} {lock : Bool} {sub : Subhistory} {k i : ℕ} {e : Observation} →
     IsSubhistoryOf h lock sub → IsKeptAt (is_of_object lock) h.entries k i e → IsSameCall h lock sub k i e
-same_kept h lock sub k i e is at = record {
+same_kept {h} {lock} {sub} {k} {i} {e} is at = record {
   index = subst (λ (ns : List ℕ). slice_get ns k ≡ Some i) (sym is.indices)
       (indices_at (is_of_object lock) 0 h.entries k e at.is_kept ∙ ap (λ (n : ℕ). Some n) (omega (arith, at.index)));
   is_own = subst (λ (es : List Observation). slice_get es k ≡ Some e) (sym (subhistory_entries h lock sub is))
@@ -64,23 +64,6 @@ same_kept h lock sub k i e is at = record {
   is_entry = at.is_entry;
   kind = at.passes;
 }
-
--- each of its calls stands in the whole, and each call of its object stands in it
-pub same_in_whole : (h : ObservedHistory) (lock : Bool) (sub : Subhistory) (k : ℕ) (e : Observation) →
-    IsSubhistoryOf h lock sub → slice_get sub.history.entries k ≡ Some e → (i : ℕ) × IsSameCall h lock sub k i e
-same_in_whole h lock sub k e is at =
-    let found : (i : ℕ) × IsKeptAt (is_of_object lock) h.entries k i e =
-    index_gives (is_of_object lock) h.entries k e
-    (subst (λ (es : List Observation). slice_get es k ≡ Some e) (subhistory_entries h lock sub is) at) in
-    (found.0, same_kept h lock sub k found.0 e is found.1)
-
-pub same_in_part : (h : ObservedHistory) (lock : Bool) (sub : Subhistory) (i : ℕ) (e : Observation) →
-    IsSubhistoryOf h lock sub → slice_get h.entries i ≡ Some e → is_of_object lock e ≡ true →
-    (k : ℕ) × IsSameCall h lock sub k i e
-same_in_part h lock sub i e is at kind =
-    let found : (k : ℕ) × IsKeptAt (is_of_object lock) h.entries k i e =
-    rank_gives (is_of_object lock) h.entries i e at kind in
-    (found.0, same_kept h lock sub found.0 i e is found.1)
 
 -- the indices rise
 no_sooner : (p : Observation → Bool) (n : ℕ) (es : List Observation) → All (λ (i : ℕ). n ≤ i) (indices_where p n es)
@@ -100,23 +83,18 @@ rising p n (e ∷ es) = by (p e) (rising p (n + 1) es)
     by : (b : Bool) → AllPairs (λ (i j : ℕ). i < j) (indices_where p (n + 1) es) →
         AllPairs (λ (i j : ℕ). i < j) (cond b (n ∷ indices_where p (n + 1) es) (indices_where p (n + 1) es))
     by true all = pairs_cons (λ (i j : ℕ). i < j) n (indices_where p (n + 1) es)
-        (All-weaker (λ (i : ℕ). n + 1 ≤ i) (λ (i : ℕ). n < i) (λ i le. omega (arith, le))
-        (indices_where p (n + 1) es) (no_sooner p (n + 1) es)) all
+        (All-weaker (λ (i : ℕ). n + 1 ≤ i) (λ (i : ℕ). n < i) (λ i le. omega (arith, le)) (indices_where p (n + 1) es)
+        (no_sooner p (n + 1) es)) all
     by false all = all
 
-pub indices_rise : (h : ObservedHistory) (lock : Bool) (sub : Subhistory) → IsSubhistoryOf h lock sub →
-    AllPairs (λ (i j : ℕ). i < j) sub.indices.items
-indices_rise h lock sub is = subst (AllPairs (λ (i j : ℕ). i < j)) (sym is.indices)
-    (rising (is_of_object lock) 0 h.entries)
-
 -- all calls are of the lock where there is no record
-all_pass : (p : Observation → Bool) (es : List Observation) → All (λ (e : Observation). p e ≡ true) es → filter p es
-    ≡ es
+all_pass : (p : Observation → Bool) (es : List Observation) → All (λ (e : Observation). p e ≡ true) es →
+    filter p es ≡ es
 all_pass p [] passes = refl
 all_pass p (e ∷ es) passes =
-    ap (λ (b : Bool). if b then (e ∷ filter p es) else filter p es)
-    (All-head (λ (e : Observation). p e ≡ true) e es passes) ∙
-    ap (λ (xs : List Observation). e ∷ xs) (all_pass p es (All-tail (λ (e : Observation). p e ≡ true) e es passes))
+    ap (λ (b : Bool). if b then (e ∷ filter p es) else filter p es) (All-head
+    (λ (e : Observation). p e ≡ true) e es passes) ∙ ap (λ (xs : List Observation). e ∷ xs)
+    (all_pass p es (All-tail (λ (e : Observation). p e ≡ true) e es passes))
 
 pub all_of_lock : (h : ObservedHistory) → IsObserved h → h.width ≡ 0 → of_lock h ≡ h
 all_of_lock h observed none = ap (λ (es : List Observation). record h { entries = es })
@@ -133,9 +111,9 @@ none_pass : (p : Observation → Bool) (es : List Observation) → All (λ (e : 
     filter p es ≡ []
 none_pass p [] fails = refl
 none_pass p (e ∷ es) fails =
-    ap (λ (b : Bool). if b then (e ∷ filter p es) else filter p es)
-    (All-head (λ (e : Observation). p e ≡ false) e es fails) ∙
-    none_pass p es (All-tail (λ (e : Observation). p e ≡ false) e es fails)
+    ap (λ (b : Bool). if b then (e ∷ filter p es) else filter p es) (All-head
+    (λ (e : Observation). p e ≡ false) e es fails) ∙ none_pass p es (All-tail
+    (λ (e : Observation). p e ≡ false) e es fails)
 
 -- and none of the record
 pub none_of_record : (h : ObservedHistory) → IsObserved h → h.width ≡ 0 → (of_record h).entries ≡ []
