@@ -4,33 +4,23 @@ use Rattle.std.proofs.Common.{length, get_or, refl, sym, ◌∙◌, ap, inl, inr
 use Rattle.std.specs.Prelude.{slice_get, if◌then◌else◌, nat_lt, ◌==◌, ◌&&◌, ◌||◌}
 use Rattle.std.specs.List.{Contains}
 use Rattle.std.proofs.lemmas.List.{get_or_default, nil_from_length}
-use Rattle.std.proofs.lemmas.List.Elements.{All-nil}
 use Rattle.std.proofs.lemmas.Bool.Decides.{nat_tests}
 use Rattle.std.proofs.lemmas.Option.{none-some, slice_get_within}
 use Rattle.std.proofs.lemmas.Bool.{cases_lt, true≢false}
 use Rattle.stamp_explain.specs.declared.observed.Observation.{Observation}
 use Rattle.stamp_explain.specs.declared.observed.Returned.{Returned}
 use Rattle.stamp_explain.specs.Observed.{ObservedHistory, IsObserved, IsReturnAt}
-use Rattle.stamp_explain.specs.Explained.{IsEffectOf, AreOfTwoEntries, RespectsBefore, IsExplained, IsExplainedBy}
+use Rattle.stamp_explain.specs.Explained.{IsExplained}
 use Rattle.stamp_explain.specs.Cut.{cut_entry, cut_entries, returned_by, cut, seen_at, IsStuck}
 use Rattle.stamp_explain.specs.TimelineKeys.{IsSooner, AreReturnKeys, IsReturnKey}
 use Rattle.stamp_explain.specs.Configuration.{GivesUpApart}
 use Rattle.stamp_explain.specs.Linearization.{IsLinearizationOf}
 use Rattle.stamp_explain.specs.Answer.{IsUndecided, IsLastOrGivesUp, IsUnexplained, IsNotFound}
-use Rattle.stamp_explain.proofs.Lists.{pairs_none, none_in_empty}
-use Rattle.stamp_explain.proofs.Cutting.{cuts_stay_explained}
+use Rattle.stamp_explain.proofs.Lists.{none_in_empty}
+use Rattle.stamp_explain.proofs.Cutting.{cuts_stay_explained, explained_by_none}
 use Rattle.stamp_explain.proofs.Seeing.{seen_explains_as_much}
 
 -- where no call returned
-explained_by_none : (h : ObservedHistory) → ((i : ℕ) → ¬ IsReturnAt h.entries i) → IsExplainedBy h []
-explained_by_none h none = record {
-  effects = All-nil (IsEffectOf h.entries);
-  once = pairs_none AreOfTwoEntries;
-  returned = λ i e at has. absurd (none i (record { entry = e; return = has.0; is_entry = at; returned = has.1 }));
-  ordered = pairs_none RespectsBefore;
-  legal = tt;
-}
-
 pub order_of_none : (h : ObservedHistory) (ends : List (ℕ × ℕ)) → AreReturnKeys h.entries ends → length ends ≡ 0 →
     IsLinearizationOf h []
 order_of_none h ends are none = record {
