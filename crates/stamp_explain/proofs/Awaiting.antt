@@ -21,10 +21,9 @@ use Rattle.stamp_explain.specs.Timeline.{IsTimeline, IsAwaitedAt, IsOpenAt, AreO
 use Rattle.stamp_explain.specs.Node.{ClearsBit}
 use Rattle.stamp_explain.specs.Expand.{Hope, GoesOn, ComesByOneMove, ComesByMove, IsTakenTo}
 use Rattle.stamp_explain.specs.Expand.{IsSettled}
-use Rattle.stamp_explain.specs.Expand.{Suffice}
 use Rattle.stamp_explain.proofs.Finding.{ArePending, not_before_itself}
 use Rattle.stamp_explain.proofs.Completing.{IsAwaited}
-use Rattle.stamp_explain.proofs.Searching.{CompletesIn, GoesPast, GoesOnBy, goes_on}
+use Rattle.stamp_explain.proofs.Searching.{CompletesIn}
 use Rattle.stamp_explain.proofs.Standing.{taken_by_bit, taken_past}
 use Rattle.stamp_explain.proofs.Expanding.{orderly, next_awaited, in_take}
 use Rattle.stamp_explain.proofs.Lists.{none_in_empty, contains_cases, contains_first}
@@ -174,36 +173,6 @@ leads_past h asked timeline node a threads is bit clears = record {
     stands = stands_past h timeline node a threads s taken is bit clears stands;
   };
 }
-
-pub suffices_past : (h : ObservedHistory) (timeline : Timeline) (node : Node) (a : Observation) (threads : ℕ) →
-    Awaits h timeline node a → bit_at node.threads a.thread ≡ 1 → ClearsBit node.threads threads a.thread →
-    Suffice h timeline.returns.items node (past_of node threads ∷ [])
-suffices_past h timeline node a threads is bit clears n hope =
-    goes (goes_on h.limits h.entries i a (drop (suc node.past) timeline.returns.items) hope.state hope.taken n
-    (the_awaited h timeline node a is) (hope_completes h timeline node a n is hope))
-  where
-    i : ℕ
-    i = get_or timeline.returns.items node.past 0
-
-    next : Next
-    next = past_of node threads
-
-    next_left : drop (suc node.past) timeline.returns.items ≡ drop next.node.past timeline.returns.items
-    next_left = ap (λ (k : ℕ). drop k timeline.returns.items) (one_more node.past)
-
-    goes : GoesPast (StateTransition h.limits) h.entries i (drop (suc node.past) timeline.returns.items) hope.state
-        hope.taken n ⊎
-        GoesOnBy h.limits h.entries i a (drop (suc node.past) timeline.returns.items) hope.state hope.taken n →
-        GoesOn h timeline.returns.items (next ∷ []) n
-    goes (inl past) =
-        let P : List ℕ → Type 0 = λ (to_come : List ℕ). CompletesIn (StateTransition h.limits) h.entries to_come
-        hope.state hope.taken past.left in
-        goes_on_to h timeline.returns.items (next ∷ []) next hope.state hope.taken past.left n (alone next)
-        (omega (arith, past.fewer))
-        (stands_past h timeline node a threads hope.state hope.taken is bit clears hope.stands)
-        (subst P next_left past.completes)
-    goes (inr on) = absurd (on.awaited
-        (awaited_in_effect h timeline node a hope.state hope.taken is bit hope.stands))
 
 -- what is behind so many of a list is in the rest
 pub in_drop : (xs : List ℕ) (n k j : ℕ) → n ≤ k → k < length xs → get_or xs k j ≡ j → Contains (drop n xs) j

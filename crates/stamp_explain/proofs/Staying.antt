@@ -81,10 +81,6 @@ write_some u k r are none e = let n : write_stamp u k ≡ r = stamp_inj (write_s
 read_some : (u : Units) (k c r : ℕ) → AreLaidOut u → r ≡ 0 → Stamp (read_stamp u k c) ≡ Stamp r → ⊥
 read_some u k c r are none e = let n : read_stamp u k c ≡ r = stamp_inj (read_stamp u k c) r e in omega arith
 
-optimistic_some : (u : Units) (k r : ℕ) → AreLaidOut u → r ≡ 0 → Stamp (optimistic_stamp u k) ≡ Stamp r → ⊥
-optimistic_some u k r are none e = let n : optimistic_stamp u k ≡ r = stamp_inj (optimistic_stamp u k) r e in
-    omega arith
-
 -- what the tests say of a stamp
 write_number : (u : Units) (c : Counts) (s : ℕ) → is_held_write u c s ≡ true → s ≡ u.version * c.write_count + u.writer
 write_number u c s h = grind (arith, nat_tests)

@@ -12,9 +12,6 @@ pub record AreSoundBelow (h : ObservedHistory) (k : ℕ) : Type 0 where
   pub alone : (i : ℕ) (d : Observation) → i < k → MayBeTold h.width (get_or h.entries i d)
   pub apart : (i j : ℕ) (d : Observation) → i < j → j < k → DoNotOverlap (get_or h.entries i d) (get_or h.entries j d)
 
-pub none_below : (h : ObservedHistory) → AreSoundBelow h 0
-none_below h = record { alone = λ i d lt. absurd (omega arith); apart = λ i j d lt less. absurd (omega arith) }
-
 pub one_below : (h : ObservedHistory) (k : ℕ) (e : Observation) → k < length h.entries → e ≡ get_or h.entries k e →
     AreSoundBelow h k → MayBeTold h.width e → All (λ (other : Observation). DoNotOverlap other e) (take k h.entries) →
     AreSoundBelow h (k + 1)
@@ -45,14 +42,6 @@ one_below h k e within read below sound apart = record {
         subst (λ (n : ℕ). DoNotOverlap (get_or h.entries i d) (get_or h.entries n d)) (sym same)
         (subst (λ (o : Observation). DoNotOverlap (get_or h.entries i d) o) (here d)
         (subst (λ (o : Observation). DoNotOverlap o e) (get_or-take k h.entries i d sooner) (apart i d taken)))
-
-pub all_below : (h : ObservedHistory) (k : ℕ) → length h.entries ≤ k → AreSoundBelow h k → IsObserved h
-all_below h k all below = record {
-  intervals = λ i d lt. (below.alone i d (omega arith)).interval;
-  apart = λ i j d lt within. below.apart i j d lt (omega arith);
-  threads = λ i d lt. (below.alone i d (omega arith)).thread;
-  suit = λ i d lt. (below.alone i d (omega arith)).suits;
-}
 
 -- an entry that breaks something
 pub not_alone : (h : ObservedHistory) (k : ℕ) (e : Observation) → k < length h.entries → e ≡ get_or h.entries k e →
