@@ -21,10 +21,9 @@ use Rattle.stamp_explain.specs.Timeline.{IsTimeline, IsAwaitedAt, IsOpenAt, AreO
 use Rattle.stamp_explain.specs.Node.{ClearsBit}
 use Rattle.stamp_explain.specs.Expand.{Hope, GoesOn, ComesByOneMove, ComesByMove, IsTakenTo}
 use Rattle.stamp_explain.specs.Expand.{IsSettled}
-use Rattle.stamp_explain.specs.Expand.{Suffice}
 use Rattle.stamp_explain.proofs.Finding.{ArePending, not_before_itself}
 use Rattle.stamp_explain.proofs.Completing.{IsAwaited}
-use Rattle.stamp_explain.proofs.Searching.{CompletesIn, GoesPast, GoesOnBy, goes_on}
+use Rattle.stamp_explain.proofs.Searching.{CompletesIn}
 use Rattle.stamp_explain.proofs.Standing.{taken_by_bit, taken_past}
 use Rattle.stamp_explain.proofs.Expanding.{orderly, next_awaited, in_take}
 use Rattle.stamp_explain.proofs.Lists.{none_in_empty, contains_cases, contains_first}

@@ -1,308 +1,106 @@
 -- The first return at which no order is found.
-use Rattle.std.proofs.Common.{◌≡◌, ◌⊎◌, ℕ, ◌+◌, ◌<◌, ◌≤◌, suc, Bool, true, false, List, [], ◌∷◌, length, Global}
-use Rattle.std.proofs.Common.{◌-◌, ◌/◌, get_or, refl, sym, ◌∙◌, ap, subst, inl, inr, arith, Option, None, Some, Vec}
+use Rattle.std.proofs.Common.{◌≡◌, ◌⊎◌, ℕ, ◌+◌, ◌<◌, ◌≤◌, zero, suc, Bool, true, false, List, [], ◌∷◌}
+use Rattle.std.proofs.Common.{length, get_or, refl, sym, ◌∙◌, ap, inl, inr, arith, Option, None, Some}
 use Rattle.std.specs.Prelude.{slice_get, if◌then◌else◌, nat_lt, ◌==◌, ◌&&◌, ◌||◌}
-use Rattle.std.specs.List.{AllPairs, AllZip, Contains}
-use Rattle.std.proofs.lemmas.List.Elements.{All-nil}
+use Rattle.std.specs.List.{Contains}
+use Rattle.std.proofs.lemmas.List.{get_or_default, nil_from_length}
 use Rattle.std.proofs.lemmas.Bool.Decides.{nat_tests}
-use Rattle.std.proofs.lemmas.Option.{none-some, slice_get_within, get_or_from_slice_get, slice_get-get_or, same_Some}
-use Rattle.std.proofs.lemmas.Bool.{false≢true, cases_order}
+use Rattle.std.proofs.lemmas.Option.{none-some, slice_get_within}
+use Rattle.std.proofs.lemmas.Bool.{cases_lt, true≢false}
 use Rattle.stamp_explain.specs.declared.observed.Observation.{Observation}
 use Rattle.stamp_explain.specs.declared.observed.Returned.{Returned}
-use Rattle.stamp_explain.specs.declared.found.SearchEnd.{SearchEnd}
-use Rattle.stamp_explain.specs.declared.found.SearchEnd.TheVariants.{Linearization, NoOrder, GaveUp}
-use Rattle.stamp_explain.specs.Observed.{ObservedHistory, IsObserved, HasReturned, IsReturnAt}
-use Rattle.stamp_explain.specs.Explained.{IsEffectOf, AreOfTwoEntries, RespectsBefore, IsExplained, IsExplainedBy}
+use Rattle.stamp_explain.specs.Observed.{ObservedHistory, IsObserved, IsReturnAt}
+use Rattle.stamp_explain.specs.Explained.{IsExplained}
 use Rattle.stamp_explain.specs.Cut.{cut_entry, cut_entries, returned_by, cut, seen_at, IsStuck}
-use Rattle.stamp_explain.specs.TimelineKeys.{IsSooner, AreReturnKeys, ReturnsAt}
+use Rattle.stamp_explain.specs.TimelineKeys.{IsSooner, AreReturnKeys, IsReturnKey}
 use Rattle.stamp_explain.specs.Configuration.{GivesUpApart}
 use Rattle.stamp_explain.specs.Linearization.{IsLinearizationOf}
-use Rattle.stamp_explain.specs.Expand.{IsFoundApart}
 use Rattle.stamp_explain.specs.Answer.{IsUndecided, IsLastOrGivesUp, IsUnexplained, IsNotFound}
-use Rattle.stamp_explain.proofs.Lists.{pairs_none, none_in_empty}
-use Rattle.stamp_explain.proofs.Cutting.{IsLessKnown, cuts_stay_explained, less_known, zip_back}
+use Rattle.stamp_explain.proofs.Lists.{none_in_empty}
+use Rattle.stamp_explain.proofs.Cutting.{cuts_stay_explained, explained_by_none}
 use Rattle.stamp_explain.proofs.Seeing.{seen_explains_as_much}
-use Rattle.stamp_explain.specs.declared.linearization.OrderedCall.{OrderedCall}
-
--- a call known by one test, and known so far by another
-returned_then : (l b i : ℕ) (e : Observation) (r : Returned) → (cut_entry l b i e).returned ≡ Some r →
-    (e.returned ≡ Some r) × (returned_by l b i (Some r) ≡ true)
-returned_then l b i e r at = by (returned_by l b i e.returned) refl at
-  where
-    by : (t : Bool) → returned_by l b i e.returned ≡ t →
-        (if t then e else record e { returned = None }).returned ≡ Some r →
-        (e.returned ≡ Some r) × (returned_by l b i (Some r) ≡ true)
-    by true is at = (at, ap (returned_by l b i) (sym at) ∙ is)
-    by false is at = absurd (none-some r at)
-
-same_call : (l b i : ℕ) (e : Observation) → ((cut_entry l b i e).call ≡ e.call) × ((cut_entry l b i e).first ≡ e.first)
-same_call l b i e = by (returned_by l b i e.returned)
-  where
-    by : (t : Bool) → ((if t then e else record e { returned = None }).call ≡ e.call) ×
-        ((if t then e else record e { returned = None }).first ≡ e.first)
-    by true = (refl, refl)
-    by false = (refl, refl)
-
-less_known_of : (m c i : ℕ) (e k : Observation) → k.call ≡ e.call → k.first ≡ e.first →
-    ((r : Returned) → k.returned ≡ Some r → (e.returned ≡ Some r) × (returned_by m c i (Some r) ≡ true)) →
-    IsLessKnown (cut_entry m c i e) k
-less_known_of m c i e k call first was = by (returned_by m c i e.returned) refl
-  where
-    by : (t : Bool) → returned_by m c i e.returned ≡ t →
-        IsLessKnown (if t then e else record e { returned = None }) k
-    by true is = record { call = call; first = first; returned = λ r at. (was r at).0 }
-    by false is = record {
-      call = call;
-      first = first;
-      returned = λ r at. absurd (false≢true (sym is ∙ ap (returned_by m c i) (was r at).0 ∙ (was r at).1));
-    }
-
--- what is known by the one test is known by the other
-Knows : ℕ → ℕ → ℕ → ℕ → ℕ → List Observation → Type 0
-Knows l b m c i es = (k : ℕ) (e : Observation) (r : Returned) → slice_get es k ≡ Some e → e.returned ≡ Some r →
-    returned_by l b (i + k) (Some r) ≡ true → returned_by m c (i + k) (Some r) ≡ true
-
-knows_less : (l b m c i : ℕ) (es : List Observation) → Knows l b m c i es →
-    AllZip IsLessKnown (cut_entries m c i es) (cut_entries l b i es)
-unfolding Knows
-knows_less l b m c i [] knows = tt
-knows_less l b m c i (e ∷ es) knows = (
-  less_known_of m c i e (cut_entry l b i e) (same_call l b i e).0 (same_call l b i e).1 (λ r at. here r at),
-  knows_less l b m c (i + 1) es (λ k f r at returned is. subst (λ (n : ℕ). returned_by m c n (Some r) ≡ true)
-      (shifts i k) (knows (suc k) f r at returned (subst (λ (n : ℕ). returned_by l b n (Some r) ≡ true)
-      (sym (shifts i k)) is))),
-)
-  where
-    shifts : (i k : ℕ) → i + suc k ≡ i + 1 + k
-    shifts i k = omega arith
-
-    none : (i : ℕ) → i + 0 ≡ i
-    none i = omega arith
-
-    here : (r : Returned) → (cut_entry l b i e).returned ≡ Some r →
-        (e.returned ≡ Some r) × (returned_by m c i (Some r) ≡ true)
-    here r at =
-        let was : (e.returned ≡ Some r) × (returned_by l b i (Some r) ≡ true) = returned_then l b i e r at in (
-          was.0,
-          subst (λ (n : ℕ). returned_by m c n (Some r) ≡ true) (none i)
-              (knows 0 e r refl was.0 (subst (λ (n : ℕ). returned_by l b n (Some r) ≡ true) (sym (none i)) was.1)),
-        )
-
--- all that returned is known
-KnowsAll : ℕ → ℕ → ℕ → List Observation → Type 0
-KnowsAll m c i es = (k : ℕ) (e : Observation) (r : Returned) → slice_get es k ≡ Some e → e.returned ≡ Some r →
-    returned_by m c (i + k) (Some r) ≡ true
-
-known_whole : (m c i : ℕ) (es : List Observation) → KnowsAll m c i es → cut_entries m c i es ≡ es
-unfolding KnowsAll
-known_whole m c i [] knows = refl
-known_whole m c i (e ∷ es) knows =
-    ap (λ (k : Observation). k ∷ cut_entries m c (i + 1) es) (here e.returned refl) ∙
-    ap (λ (ks : List Observation). e ∷ ks) (known_whole m c (i + 1) es
-    (λ k f r at returned. subst (λ (n : ℕ). returned_by m c n (Some r) ≡ true) (shifts i k)
-    (knows (suc k) f r at returned)))
-  where
-    shifts : (i k : ℕ) → i + suc k ≡ i + 1 + k
-    shifts i k = omega arith
-
-    none : (i : ℕ) → i + 0 ≡ i
-    none i = omega arith
-
-    here : (o : Option Returned) → e.returned ≡ o → cut_entry m c i e ≡ e
-    here None at = by (returned_by m c i e.returned)
-      where
-        by : (t : Bool) → (if t then e else record e { returned = None }) ≡ e
-        by true = refl
-        by false = ap (λ (o : Option Returned). record e { returned = o }) (sym at)
-    here (Some r) at = ap (λ (t : Bool). if t then e else record e { returned = None })
-        (ap (returned_by m c i) at ∙ subst (λ (n : ℕ). returned_by m c n (Some r) ≡ true) (none i)
-        (knows 0 e r refl at))
-
--- nothing is known, and no call need have taken effect
-unknown : (i : ℕ) (es : List Observation) → AllZip (λ (e k : Observation). k.returned ≡ None) es (cut_entries 0 0 i es)
-unknown i [] = tt
-unknown i (e ∷ es) = (by (returned_by 0 0 i e.returned) (never e.returned), unknown (i + 1) es)
-  where
-    never : (o : Option Returned) → returned_by 0 0 i o ≡ false
-    never None = refl
-    never (Some r) = at r.last
-      where
-        at : (n : ℕ) → (nat_lt n 0 || ((n == 0) && nat_lt i 0)) ≡ false
-        at n = grind (arith, nat_tests)
-
-    by : (t : Bool) → t ≡ false → (if t then e else record e { returned = None }).returned ≡ None
-    by true is = absurd (false≢true (sym is))
-    by false is = refl
-
-explained_by_none : (h : ObservedHistory) → ((i : ℕ) (e : Observation) → slice_get h.entries i ≡ Some e →
-    ¬ HasReturned e) → IsExplainedBy h []
-explained_by_none h none = record {
-  effects = All-nil (IsEffectOf h.entries);
-  once = pairs_none AreOfTwoEntries;
-  returned = λ i e at has. absurd (none i e at has);
-  ordered = pairs_none RespectsBefore;
-  legal = tt;
-}
 
 -- where no call returned
 pub order_of_none : (h : ObservedHistory) (ends : List (ℕ × ℕ)) → AreReturnKeys h.entries ends → length ends ≡ 0 →
     IsLinearizationOf h []
 order_of_none h ends are none = record {
   order = [];
-  explains = explained_by_none h (λ i e at has. none_in_empty (has.0.last, i)
-      (subst (λ (ps : List (ℕ × ℕ)). Contains ps (has.0.last, i)) (empty ends none)
-      (are.whole i e has.0.last at (has.0, (has.1, refl)))));
+  explains = explained_by_none h (λ i at. none_in_empty (at.return.last, i)
+      (rw (nil_from_length ends none) at (are.whole i at)));
   are = refl;
 }
+
+-- cuts that know the same returns are one, and one that knows all is the whole
+abbrev IsReturnOf : List Observation → ℕ → ℕ → ℕ → Returned → Type 0
+IsReturnOf es i j k r = (j ≡ i + k) × ((e : Observation) × ((slice_get es k ≡ Some e) × (e.returned ≡ Some r)))
+
+same_cuts : (l b m c i : ℕ) (es : List Observation) → ((j k : ℕ) (r : Returned) → IsReturnOf es i j k r →
+    returned_by l b j (Some r) ≡ returned_by m c j (Some r)) → cut_entries l b i es ≡ cut_entries m c i es
+same_cuts l b m c i [] same = refl
+same_cuts l b m c i (e ∷ es) same =
+    ap (λ (t : Bool). (if t then e else record e { returned = None }) ∷ cut_entries l b (i + 1) es)
+    (here e.returned refl) ∙
+    ap (λ (ks : List Observation). cut_entry m c i e ∷ ks)
+    (same_cuts l b m c (i + 1) es (λ j k r is. same j (suc k) r (omega (arith, is.0), is.1)))
   where
-    empty : (ps : List (ℕ × ℕ)) → length ps ≡ 0 → ps ≡ []
-    empty [] h = refl
-    empty (p ∷ ps) h = absurd (omega arith)
+    here : (o : Option Returned) → e.returned ≡ o → returned_by l b i o ≡ returned_by m c i o
+    here None is = refl
+    here (Some r) is = same i 0 r (omega arith, (e, (refl, is)))
 
-explained_unknown : (h : ObservedHistory) → IsExplained (cut 0 0 h)
-explained_unknown h = record { order = []; by = explained_by_none (cut 0 0 h) (λ i k at has. none i k at has) }
+known_whole : (l b i : ℕ) (es : List Observation) → ((j k : ℕ) (r : Returned) → IsReturnOf es i j k r →
+    returned_by l b j (Some r) ≡ true) → cut_entries l b i es ≡ es
+known_whole l b i [] known = refl
+known_whole l b i (e ∷ es) known =
+    ap (λ (k : Observation). k ∷ cut_entries l b (i + 1) es) (here e.returned refl) ∙
+    ap (λ (ks : List Observation). e ∷ ks)
+    (known_whole l b (i + 1) es (λ j k r is. known j (suc k) r (omega (arith, is.0), is.1)))
   where
-    none : (i : ℕ) (k : Observation) → slice_get (cut_entries 0 0 0 h.entries) i ≡ Some k → ¬ HasReturned k
-    none i k at has =
-        let was : (e : Observation) × ((slice_get h.entries i ≡ Some e) × (k.returned ≡ None)) =
-        zip_back (λ (e k : Observation). k.returned ≡ None) h.entries (cut_entries 0 0 0 h.entries) i k
-        (unknown 0 h.entries) at in
-        none-some has.0 (sym was.1.1 ∙ has.1)
+    here : (o : Option Returned) → e.returned ≡ o → cut_entry l b i e ≡ e
+    here None is = rw is
+    here (Some r) is = rw (is, known i 0 r (omega arith, (e, (refl, is))))
 
--- the order of returns
-by_test : (p : ℕ × ℕ) (i : ℕ) (r : Returned) → returned_by p.0 p.1 i (Some r) ≡ true → IsSooner (r.last, i) p
-by_test p i r is = by r.last p.0 p.1 is
+-- what returned in a cut had returned by then
+cut_returned : (l b i : ℕ) (es : List Observation) (j k : ℕ) → j ≡ i + k → (at : IsReturnAt (cut_entries l b i es) k) →
+    (there : IsReturnAt es k) × (returned_by l b j (Some there.return) ≡ true)
+cut_returned l b i [] j k is at = absurd (none-some at.entry at.is_entry)
+cut_returned l b i (e ∷ es) j zero is at = by (returned_by l b i e.returned) refl at.is_entry
   where
-    by : (n l b : ℕ) → (nat_lt n l || ((n == l) && nat_lt i b)) ≡ true → (n < l) ⊎ ((n ≡ l) × (i < b))
-    by n l b is = grind (arith, nat_tests)
-
-test_by : (l b i : ℕ) (r : Returned) → (r.last < l) ⊎ ((r.last ≡ l) × (i < b)) → returned_by l b i (Some r) ≡ true
-test_by l b i r (inl less) = by r.last less
+    by : (t : Bool) → returned_by l b i e.returned ≡ t →
+        Some (if t then e else record e { returned = None }) ≡ Some at.entry →
+        (there : IsReturnAt (e ∷ es) zero) × (returned_by l b j (Some there.return) ≡ true)
+    by true so same =
+        let has : e.returned ≡ Some at.return = cc in
+        let here : j ≡ i = omega arith in
+        (record { entry = e; return = at.return; is_entry = refl; returned = has }, rw here (rw has at so))
+    by false so same = absurd (cc)
+cut_returned l b i (e ∷ es) j (suc k) is at =
+    let found : (there : IsReturnAt es k) × (returned_by l b j (Some there.return) ≡ true) =
+    cut_returned l b (i + 1) es j k (omega arith) (shorter at) in (longer found.0, found.1)
   where
-    by : (n : ℕ) → n < l → (nat_lt n l || ((n == l) && nat_lt i b)) ≡ true
-    by n less = grind (arith, nat_tests)
-test_by l b i r (inr (same, less)) = by r.last same
-  where
-    by : (n : ℕ) → n ≡ l → (nat_lt n l || ((n == l) && nat_lt i b)) ≡ true
-    by n same = grind (arith, nat_tests)
+    shorter : IsReturnAt (cut_entries l b i (e ∷ es)) (suc k) → IsReturnAt (cut_entries l b (i + 1) es) k
+    shorter a = record { entry = a.entry; return = a.return; is_entry = a.is_entry; returned = a.returned }
 
-never_both : (p q : ℕ × ℕ) → IsSooner p q → ¬ IsSooner q p
-never_both p q (inl a) (inl b) = omega (arith, a, b)
-never_both p q (inl a) (inr b) = omega (arith, a, b.0)
-never_both p q (inr a) (inl b) = omega (arith, a.0, b)
-never_both p q (inr a) (inr b) = omega (arith, a.1, b.1)
+    longer : IsReturnAt es k → IsReturnAt (e ∷ es) (suc k)
+    longer a = record { entry = a.entry; return = a.return; is_entry = a.is_entry; returned = a.returned }
 
-irreflexive : (p : ℕ × ℕ) → ¬ IsSooner p p
-irreflexive p less = never_both p p less less
+-- the order of returns, by the tests of a cut before one, and after it
+abbrev IsNotAfter : ℕ × ℕ → ℕ × ℕ → Type 0
+IsNotAfter p q = (p.0 < q.0) ⊎ ((p.0 ≡ q.0) × (p.1 ≤ q.1))
 
--- where a return stands among the others
-sooner_at : (ends : List (ℕ × ℕ)) (n m : ℕ) (p x : ℕ × ℕ) → AllPairs IsSooner ends → slice_get ends m ≡ Some p →
-    get_or ends n x ≡ x → n < m → IsSooner x p
-sooner_at ends n m p x in_order at is less = subst (λ (y : ℕ × ℕ). IsSooner y p) is
-    (subst (λ (q : ℕ × ℕ). IsSooner (get_or ends n x) q) (get_or_from_slice_get ends m p x at)
-    (in_order n m x less (slice_get_within ends m p at)))
+abbrev is_by : ℕ → ℕ → ℕ × ℕ → Bool
+is_by l b p = nat_lt p.0 l || ((p.0 == l) && nat_lt p.1 b)
 
-same_at : (ends : List (ℕ × ℕ)) (n m : ℕ) (p x : ℕ × ℕ) → slice_get ends m ≡ Some p → get_or ends n x ≡ x → n ≡ m →
-    x ≡ p
-same_at ends n m p x at is same = sym is ∙ ap (λ (k : ℕ). get_or ends k x) same ∙ get_or_from_slice_get ends m p x at
+known_before : (p q : ℕ × ℕ) → IsSooner p q → is_by q.0 q.1 p ≡ true
+known_before p q sooner = grind (arith, nat_tests)
 
-later_at : (ends : List (ℕ × ℕ)) (n m : ℕ) (p x : ℕ × ℕ) → AllPairs IsSooner ends → slice_get ends m ≡ Some p →
-    n < length ends → get_or ends n x ≡ x → m < n → IsSooner p x
-later_at ends n m p x in_order at lt is more = subst (λ (y : ℕ × ℕ). IsSooner p y) is
-    (subst (λ (q : ℕ × ℕ). IsSooner q (get_or ends n x)) (get_or_from_slice_get ends m p x at)
-    (in_order m n x more lt))
+known_after : (p q : ℕ × ℕ) → IsNotAfter p q → is_by q.0 (q.1 + 1) p ≡ true
+known_after p q no_later = grind (arith, nat_tests)
 
--- what returned no later than this is known after it
-known_after : (ends : List (ℕ × ℕ)) (n m k : ℕ) (p : ℕ × ℕ) (r : Returned) → AllPairs IsSooner ends →
-    slice_get ends m ≡ Some p → get_or ends n (r.last, k) ≡ (r.last, k) → n ≤ m →
-    returned_by p.0 (p.1 + 1) k (Some r) ≡ true
-known_after ends n m k p r in_order at is le = by (cases_order n m)
-  where
-    more : IsSooner (r.last, k) p → (r.last < p.0) ⊎ ((r.last ≡ p.0) × (k < p.1 + 1))
-    more (inl less) = inl less
-    more (inr (same, less)) = inr (same, omega (arith, less))
+unknown_before : (p q : ℕ × ℕ) → IsNotAfter q p → is_by q.0 q.1 p ≡ false
+unknown_before p q no_sooner = grind (arith, nat_tests)
 
-    there : (r.last, k) ≡ p → (r.last < p.0) ⊎ ((r.last ≡ p.0) × (k < p.1 + 1))
-    there same = inr (ap (λ (q : ℕ × ℕ). q.0) same, omega (arith, ap (λ (q : ℕ × ℕ). q.1) same))
-
-    by : (n ≡ m) ⊎ ((n < m) ⊎ (m < n)) → returned_by p.0 (p.1 + 1) k (Some r) ≡ true
-    by (inl same) = test_by p.0 (p.1 + 1) k r (there (same_at ends n m p (r.last, k) at is same))
-    by (inr (inl less)) = test_by p.0 (p.1 + 1) k r (more (sooner_at ends n m p (r.last, k) in_order at is less))
-    by (inr (inr over)) = absurd (omega (arith, over, le))
-
-from_zero : (l b k : ℕ) (r : Returned) → returned_by l b (0 + k) (Some r) ≡ true → returned_by l b k (Some r) ≡ true
-from_zero l b k r is = subst (λ (n : ℕ). returned_by l b n (Some r) ≡ true) (omega arith) is
-
-to_zero : (l b k : ℕ) (r : Returned) → returned_by l b k (Some r) ≡ true → returned_by l b (0 + k) (Some r) ≡ true
-to_zero l b k r is = subst (λ (n : ℕ). returned_by l b n (Some r) ≡ true) (omega arith) is
-
--- until the first return nothing is known
-explained_at_first : (h : ObservedHistory) (ends : List (ℕ × ℕ)) (p : ℕ × ℕ) → AreReturnKeys h.entries ends →
-    slice_get ends 0 ≡ Some p → IsExplained (cut p.0 p.1 h)
-unfolding Knows
-explained_at_first h ends p are at = less_known (cut 0 0 h) (cut_entries p.0 p.1 0 h.entries)
-    (knows_less p.0 p.1 0 0 0 h.entries (λ k e r here returned is. absurd (none k e r here returned
-    (from_zero p.0 p.1 k r is))))
-    (explained_unknown h)
-  where
-    none : (k : ℕ) (e : Observation) (r : Returned) → slice_get h.entries k ≡ Some e → e.returned ≡ Some r →
-        ¬ (returned_by p.0 p.1 k (Some r) ≡ true)
-    none k e r here returned is = by (are.whole k e r.last here (r, (returned, refl)))
-      where
-        less : IsSooner (r.last, k) p
-        less = by_test p k r is
-
-        by : Contains ends (r.last, k) → ⊥
-        by (n, lt, same) = which (cases_order n 0)
-          where
-            which : (n ≡ 0) ⊎ ((n < 0) ⊎ (0 < n)) → ⊥
-            which (inl zero_is) = irreflexive p (subst (λ (x : ℕ × ℕ). IsSooner x p)
-                (same_at ends n 0 p (r.last, k) at same zero_is) less)
-            which (inr (inl below)) = absurd (omega (arith, below))
-            which (inr (inr more)) = never_both (r.last, k) p less
-                (later_at ends n 0 p (r.last, k) are.in_order at lt same more)
-
--- what is known before a return was known after the one before it
-explained_at_next : (h : ObservedHistory) (ends : List (ℕ × ℕ)) (m : ℕ) (p q : ℕ × ℕ) → AreReturnKeys h.entries ends →
-    slice_get ends m ≡ Some p → slice_get ends (m + 1) ≡ Some q → IsExplained (cut p.0 (p.1 + 1) h) →
-    IsExplained (cut q.0 q.1 h)
-unfolding Knows
-explained_at_next h ends m p q are at next explained = less_known (cut p.0 (p.1 + 1) h)
-    (cut_entries q.0 q.1 0 h.entries)
-    (knows_less q.0 q.1 p.0 (p.1 + 1) 0 h.entries (λ k e r here returned is. to_zero p.0 (p.1 + 1) k r
-    (known k e r here returned (from_zero q.0 q.1 k r is)))) explained
-  where
-    known : (k : ℕ) (e : Observation) (r : Returned) → slice_get h.entries k ≡ Some e → e.returned ≡ Some r →
-        returned_by q.0 q.1 k (Some r) ≡ true → returned_by p.0 (p.1 + 1) k (Some r) ≡ true
-    known k e r here returned is = by (are.whole k e r.last here (r, (returned, refl)))
-      where
-        less : IsSooner (r.last, k) q
-        less = by_test q k r is
-
-        by : Contains ends (r.last, k) → returned_by p.0 (p.1 + 1) k (Some r) ≡ true
-        by (n, lt, same) = which (cases_order n (m + 1))
-          where
-            which : (n ≡ m + 1) ⊎ ((n < m + 1) ⊎ (m + 1 < n)) → returned_by p.0 (p.1 + 1) k (Some r) ≡ true
-            which (inl next_is) = absurd (irreflexive q (subst (λ (x : ℕ × ℕ). IsSooner x q)
-                (same_at ends n (m + 1) q (r.last, k) next same next_is) less))
-            which (inr (inl below)) = known_after ends n m k p r are.in_order at same (omega (arith, below))
-            which (inr (inr more)) = absurd (never_both (r.last, k) q less
-                (later_at ends n (m + 1) q (r.last, k) are.in_order next lt same more))
-
--- after the last return all is known
-known_at_last : (h : ObservedHistory) (ends : List (ℕ × ℕ)) (m : ℕ) (p : ℕ × ℕ) → AreReturnKeys h.entries ends →
-    slice_get ends m ≡ Some p → length ends ≤ m + 1 → cut p.0 (p.1 + 1) h ≡ h
-unfolding KnowsAll
-known_at_last h ends m p are at last = ap (λ (es : List Observation). record h { entries = es })
-    (known_whole p.0 (p.1 + 1) 0 h.entries (λ k e r here returned. to_zero p.0 (p.1 + 1) k r
-    (known k e r here returned)))
-  where
-    known : (k : ℕ) (e : Observation) (r : Returned) → slice_get h.entries k ≡ Some e → e.returned ≡ Some r →
-        returned_by p.0 (p.1 + 1) k (Some r) ≡ true
-    known k e r here returned = by (are.whole k e r.last here (r, (returned, refl)))
-      where
-        by : Contains ends (r.last, k) → returned_by p.0 (p.1 + 1) k (Some r) ≡ true
-        by (n, lt, same) = known_after ends n m k p r are.in_order at same (omega (arith, lt, last))
+unknown_after : (p q : ℕ × ℕ) → IsSooner q p → is_by q.0 (q.1 + 1) p ≡ false
+unknown_after p q later = grind (arith, nat_tests)
 
 -- no order was found after this return
 abbrev pub IsAbove : ObservedHistory → ℕ → ℕ × ℕ → Bool → Bool → Type 0
@@ -310,8 +108,8 @@ IsAbove h most p unexplained true = ¬ IsExplained (cut p.0 (p.1 + 1) h)
 IsAbove h most p true false = GivesUpApart (seen_at p.0 (p.1 + 1) h) most
 IsAbove h most p false false = IsLastOrGivesUp h most p.0 (p.1 + 1)
 
-contained : (ends : List (ℕ × ℕ)) (k : ℕ) (p : ℕ × ℕ) → slice_get ends k ≡ Some p → Contains ends p
-contained ends k p at = (k, slice_get_within ends k p at, get_or_from_slice_get ends k p p at)
+abbrev pub end_at : List (ℕ × ℕ) → ℕ → ℕ × ℕ
+end_at ends k = get_or ends k (0, 0)
 
 -- the history is explained until the return at `low`, and no order was found after that at `high`; it is known to be
 -- unexplained, or the search of the whole gave up
@@ -320,196 +118,170 @@ pub record IsBetween (h : ObservedHistory) (most : ℕ) (unexplained : Bool) (en
   where
     pub order : low ≤ high
     pub inside : high < length ends
-    pub below : (p : ℕ × ℕ) → slice_get ends low ≡ Some p → IsExplained (cut p.0 p.1 h)
-    pub above : (p : ℕ × ℕ) → slice_get ends high ≡ Some p → IsAbove h most p unexplained stuck
+    pub below : IsExplained (cut (end_at ends low).0 (end_at ends low).1 h)
+    pub above : IsAbove h most (end_at ends high) unexplained stuck
     pub whole : IsNotFound h most unexplained
 
-pub between_at_first : (h : ObservedHistory) (most : ℕ) (ends : List (ℕ × ℕ)) (high : ℕ) (stuck : Bool) →
-    AreReturnKeys h.entries ends → IsNotFound h most stuck → high + 1 ≡ length ends →
-    IsBetween h most stuck ends 0 high stuck
-between_at_first h most ends high stuck are not_found last = record {
-  order = omega arith;
-  inside = omega (arith, last);
-  below = λ p at. explained_at_first h ends p are at;
-  above = λ p at. by p at stuck not_found;
-  whole = not_found;
-}
-  where
-    by : (p : ℕ × ℕ) → slice_get ends high ≡ Some p → (b : Bool) → IsNotFound h most b → IsAbove h most p b b
-    by p at true none = λ explained. none (subst IsExplained (known_at_last h ends high p are at (omega (arith, last)))
-        explained)
-    by p at false many = inl (known_at_last h ends high p are at (omega (arith, last)))
+module _ (h : ObservedHistory) (ends : List (ℕ × ℕ)) (are : AreReturnKeys h.entries ends) where
+  -- where the return of a call stands among the others
+  place : (j k : ℕ) (r : Returned) → IsReturnOf h.entries 0 j k r →
+      (n : ℕ) × (n < length ends) × (end_at ends n ≡ (r.last, j))
+  place j k r (is, (e, (at, returned))) =
+      let same : j ≡ k = omega arith in
+      let has : Contains ends (r.last, k) =
+      are.whole k (record { entry = e; return = r; is_entry = at; returned = returned }) in
+      rw same (has.0, has.1, get_or_default ends has.0 (0, 0) (r.last, k) has.1 ∙ has.2)
 
-pub between_above : (h : ObservedHistory) (most : ℕ) (unexplained : Bool) (ends : List (ℕ × ℕ)) (low high middle :
-    ℕ) (stuck : Bool)
-    (p : ℕ × ℕ) → IsObserved h → AreReturnKeys h.entries ends → IsBetween h most unexplained ends low high stuck →
-    middle < high →
-    slice_get ends middle ≡ Some p → IsExplained (seen_at p.0 (p.1 + 1) h) →
-    IsBetween h most unexplained ends (middle + 1) high stuck
-between_above h most unexplained ends low high middle stuck p observed are is less at explained = record {
-  order = omega (arith, less);
-  inside = is.inside;
-  below = λ q next. explained_at_next h ends middle p q are at next
-      ((seen_explains_as_much h p.0 (p.1 + 1) observed).1.1 explained);
-  above = is.above;
-  whole = is.whole;
-}
+  not_after : (n m : ℕ) → n ≤ m → m < length ends → IsNotAfter (end_at ends n) (end_at ends m)
+  not_after n m le lt = elim (cases_lt n m) [
+    | inl less ↦ weaker (end_at ends n) (end_at ends m) (are.in_order n m (0, 0) less lt)
+    | inr over ↦
+        let same : n ≡ m = omega arith in
+        rw same (inr (refl, omega arith))
+  ]
+    where
+      weaker : (p q : ℕ × ℕ) → IsSooner p q → IsNotAfter p q
+      weaker p q sooner = grind arith
 
-pub between_below : (h : ObservedHistory) (most : ℕ) (unexplained : Bool) (ends : List (ℕ × ℕ)) (low high middle :
-    ℕ) (stuck : Bool)
-    (p : ℕ × ℕ) → IsObserved h → IsBetween h most unexplained ends low high stuck → low ≤ middle → middle < high →
-    slice_get ends middle ≡ Some p → ¬ IsExplained (seen_at p.0 (p.1 + 1) h) →
-    IsBetween h most true ends low middle true
-between_below h most unexplained ends low high middle stuck p observed is le less at none = record {
-  order = le;
-  inside = omega (arith, less, is.inside);
-  below = is.below;
-  above = λ q here explained. none ((seen_explains_as_much h p.0 (p.1 + 1) observed).1.0
-      (subst (λ (x : ℕ × ℕ). IsExplained (cut x.0 (x.1 + 1) h)) (same_Some q p (sym here ∙ at)) explained));
-  whole = λ explained. none ((seen_explains_as_much h p.0 (p.1 + 1) observed).1.0
-      (cuts_stay_explained h p.0 (p.1 + 1) explained));
-}
+  -- what is known before a return was known after the one before it
+  known_next : (m : ℕ) → m + 1 < length ends → cut (end_at ends m).0 ((end_at ends m).1 + 1) h ≡
+      cut (end_at ends (m + 1)).0 (end_at ends (m + 1)).1 h
+  known_next m lt = ap (λ (es : List Observation). record h { entries = es })
+      (same_cuts (end_at ends m).0 ((end_at ends m).1 + 1) (end_at ends (m + 1)).0 (end_at ends (m + 1)).1 0 h.entries
+      alike)
+    where
+      alike : (j k : ℕ) (r : Returned) → IsReturnOf h.entries 0 j k r →
+          returned_by (end_at ends m).0 ((end_at ends m).1 + 1) j (Some r) ≡
+          returned_by (end_at ends (m + 1)).0 (end_at ends (m + 1)).1 j (Some r)
+      alike j k r is =
+          let at : (n : ℕ) × (n < length ends) × (end_at ends n ≡ (r.last, j)) = place j k r is in
+          elim (cases_lt at.0 (m + 1)) [
+            | inl less ↦
+                (rw at.2 at (known_after (end_at ends at.0) (end_at ends m)
+                (not_after at.0 m (omega arith) (omega arith)))) ∙
+                sym (rw at.2 at (known_before (end_at ends at.0) (end_at ends (m + 1))
+                (are.in_order at.0 (m + 1) (0, 0) less lt)))
+            | inr le ↦
+                (rw at.2 at (unknown_after (end_at ends at.0) (end_at ends m)
+                (are.in_order m at.0 (0, 0) (omega arith) at.1))) ∙
+                sym (rw at.2 at (unknown_before (end_at ends at.0) (end_at ends (m + 1)) (not_after (m + 1) at.0 le
+                at.1)))
+          ]
 
-pub between_undecided : (h : ObservedHistory) (most : ℕ) (unexplained : Bool) (ends : List (ℕ × ℕ)) (low high middle
-    : ℕ) (stuck : Bool)
-    (p : ℕ × ℕ) → IsBetween h most unexplained ends low high stuck → low ≤ middle → middle < high →
-    slice_get ends middle ≡ Some p → GivesUpApart (seen_at p.0 (p.1 + 1) h) most →
-    IsBetween h most unexplained ends low middle false
-between_undecided h most unexplained ends low high middle stuck p is le less at given_up = record {
-  order = le;
-  inside = omega (arith, less, is.inside);
-  below = is.below;
-  above = λ q here. by q unexplained (subst (λ (x : ℕ × ℕ). GivesUpApart (seen_at x.0 (x.1 + 1) h) most)
-      (same_Some p q (sym at ∙ here)) given_up);
-  whole = is.whole;
-}
-  where
-    by : (q : ℕ × ℕ) (b : Bool) → GivesUpApart (seen_at q.0 (q.1 + 1) h) most → IsAbove h most q b false
-    by q true given_up = given_up
-    by q false given_up = inr given_up
+  -- until the first return nothing is known, and after the last all is
+  explained_at_first : 0 < length ends → IsExplained (cut (end_at ends 0).0 (end_at ends 0).1 h)
+  explained_at_first some = record { order = []; by = explained_by_none (cut (end_at ends 0).0 (end_at ends 0).1 h) none }
+    where
+      none : (i : ℕ) → ¬ IsReturnAt (cut_entries (end_at ends 0).0 (end_at ends 0).1 0 h.entries) i
+      none i at =
+          let found : (there : IsReturnAt h.entries i) ×
+          (returned_by (end_at ends 0).0 (end_at ends 0).1 i (Some there.return) ≡ true) =
+          cut_returned (end_at ends 0).0 (end_at ends 0).1 0 h.entries i i (omega arith) at in
+          let n : (n : ℕ) × (n < length ends) × (end_at ends n ≡ (found.0.return.last, i)) =
+          place i i found.0.return (omega arith, (found.0.entry, (found.0.is_entry, found.0.returned))) in
+          true≢false (sym found.1 ∙ rw n.2 at (unknown_before (end_at ends n.0) (end_at ends 0)
+          (not_after 0 n.0 (omega arith) n.1)))
 
--- the call whose return is where the two meet
-record IsMet (h : ObservedHistory) (most : ℕ) (unexplained stuck : Bool) (p : ℕ × ℕ) : Type 0 where
-  at : IsReturnAt h.entries p.1
-  explained : IsExplained (cut at.return.last p.1 h)
-  above : IsAbove h most (at.return.last, p.1) unexplained stuck
+  known_at_last : (m : ℕ) → m + 1 ≡ length ends → cut (end_at ends m).0 ((end_at ends m).1 + 1) h ≡ h
+  known_at_last m last = ap (λ (es : List Observation). record h { entries = es })
+      (known_whole (end_at ends m).0 ((end_at ends m).1 + 1) 0 h.entries (λ j k r is.
+      let at : (n : ℕ) × (n < length ends) × (end_at ends n ≡ (r.last, j)) = place j k r is in
+      rw at.2 at (known_after (end_at ends at.0) (end_at ends m) (not_after at.0 m (omega arith) (omega arith)))))
 
-is_met : (h : ObservedHistory) (most : ℕ) (unexplained stuck : Bool) (ends : List (ℕ × ℕ)) (low high : ℕ) (p : ℕ × ℕ) →
-    AreReturnKeys h.entries ends → IsBetween h most unexplained ends low high stuck → high ≤ low →
-    slice_get ends low ≡ Some p → IsMet h most unexplained stuck p
-is_met h most unexplained stuck ends low high p are is le at =
-    let found : (e : Observation) × ((slice_get h.entries p.1 ≡ Some e) × ReturnsAt e p.0) =
-    are.each p (contained ends low p at) in
-    let last : found.1.1.0.last ≡ p.0 = found.1.1.1.1 in
-    let same : low ≡ high = omega (arith, le, is.order) in
-    record {
-      at = record { entry = found.0; return = found.1.1.0; is_entry = found.1.0; returned = found.1.1.1.0 };
-      explained = subst (λ (n : ℕ). IsExplained (cut n p.1 h)) (sym last) (is.below p at);
-      above = subst (λ (n : ℕ). IsAbove h most (n, p.1) unexplained stuck) (sym last)
-          (is.above p (subst (λ (n : ℕ). slice_get ends n ≡ Some p) same at));
-    }
+  pub between_at_first : (most high : ℕ) (stuck : Bool) → IsNotFound h most stuck → high + 1 ≡ length ends →
+      IsBetween h most stuck ends 0 high stuck
+  between_at_first most high stuck not_found last = record {
+    order = omega arith;
+    inside = omega arith;
+    below = explained_at_first (omega arith);
+    above = by stuck not_found;
+    whole = not_found;
+  }
+    where
+      by : (b : Bool) → IsNotFound h most b → IsAbove h most (end_at ends high) b b
+      by true none = λ explained. none (rw (known_at_last high last) at explained)
+      by false many = inl (known_at_last high last)
 
-pub stuck_between : (h : ObservedHistory) (most : ℕ) (unexplained : Bool) (ends : List (ℕ × ℕ)) (low high : ℕ)
-    (p : ℕ × ℕ) → AreReturnKeys h.entries ends → IsBetween h most unexplained ends low high true → high ≤ low →
-    slice_get ends low ≡ Some p → IsStuck h p.1
-stuck_between h most unexplained ends low high p are is le at =
-    let met : IsMet h most unexplained true p = is_met h most unexplained true ends low high p are is le at in
-    record {
-      at = met.at;
-      explained = met.explained;
-      stuck = met.above;
-    }
+  pub between_above : (most : ℕ) (unexplained : Bool) (low high middle : ℕ) (stuck : Bool) → IsObserved h →
+      IsBetween h most unexplained ends low high stuck → middle < high →
+      IsExplained (seen_at (end_at ends middle).0 ((end_at ends middle).1 + 1) h) →
+      IsBetween h most unexplained ends (middle + 1) high stuck
+  between_above most unexplained low high middle stuck observed is less explained = record {
+    order = omega arith;
+    inside = is.inside;
+    below = rw (known_next middle (omega (arith, is.inside))) at ((seen_explains_as_much h (end_at ends middle).0
+        ((end_at ends middle).1 + 1) observed).1.1 explained);
+    above = is.above;
+    whole = is.whole;
+  }
 
-pub undecided_between : (h : ObservedHistory) (most : ℕ) (ends : List (ℕ × ℕ)) (low high : ℕ) (p : ℕ × ℕ) →
-    AreReturnKeys h.entries ends → IsBetween h most false ends low high false → high ≤ low →
-    slice_get ends low ≡ Some p → IsUndecided h most p.1
-undecided_between h most ends low high p are is le at =
-    let met : IsMet h most false false p = is_met h most false false ends low high p are is le at in
-    record {
-      at = met.at;
-      explained = met.explained;
-      whole = is.whole;
-      undecided = met.above;
-    }
+  pub between_below : (most : ℕ) (unexplained : Bool) (low high middle : ℕ) (stuck : Bool) → IsObserved h →
+      IsBetween h most unexplained ends low high stuck → low ≤ middle → middle < high →
+      ¬ IsExplained (seen_at (end_at ends middle).0 ((end_at ends middle).1 + 1) h) →
+      IsBetween h most true ends low middle true
+  between_below most unexplained low high middle stuck observed is le less none = record {
+    order = le;
+    inside = omega (arith, is.inside);
+    below = is.below;
+    above = λ explained. none (seen explained);
+    whole = λ explained. none (seen (cuts_stay_explained h (end_at ends middle).0 ((end_at ends middle).1 + 1)
+        explained));
+  }
+    where
+      seen : IsExplained (cut (end_at ends middle).0 ((end_at ends middle).1 + 1) h) →
+          IsExplained (seen_at (end_at ends middle).0 ((end_at ends middle).1 + 1) h)
+      seen = (seen_explains_as_much h (end_at ends middle).0 ((end_at ends middle).1 + 1) observed).1.0
 
-pub unexplained_between : (h : ObservedHistory) (most : ℕ) (ends : List (ℕ × ℕ)) (low high : ℕ) (p : ℕ × ℕ) →
-    AreReturnKeys h.entries ends → IsBetween h most true ends low high false → high ≤ low →
-    slice_get ends low ≡ Some p → IsUnexplained h most p.1
-unexplained_between h most ends low high p are is le at =
-    let met : IsMet h most true false p = is_met h most true false ends low high p are is le at in
-    record {
-      at = met.at;
-      explained = met.explained;
-      unexplained = is.whole;
-      gives_up = met.above;
-    }
+  pub between_undecided : (most : ℕ) (unexplained : Bool) (low high middle : ℕ) (stuck : Bool) →
+      IsBetween h most unexplained ends low high stuck → low ≤ middle → middle < high →
+      GivesUpApart (seen_at (end_at ends middle).0 ((end_at ends middle).1 + 1) h) most →
+      IsBetween h most unexplained ends low middle false
+  between_undecided most unexplained low high middle stuck is le less given_up = record {
+    order = le;
+    inside = omega (arith, is.inside);
+    below = is.below;
+    above = by unexplained;
+    whole = is.whole;
+  }
+    where
+      by : (b : Bool) → IsAbove h most (end_at ends middle) b false
+      by true = given_up
+      by false = inr given_up
 
--- what becomes of the two, and of what is known, by what was found between them
-pub data Narrows (low high : ℕ) (unexplained stuck : Bool) (middle l u : ℕ) (x s : Bool) : SearchEnd → Type 0 where
-  above : {order : Vec OrderedCall Global} → l ≡ middle + 1 → u ≡ high → x ≡ unexplained → s ≡ stuck →
-      Narrows low high unexplained stuck middle l u x s (Linearization order)
-  below : l ≡ low → u ≡ middle → x ≡ true → s ≡ true → Narrows low high unexplained stuck middle l u x s NoOrder
-  at_least : l ≡ low → u ≡ middle → x ≡ unexplained → s ≡ false →
-      Narrows low high unexplained stuck middle l u x s GaveUp
+  -- the return where the two meet
+  key_at : (k : ℕ) → k < length ends → IsReturnKey h.entries (end_at ends k)
+  key_at k lt = are.each k (0, 0) lt
 
-pub narrows_so : {low high : ℕ} {unexplained stuck : Bool} {middle l u : ℕ} {x s : Bool} {found it : SearchEnd} →
-    found ≡ it → Narrows low high unexplained stuck middle l u x s it →
-    Narrows low high unexplained stuck middle l u x s found
-narrows_so {low} {high} {unexplained} {stuck} {middle} {l} {u} {x} {s} is narrows =
-    subst (Narrows low high unexplained stuck middle l u x s) (sym is) narrows
+  pub end_inside : (k : ℕ) → k < length ends → (end_at ends k).1 < length h.entries
+  end_inside k lt = slice_get_within h.entries (end_at ends k).1 (key_at k lt).at.entry (key_at k lt).at.is_entry
 
-pub middle_inside : (low high : ℕ) → low < high → low + (high - low) / 2 < high
-middle_inside low high less = omega (arith, less)
+  pub stuck_between : (most : ℕ) (unexplained : Bool) (low high : ℕ) →
+      IsBetween h most unexplained ends low high true → high ≤ low → IsStuck h (end_at ends low).1
+  stuck_between most unexplained low high is le =
+      let same : high ≡ low = omega (arith, is.order) in
+      let key : IsReturnKey h.entries (end_at ends low) = key_at low (omega (arith, is.inside)) in
+      record { at = key.at; explained = rw key.last is.below; stuck = rw key.last (rw same at is.above) }
 
-pub end_at : (ends : List (ℕ × ℕ)) (k : ℕ) → k < length ends →
-    slice_get ends k ≡ Some (get_or ends k (0, 0))
-end_at ends k lt = slice_get-get_or ends k (0, 0) lt
+  pub undecided_between : (most low high : ℕ) → IsBetween h most false ends low high false → high ≤ low →
+      IsUndecided h most (end_at ends low).1
+  undecided_between most low high is le =
+      let same : high ≡ low = omega (arith, is.order) in
+      let key : IsReturnKey h.entries (end_at ends low) = key_at low (omega (arith, is.inside)) in
+      record {
+        at = key.at;
+        explained = rw key.last is.below;
+        whole = is.whole;
+        undecided = rw key.last (rw same at is.above);
+      }
 
-pub end_is_entry : (entries : List Observation) (ends : List (ℕ × ℕ)) (k : ℕ) → AreReturnKeys entries ends →
-    k < length ends → (get_or ends k (0, 0)).1 < length entries
-end_is_entry entries ends k are lt =
-    let p : ℕ × ℕ = get_or ends k (0, 0) in
-    let found : (e : Observation) × ((slice_get entries p.1 ≡ Some e) × ReturnsAt e p.0) =
-    are.each p (contained ends k p (end_at ends k lt)) in
-    slice_get_within entries p.1 found.0 found.1.0
-
-same : (h : ObservedHistory) (most : ℕ) (unexplained : Bool) (ends : List (ℕ × ℕ)) (low high : ℕ) (stuck : Bool)
-    (l u : ℕ) (x s : Bool) → l ≡ low → u ≡ high → x ≡ unexplained → s ≡ stuck →
-    IsBetween h most unexplained ends low high stuck → IsBetween h most x ends l u s
-same h most unexplained ends low high stuck l u x s l_is u_is x_is s_is is =
-    subst (λ (n : ℕ). IsBetween h most x ends n u s) (sym l_is)
-    (subst (λ (n : ℕ). IsBetween h most x ends low n s) (sym u_is)
-    (subst (λ (b : Bool). IsBetween h most b ends low high s) (sym x_is)
-    (subst (λ (b : Bool). IsBetween h most unexplained ends low high b) (sym s_is) is)))
-
-narrowed : (h : ObservedHistory) (most : ℕ) (unexplained : Bool) (ends : List (ℕ × ℕ)) (low high middle : ℕ)
-    (stuck : Bool) (found : SearchEnd) (l u : ℕ) (x s : Bool) → IsObserved h → AreReturnKeys h.entries ends →
-    IsBetween h most unexplained ends low high stuck → low ≤ middle → middle < high →
-    IsFoundApart (seen_at (get_or ends middle (0, 0)).0 ((get_or ends middle (0, 0)).1 + 1) h) most found →
-    Narrows low high unexplained stuck middle l u x s found → IsBetween h most x ends l u s
-narrowed h most unexplained ends low high middle stuck (Linearization order) l u x s observed are is le less found
-    (above l_is u_is x_is s_is) =
-    same h most unexplained ends (middle + 1) high stuck l u x s l_is u_is x_is s_is
-    (between_above h most unexplained ends low high middle stuck (get_or ends middle (0, 0)) observed are is less
-    (end_at ends middle (omega (arith, less, is.inside))) (record { order = found.order; by = found.explains }))
-narrowed h most unexplained ends low high middle stuck NoOrder l u x s observed are is le less found
-    (below l_is u_is x_is s_is) =
-    same h most true ends low middle true l u x s l_is u_is x_is s_is
-    (between_below h most unexplained ends low high middle stuck (get_or ends middle (0, 0)) observed is le less
-    (end_at ends middle (omega (arith, less, is.inside))) found)
-narrowed h most unexplained ends low high middle stuck GaveUp l u x s observed are is le less found
-    (at_least l_is u_is x_is s_is) =
-    same h most unexplained ends low middle false l u x s l_is u_is x_is s_is
-    (between_undecided h most unexplained ends low high middle stuck (get_or ends middle (0, 0)) is le less
-    (end_at ends middle (omega (arith, less, is.inside))) found)
-
--- they are narrowed by what was found at the middle
-pub halved : {h : ObservedHistory} {most : ℕ} {unexplained : Bool} {ends : List (ℕ × ℕ)} {low high : ℕ}
-    {stuck : Bool} {found : SearchEnd} {l u : ℕ} {x s : Bool} → IsObserved h → AreReturnKeys h.entries ends →
-    IsBetween h most unexplained ends low high stuck → low < high →
-    IsFoundApart (seen_at (get_or ends (low + (high - low) / 2) (0, 0)).0
-    ((get_or ends (low + (high - low) / 2) (0, 0)).1 + 1) h) most found →
-    Narrows low high unexplained stuck (low + (high - low) / 2) l u x s found → IsBetween h most x ends l u s
-halved {h} {most} {unexplained} {ends} {low} {high} {stuck} {found} {l} {u} {x} {s} observed are is less there =
-    narrowed h most unexplained ends low high (low + (high - low) / 2) stuck found l u x s observed are is
-    (omega arith) (middle_inside low high less) there
+  pub unexplained_between : (most low high : ℕ) → IsBetween h most true ends low high false → high ≤ low →
+      IsUnexplained h most (end_at ends low).1
+  unexplained_between most low high is le =
+      let same : high ≡ low = omega (arith, is.order) in
+      let key : IsReturnKey h.entries (end_at ends low) = key_at low (omega (arith, is.inside)) in
+      record {
+        at = key.at;
+        explained = rw key.last is.below;
+        unexplained = is.whole;
+        gives_up = rw key.last (rw same at is.above);
+      }

@@ -1,9 +1,10 @@
 -- Lists by their first element.
-use Rattle.std.proofs.Common.{◌≡◌, ◌≢◌, ◌⊎◌, ℕ, ◌<◌, zero, suc, List, [], ◌∷◌, ◌++◌, length, inl, inr, arith}
-use Rattle.std.proofs.Common.{subst}
-use Rattle.std.proofs.lemmas.List.Elements.{Contains-push_cases, All-nil, All-cons, All-head, All-tail}
+use Rattle.std.proofs.Common.{◌≡◌, ◌≢◌, ◌⊎◌, ℕ, ◌<◌, zero, suc, List, [], ◌∷◌, ◌++◌, length, get_or, inl, inr, arith}
+use Rattle.std.proofs.Common.{subst, ap, ◌∙◌, map, refl, Bool, true, false}
+use Rattle.std.proofs.lemmas.List.{get_or-map, get_or_append_left, length-append, length-map}
+use Rattle.std.proofs.lemmas.List.Elements.{Contains-push_cases, All-nil, All-cons, All-head, All-map, All-tail}
 use Rattle.std.proofs.lemmas.Bool.{cases_eq}
-use Rattle.std.specs.Prelude.{drop}
+use Rattle.std.specs.Prelude.{drop, filter, cond}
 use Rattle.std.specs.List.{All, AllPairs, AllZip, Contains}
 
 pub none_in_empty : {X : Type 0} (x : X) → ¬ Contains [] x
@@ -18,6 +19,44 @@ contains_first x xs y e = let lt : 0 < length (x ∷ xs) = omega arith in (0, lt
 
 pub contains_rest : {X : Type 0} (x : X) (xs : List X) (y : X) → Contains xs y → Contains (x ∷ xs) y
 contains_rest x xs y (k, lt, e) = let less : suc k < length (x ∷ xs) = omega arith in (suc k, less, e)
+
+pub contains_map : {X Y : Type 0} (f : X → Y) (xs : List X) (x : X) → Contains xs x → Contains (map f xs) (f x)
+contains_map f xs x (k, lt, e) =
+    let less : k < length (map f xs) = omega (arith, length-map xs f) in
+    (k, less, get_or-map f xs k x (f x) lt ∙ ap f e)
+
+-- an element of a mapped list comes from one of the list
+pub contains_from_map : {X Y : Type 0} (f : X → Y) (xs : List X) (y : Y) → Contains (map f xs) y →
+    (x : X) × (Contains xs x × (f x ≡ y))
+contains_from_map f [] y has = absurd (none_in_empty y has)
+contains_from_map f (x ∷ xs) y has = elim (contains_cases (f x) (map f xs) y has) [
+  | inl same ↦ (x, (contains_first x xs x refl, same))
+  | inr rest ↦
+      let found = contains_from_map f xs y rest in
+      (found.0, (contains_rest x xs found.0 found.1.0, found.1.1))
+]
+
+pub contains_filter : {X : Type 0} (p : X → Bool) (xs : List X) (x : X) → Contains xs x → p x ≡ true →
+    Contains (filter p xs) x
+contains_filter p [] x has passes = has
+contains_filter {X} p (y ∷ xs) x has passes = by (p y) refl (contains_cases y xs x has)
+    (λ rest. contains_filter p xs x rest passes)
+  where
+    by : (b : Bool) → p y ≡ b → (y ≡ x) ⊎ Contains xs x → (Contains xs x → Contains (filter p xs) x) →
+        Contains (cond b (y ∷ filter p xs) (filter p xs)) x
+    by true is (inl same) again = contains_first y (filter p xs) x same
+    by true is (inr rest) again = contains_rest y (filter p xs) x (again rest)
+    by false is (inl same) again = absurd (cc)
+    by false is (inr rest) again = again rest
+
+pub filter_all : {X : Type 0} (p : X → Bool) (xs : List X) → All (λ (x : X). p x ≡ true) xs → filter p xs ≡ xs
+filter_all p [] all = refl
+filter_all p (x ∷ xs) all =
+    rw (all 0 x (omega arith)) (ap (◌∷◌ x) (filter_all p xs (All-tail (λ x. p x ≡ true) x xs all)))
+
+pub filter_none : {X : Type 0} (p : X → Bool) (xs : List X) → All (λ (x : X). p x ≡ false) xs → filter p xs ≡ []
+filter_none p [] all = refl
+filter_none p (x ∷ xs) all = rw (all 0 x (omega arith)) (filter_none p xs (All-tail (λ x. p x ≡ false) x xs all))
 
 pub pairs_head : {X : Type 0} (R : X → X → Type 0) (x : X) (xs : List X) → AllPairs R (x ∷ xs) → All (R x) xs
 pairs_head R x xs all k d lt = all 0 (suc k) d (omega arith) (omega arith)
@@ -47,6 +86,16 @@ pairs_drop R zero xs all = all
 pairs_drop R (suc n) [] all = all
 pairs_drop R (suc n) (x ∷ xs) all = pairs_drop R n xs (pairs_tail R x xs all)
 
+-- the first part of a list
+pub all_left : {X : Type 0} (P : X → Type 0) (xs ys : List X) → All P (xs ++ ys) → All P xs
+all_left P xs ys all k d lt =
+    rw (get_or_append_left xs ys d k lt) at (all k d (omega (arith, length-append xs ys)))
+
+pub pairs_left : {X : Type 0} (R : X → X → Type 0) (xs ys : List X) → AllPairs R (xs ++ ys) → AllPairs R xs
+pairs_left R xs ys all i j d lt within =
+    rw (get_or_append_left xs ys d i (omega arith), get_or_append_left xs ys d j within) at
+    (all i j d lt (omega (arith, length-append xs ys)))
+
 -- what holds of the elements of a list holds of those that they are related to, and of pairs too
 pub zip_all : {X Y : Type 0} (S : X → Y → Type 0) (P : X → Type 0) (Q : Y → Type 0) (xs : List X) (ys : List Y) →
     ((x : X) (y : Y) → S x y → P x → Q y) → AllZip S xs ys → All P xs → All Q ys
@@ -65,6 +114,15 @@ zip_pairs S R Q (x ∷ xs) [] step zip all = absurd zip
 zip_pairs S R Q (x ∷ xs) (y ∷ ys) step zip all = pairs_cons Q y ys (zip_all S (R x) (Q y) xs ys
     (λ a b s r. step x a y b zip.0 s r) zip.1 (pairs_head R x xs all)) (zip_pairs S R Q xs ys step zip.1
     (pairs_tail R x xs all))
+
+pub pairs_map : {X Y : Type 0} (R : X → X → Type 0) (Q : Y → Y → Type 0) (E : X → Type 0) (f : X → Y) (xs : List X) →
+    ((x y : X) → E x → E y → R x y → Q (f x) (f y)) → All E xs → AllPairs R xs → AllPairs Q (map f xs)
+pairs_map R Q E f [] step each all = pairs_none Q
+pairs_map R Q E f (x ∷ xs) step each all =
+    pairs_cons Q (f x) (map f xs)
+    (All-map (Q (f x)) f xs (λ k d lt. step x (get_or xs k d) (All-head E x xs each) (All-tail E x xs each k d lt)
+    (pairs_head R x xs all k d lt)))
+    (pairs_map R Q E f xs step (All-tail E x xs each) (pairs_tail R x xs all))
 
 -- whether a number is in a list
 pub either_in : (xs : List ℕ) (i : ℕ) → Contains xs i ⊎ (¬ Contains xs i)

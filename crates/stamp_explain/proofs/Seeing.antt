@@ -1,20 +1,19 @@
 -- What an observer has seen by a position explains as much as the cut there.
-use Rattle.std.proofs.Common.{◌≡◌, ◌⊎◌, ℕ, ◌+◌, ◌<◌, ◌≤◌, zero, suc, Bool, true, false, List, [], ◌∷◌, ◌++◌}
-use Rattle.std.proofs.Common.{length, get_or, refl, sym, ◌∙◌, ap, subst, inl, inr, arith, Option, None, Some}
-use Rattle.std.specs.Prelude.{slice_get, map, MatchOption, if◌then◌else◌, nat_lt, filter, not, cond, ◌==◌, ◌&&◌, ◌||◌}
-use Rattle.std.specs.Prelude.{IsTrue, drop, option_map}
+use Rattle.std.proofs.Common.{◌≡◌, ℕ, ◌+◌, ◌<◌, ◌≤◌, zero, suc, Bool, true, false, List, [], ◌∷◌, ◌++◌, map}
+use Rattle.std.proofs.Common.{length, get_or, refl, sym, ◌∙◌, ap, inl, inr, arith, Option, None, Some}
+use Rattle.std.specs.Prelude.{slice_get, if◌then◌else◌, nat_lt, filter, not, cond, ◌==◌, ◌&&◌, ◌||◌, IsTrue, drop, MatchOption}
 use Rattle.std.specs.List.{All, AllPairs, AllZip, Contains}
-use Rattle.std.proofs.lemmas.List.Elements.{All-nil, All-cons, All-head, All-tail, All-map, All-filter, filter_passes}
-use Rattle.std.proofs.lemmas.List.Elements.{length_all_zip}
-use Rattle.std.proofs.lemmas.List.{append-nil, length-map, drop_all}
+use Rattle.std.proofs.Math.Seq.{drop-append_seam}
+use Rattle.std.proofs.lemmas.List.Elements.{All-cons, All-drop, All-filter, All-map, All-nil, Contains-append_cases}
+use Rattle.std.proofs.lemmas.List.Elements.{filter_passes, length_all_zip}
+use Rattle.std.proofs.lemmas.List.Filters.{length-filter_both}
+use Rattle.std.proofs.lemmas.List.{append-nil, drop_all, map-append}
 use Rattle.std.proofs.lemmas.List.Kept.{AllPairs-filter}
 use Rattle.std.proofs.lemmas.Bool.Decides.{nat_tests}
-use Rattle.std.proofs.lemmas.Option.{none-some, slice_get-map, same_Some}
-use Rattle.std.proofs.lemmas.Bool.{false≢true}
-use Rattle.stamp_core.specs.History.{History, IsLegal, IsLegalFrom, appended_by}
+use Rattle.std.proofs.lemmas.Option.{none-some, same_Some}
+use Rattle.stamp_core.specs.History.{IsLegalFrom, appended_by}
 use Rattle.stamp_core.specs.Call.{call_suits}
 use Rattle.stamp_core.specs.Content.{content_next, zeros}
-use Rattle.stamp_core.specs.declared.call.Call.{Call}
 use Rattle.stamp_core.specs.Transition.{transition}
 use Rattle.stamp_core.specs.LockEvent.{LockEvent}
 use Rattle.stamp_core.specs.Limits.{Bounds}
@@ -22,368 +21,187 @@ use Rattle.stamp_explain.specs.declared.observed.Observation.{Observation}
 use Rattle.stamp_explain.specs.declared.observed.Returned.{Returned}
 use Rattle.stamp_explain.specs.Observed.{IsSmall, IsLow}
 use Rattle.stamp_explain.specs.Observed.{ObservedHistory, IsBefore, IsObserved, IsInterval, DoNotOverlap, HasReturned}
-use Rattle.stamp_explain.specs.Explained.{Effect, IsEffectOf, history_of, indices_of, AreOfTwoEntries, RespectsBefore}
+use Rattle.stamp_explain.specs.Explained.{Effect, IsEffectOf, history_of, indices_of, RespectsBefore, AreOfTwoEntries}
 use Rattle.stamp_explain.specs.Explained.{IsExplainedBy, IsExplained}
-use Rattle.stamp_explain.proofs.Lists.{pairs_none, pairs_cons, pairs_head, pairs_tail, none_in_empty, contains_cases}
-use Rattle.stamp_explain.proofs.Lists.{contains_first, contains_rest, zip_all, zip_pairs}
-use Rattle.stamp_explain.proofs.Completing.{later_of, same_entry}
 use Rattle.stamp_explain.specs.Cut.{cut_entry, cut_entries, cut, begun_by, seen_at, returned_by}
 use Rattle.stamp_explain.specs.Apart.{indices_where}
 use Rattle.stamp_explain.specs.ExplainLaws.{SeenExplainsAsMuch}
-use Rattle.stamp_explain.proofs.Cutting.{pairs_map}
+use Rattle.stamp_explain.proofs.Lists.{all_left, contains_cases, none_in_empty, pairs_drop, pairs_head, pairs_left}
+use Rattle.stamp_explain.proofs.Lists.{zip_all, zip_pairs}
+use Rattle.stamp_explain.proofs.Completing.{later_of, same_entry}
+use Rattle.stamp_explain.proofs.Cutting.{before_some, some_before, explained_by, IsLessKnown, IsMovedTo, IsPartOf}
+use Rattle.stamp_explain.proofs.Cutting.{moved_has, moved_part, part_of}
 use Rattle.stamp_explain.proofs.Expanding.{at_index}
-
-abbrev is_early : ℕ → Observation → Bool
-is_early last e = not (nat_lt last e.first)
-
--- where the k-th entry that is kept stands, and how many are kept before one
-pub index_in_whole : (Observation → Bool) → List Observation → ℕ → ℕ
-index_in_whole p [] k = 0
-index_in_whole p (e ∷ es) zero = cond (p e) 0 (suc (index_in_whole p es zero))
-index_in_whole p (e ∷ es) (suc k) = cond (p e) (suc (index_in_whole p es k)) (suc (index_in_whole p es (suc k)))
-
-pub rank_of : (Observation → Bool) → List Observation → ℕ → ℕ
-rank_of p [] i = 0
-rank_of p (e ∷ es) zero = 0
-rank_of p (e ∷ es) (suc i) = cond (p e) (suc (rank_of p es i)) (rank_of p es i)
 
 abbrev pub kept : (Observation → Bool) → List Observation → List Observation
 kept p es = filter p es
 
--- the k-th that is kept
-pub record IsKeptAt (p : Observation → Bool) (es : List Observation) (k i : ℕ) (e : Observation) : Type 0 where
-  pub is_entry : slice_get es i ≡ Some e
-  pub is_kept : slice_get (kept p es) k ≡ Some e
-  pub passes : p e ≡ true
-  pub index : index_in_whole p es k ≡ i
-  pub rank : rank_of p es i ≡ k
+-- where the k-th entry that is kept stands, and how many are kept before one
+abbrev pub index_in_whole : (Observation → Bool) → List Observation → ℕ → ℕ
+index_in_whole p es k = get_or (indices_where p 0 es) k 0
 
-kept_here : (p : Observation → Bool) (x : Observation) (es : List Observation) → p x ≡ true →
-    IsKeptAt p (x ∷ es) 0 0 x
-unfolding index_in_whole rank_of
-kept_here p x es early = record {
+abbrev pub rank_of : (Observation → Bool) → List Observation → ℕ → ℕ
+rank_of p [] i = 0
+rank_of p (e ∷ es) zero = 0
+rank_of p (e ∷ es) (suc i) = cond (p e) (suc (rank_of p es i)) (rank_of p es i)
+
+-- the k-th that is kept, of entries that stand from n on, is the i-th of them, which stands at j
+pub record IsKeptAt (p : Observation → Bool) (n : ℕ) (es : List Observation) (k i j : ℕ) (e : Observation) : Type 0
+  where
+    pub is_entry : slice_get es i ≡ Some e
+    pub is_kept : slice_get (kept p es) k ≡ Some e
+    pub passes : p e ≡ true
+    pub inside : k < length (indices_where p n es)
+    pub index : get_or (indices_where p n es) k 0 ≡ j
+    pub rank : rank_of p es i ≡ k
+
+kept_here : (p : Observation → Bool) (n : ℕ) (x : Observation) (es : List Observation) → p x ≡ true →
+    IsKeptAt p n (x ∷ es) 0 0 n x
+kept_here p n x es passes = record {
   is_entry = refl;
-  is_kept = ap (λ (b : Bool). slice_get (cond b (x ∷ filter p es) (filter p es)) 0) early;
-  passes = early;
-  index = ap (λ (b : Bool). cond b 0 (suc (index_in_whole p es zero))) early;
+  is_kept = rw passes;
+  passes = passes;
+  inside = rw passes (omega arith);
+  index = rw passes;
   rank = refl;
 }
 
-kept_after_kept : (p : Observation → Bool) (x : Observation) (es : List Observation) (k i : ℕ) (e : Observation) →
-    p x ≡ true → IsKeptAt p es k i e → IsKeptAt p (x ∷ es) (suc k) (suc i) e
-unfolding index_in_whole rank_of
-kept_after_kept p x es k i e early is = record {
-  is_entry = is.is_entry;
-  is_kept = ap (λ (b : Bool). slice_get (cond b (x ∷ filter p es) (filter p es)) (suc k))
-      early ∙ is.is_kept;
-  passes = is.passes;
-  index = ap (λ (b : Bool). cond b (suc (index_in_whole p es k)) (suc (index_in_whole p es (suc k)))) early ∙
-      ap (λ (n : ℕ). suc n) is.index;
-  rank = ap (λ (b : Bool). cond b (suc (rank_of p es i)) (rank_of p es i)) early ∙
-      ap (λ (n : ℕ). suc n) is.rank;
-}
-
-kept_after_late : (p : Observation → Bool) (x : Observation) (es : List Observation) (k i : ℕ) (e : Observation) →
-    p x ≡ false → IsKeptAt p es k i e → IsKeptAt p (x ∷ es) k (suc i) e
-unfolding index_in_whole rank_of
-kept_after_late p x es k i e late is = record {
-  is_entry = is.is_entry;
-  is_kept = ap (λ (b : Bool). slice_get (cond b (x ∷ filter p es) (filter p es)) k) late ∙
-      is.is_kept;
-  passes = is.passes;
-  index = by k is.index;
-  rank = ap (λ (b : Bool). cond b (suc (rank_of p es i)) (rank_of p es i)) late ∙ is.rank;
-}
+kept_after : (p : Observation → Bool) (n : ℕ) (x : Observation) (es : List Observation) (k i j : ℕ) (e : Observation) →
+    IsKeptAt p (n + 1) es k i j e → IsKeptAt p n (x ∷ es) (cond (p x) (suc k) k) (suc i) j e
+kept_after p n x es k i j e is = by (p x) refl
   where
-    by : (m : ℕ) → index_in_whole p es m ≡ i → index_in_whole p (x ∷ es) m ≡ suc i
-    by zero at = ap (λ (b : Bool). cond b 0 (suc (index_in_whole p es zero))) late ∙ ap (λ (n : ℕ). suc n) at
-    by (suc m) at = ap (λ (b : Bool). cond b (suc (index_in_whole p es m)) (suc (index_in_whole p es (suc m)))) late ∙
-        ap (λ (n : ℕ). suc n) at
+    by : (b : Bool) → p x ≡ b → IsKeptAt p n (x ∷ es) (cond b (suc k) k) (suc i) j e
+    by true so = record {
+      is_entry = is.is_entry;
+      is_kept = rw so is.is_kept;
+      passes = is.passes;
+      inside = rw so (omega (arith, is.inside));
+      index = rw so is.index;
+      rank = rw so (ap suc is.rank);
+    }
+    by false so = record {
+      is_entry = is.is_entry;
+      is_kept = rw so is.is_kept;
+      passes = is.passes;
+      inside = rw so is.inside;
+      index = rw so is.index;
+      rank = rw so is.rank;
+    }
 
 -- an entry that passes is kept somewhere
-pub rank_gives : (p : Observation → Bool) (es : List Observation) (i : ℕ) (e : Observation) → slice_get es i ≡ Some e →
-    p e ≡ true → (k : ℕ) × IsKeptAt p es k i e
-rank_gives p [] i e at early = absurd (none-some e at)
-rank_gives p (x ∷ es) zero e at early =
-    let same : x ≡ e = same_Some x e at in (
-      0,
-      subst (λ (o : Observation). IsKeptAt p (x ∷ es) 0 0 o) same
-          (kept_here p x es (ap p same ∙ early)),
-    )
-rank_gives p (x ∷ es) (suc i) e at early = by (p x) refl (rank_gives p es i e at early)
-  where
-    by : (b : Bool) → p x ≡ b → (k : ℕ) × IsKeptAt p es k i e →
-        (k : ℕ) × IsKeptAt p (x ∷ es) k (suc i) e
-    by true is found = (suc found.0, kept_after_kept p x es found.0 i e is found.1)
-    by false is found = (found.0, kept_after_late p x es found.0 i e is found.1)
+pub rank_gives : (p : Observation → Bool) (n : ℕ) (es : List Observation) (i j : ℕ) (e : Observation) → j ≡ n + i →
+    slice_get es i ≡ Some e → p e ≡ true → (k : ℕ) × IsKeptAt p n es k i j e
+rank_gives p n [] i j e at is passes = absurd (none-some e is)
+rank_gives p n (x ∷ es) zero j e at is passes =
+    let first : j ≡ n = omega arith in
+    let same : x ≡ e = same_Some x e is in
+    (0, rw (first, ← same) (kept_here p n x es (rw same passes)))
+rank_gives p n (x ∷ es) (suc i) j e at is passes =
+    let found : (k : ℕ) × IsKeptAt p (n + 1) es k i j e = rank_gives p (n + 1) es i j e (omega arith) is passes in
+    (cond (p x) (suc found.0) found.0, kept_after p n x es found.0 i j e found.1)
 
 -- and what is kept passes
-pub index_gives : (p : Observation → Bool) (es : List Observation) (k : ℕ) (e : Observation) →
-    slice_get (kept p es) k ≡ Some e → (i : ℕ) × IsKeptAt p es k i e
-index_gives p [] k e at = absurd (none-some e at)
-index_gives p (x ∷ es) k e at = by (p x) refl k at (λ m here. index_gives p es m e here)
+pub index_gives : (p : Observation → Bool) (n : ℕ) (es : List Observation) (k : ℕ) (e : Observation) →
+    slice_get (kept p es) k ≡ Some e → (i : ℕ) × ((j : ℕ) → j ≡ n + i → IsKeptAt p n es k i j e)
+index_gives p n [] k e is = absurd (none-some e is)
+index_gives p n (x ∷ es) k e is = by (p x) refl k is (index_gives p (n + 1) es)
   where
-    by : (b : Bool) → p x ≡ b → (m : ℕ) →
-        slice_get (cond b (x ∷ filter p es) (filter p es)) m ≡ Some e →
-        ((n : ℕ) → slice_get (kept p es) n ≡ Some e → (i : ℕ) × IsKeptAt p es n i e) →
-        (i : ℕ) × IsKeptAt p (x ∷ es) m i e
-    by true is zero here later = (
-      0,
-      subst (λ (o : Observation). IsKeptAt p (x ∷ es) 0 0 o) (same_Some x e here)
-          (kept_here p x es is),
-    )
-    by true is (suc m) here later = let found : (i : ℕ) × IsKeptAt p es m i e = later m here in
-        (suc found.0, kept_after_kept p x es m found.0 e is found.1)
-    by false is m here later = let found : (i : ℕ) × IsKeptAt p es m i e = later m here in
-        (suc found.0, kept_after_late p x es m found.0 e is found.1)
+    by : (b : Bool) → p x ≡ b → (m : ℕ) → slice_get (cond b (x ∷ filter p es) (filter p es)) m ≡ Some e →
+        ((m : ℕ) (e : Observation) → slice_get (kept p es) m ≡ Some e →
+        (i : ℕ) × ((j : ℕ) → j ≡ n + 1 + i → IsKeptAt p (n + 1) es m i j e)) →
+        (i : ℕ) × ((j : ℕ) → j ≡ n + i → IsKeptAt p n (x ∷ es) m i j e)
+    by true so zero here again =
+        let same : x ≡ e = same_Some x e here in
+        (0, λ j at. let first : j ≡ n = omega arith in rw (first, ← same) (kept_here p n x es so))
+    by true so (suc m) here again =
+        let found : (i : ℕ) × ((j : ℕ) → j ≡ n + 1 + i → IsKeptAt p (n + 1) es m i j e) = again m e here in
+        (suc found.0, λ j at. rw so at (kept_after p n x es m found.0 j e (found.1 j (omega arith))))
+    by false so m here again =
+        let found : (i : ℕ) × ((j : ℕ) → j ≡ n + 1 + i → IsKeptAt p (n + 1) es m i j e) = again m e here in
+        (suc found.0, λ j at. rw so at (kept_after p n x es m found.0 j e (found.1 j (omega arith))))
 
--- the same effects, with their entries at other indices
-pub moved : (ℕ → ℕ) → Effect → Effect
-moved f x = record { index = f x.index; entry = x.entry; reply = x.reply }
-
-pub moved_indices : (f : ℕ → ℕ) (xs : List Effect) → indices_of (map (moved f) xs) ≡ map f (indices_of xs)
-unfolding moved
-moved_indices f [] = refl
-moved_indices f (x ∷ xs) = ap (λ (is : List ℕ). f x.index ∷ is) (moved_indices f xs)
-
-moved_history : (f : ℕ → ℕ) (xs : List Effect) → history_of (map (moved f) xs) ≡ history_of xs
-unfolding moved
-moved_history f [] = refl
-moved_history f (x ∷ xs) = ap (λ (h : History). (x.entry.call, x.reply) ∷ h) (moved_history f xs)
-
-contains_map : (f : ℕ → ℕ) (xs : List ℕ) (i : ℕ) → Contains xs i → Contains (map f xs) (f i)
-contains_map f [] i has = absurd (none_in_empty i has)
-contains_map f (x ∷ xs) i has = by (contains_cases x xs i has) (contains_map f xs i)
-  where
-    by : (x ≡ i) ⊎ Contains xs i → (Contains xs i → Contains (map f xs) (f i)) → Contains (f x ∷ map f xs) (f i)
-    by (inl same) later = contains_first (f x) (map f xs) (f i) (ap f same)
-    by (inr rest) later = contains_rest (f x) (map f xs) (f i) (later rest)
-
--- the entry stands at the new index, from which the old one is known
-record IsMovedTo (ks : List Observation) (f back : ℕ → ℕ) (x : Effect) : Type 0 where
-  there : slice_get ks (f x.index) ≡ Some x.entry
-  inverse : back (f x.index) ≡ x.index
-
--- of each returned call of the new list, which it was
-WasReturned : List Observation → (ℕ → ℕ) → List Effect → Type 0
-WasReturned ks f order = (k : ℕ) (e : Observation) → slice_get ks k ≡ Some e → HasReturned e →
-    (i : ℕ) × ((f i ≡ k) × Contains (indices_of order) i)
-
--- what explains a history, but for what returned in it
-pub record IsPartOf (h : ObservedHistory) (order : List Effect) : Type 0 where
-  pub effects : All (IsEffectOf h.entries) order
-  pub once : AllPairs AreOfTwoEntries order
-  pub ordered : AllPairs RespectsBefore order
-  pub legal : IsLegal h.limits h.width (history_of order)
-
-part_of : (h : ObservedHistory) (order : List Effect) → IsExplainedBy h order → IsPartOf h order
-part_of h order by = record { effects = by.effects; once = by.once; ordered = by.ordered; legal = by.legal }
-
-moved_part : (h : ObservedHistory) (ks : List Observation) (f back : ℕ → ℕ) (order : List Effect) →
-    IsPartOf h order → All (IsMovedTo ks f back) order → IsPartOf (record h { entries = ks }) (map (moved f) order)
-unfolding moved
-moved_part h ks f back order by each = record {
-  effects = All-map (IsEffectOf ks) (moved f) order (λ k d lt. effect (get_or order k d) (by.effects k d lt)
-      (each k d lt));
-  once = pairs_map AreOfTwoEntries AreOfTwoEntries (IsMovedTo ks f back) (moved f) order
-      (λ x y x_is y_is apart. still_apart x y x_is y_is apart) each by.once;
-  ordered = pairs_map RespectsBefore RespectsBefore (IsMovedTo ks f back) (moved f) order
-      (λ x y x_is y_is respects. still_ordered x y respects) each by.ordered;
-  legal = subst (λ (history : History). IsLegal h.limits h.width history) (sym (moved_history f order)) by.legal;
-}
-  where
-    effect : (x : Effect) → IsEffectOf h.entries x → IsMovedTo ks f back x → IsEffectOf ks (moved f x)
-    effect x was is = record { is_entry = is.there; replies = was.replies }
-
-    still_apart : (x y : Effect) → IsMovedTo ks f back x → IsMovedTo ks f back y → AreOfTwoEntries x y →
-        AreOfTwoEntries (moved f x) (moved f y)
-    still_apart x y x_is y_is apart same = apart (sym x_is.inverse ∙ ap back same ∙ y_is.inverse)
-
-    still_ordered : (x y : Effect) → RespectsBefore x y → RespectsBefore (moved f x) (moved f y)
-    still_ordered x y respects = respects
-
-moved_has : (f : ℕ → ℕ) (order : List Effect) (k : ℕ) → (i : ℕ) × ((f i ≡ k) × Contains (indices_of order) i) →
-    Contains (indices_of (map (moved f) order)) k
-moved_has f order k (i, (to, has)) = subst (λ (is : List ℕ). Contains is k) (sym (moved_indices f order))
-    (subst (λ (n : ℕ). Contains (map f (indices_of order)) n) to (contains_map f (indices_of order) i has))
-
-reindexed : (h : ObservedHistory) (ks : List Observation) (f back : ℕ → ℕ) (order : List Effect) →
-    IsPartOf h order → All (IsMovedTo ks f back) order → WasReturned ks f order →
-    IsExplained (record h { entries = ks })
-unfolding WasReturned
-reindexed h ks f back order by each returned = record {
-  order = map (moved f) order;
-  by = record {
-    effects = part.effects;
-    once = part.once;
-    returned = λ k e at has. moved_has f order k (returned k e at has);
-    ordered = part.ordered;
-    legal = part.legal;
-  };
-}
-  where
-    part : IsPartOf (record h { entries = ks }) (map (moved f) order)
-    part = moved_part h ks f back order by each
-
--- effects of entries that pass alone, of all of these that returned
+-- an order of the entries that pass alone, at their indices among all
 abbrev pub AllPass : (Observation → Bool) → List Effect → Type 0
 AllPass p order = All (λ (x : Effect). p x.entry ≡ true) order
 
-abbrev pub HasReturnsOf : ObservedHistory → (Observation → Bool) → List Effect → Type 0
-HasReturnsOf h p order = (i : ℕ) (e : Observation) → slice_get h.entries i ≡ Some e → HasReturned e → p e ≡ true →
-    Contains (indices_of order) i
-
--- an order of the entries that pass alone, at their indices among all
-pub record PartOrder (h : ObservedHistory) (p : Observation → Bool) : Type 0 where
-  pub order : List Effect
+pub record IsOrderOf (h : ObservedHistory) (p : Observation → Bool) (order : List Effect) : Type 0 where
   pub by : IsPartOf h order
   pub passes : AllPass p order
-  pub returned : HasReturnsOf h p order
+  pub returned : (i : ℕ) (e : Observation) → slice_get h.entries i ≡ Some e → HasReturned e → p e ≡ true →
+      Contains (indices_of order) i
+
+-- the same effects, with their entries at other indices
+abbrev pub moved : (ℕ → ℕ) → Effect → Effect
+moved f x = record { index = f x.index; entry = x.entry; reply = x.reply }
+
+as_known : (e : Observation) → IsLessKnown e e
+as_known e = record { call = refl; first = refl; returned = λ r is. is }
 
 -- it explains the history of these entries alone
-pub parted : (h : ObservedHistory) (p : Observation → Bool) → PartOrder h p →
+pub parted : (h : ObservedHistory) (p : Observation → Bool) (order : List Effect) → IsOrderOf h p order →
     IsExplained (record h { entries = kept p h.entries })
-unfolding WasReturned
-parted h p is = reindexed h (kept p h.entries) (rank_of p h.entries) (index_in_whole p h.entries) is.order is.by
-    (λ k d lt. moves (get_or is.order k d) (is.by.effects k d lt) (is.passes k d lt)) was
+parted h p order is =
+    explained_by (record h { entries = kept p h.entries }) (map (moved (rank_of p h.entries)) order)
+    (moved_part h (kept p h.entries) (index_in_whole p h.entries) (moved (rank_of p h.entries)) order is.by
+    (λ k d lt. moves (get_or order k d) (is.by.effects k d lt) (is.passes k d lt))) was
   where
     moves : (x : Effect) → IsEffectOf h.entries x → p x.entry ≡ true →
-        IsMovedTo (kept p h.entries) (rank_of p h.entries) (index_in_whole p h.entries) x
+        IsMovedTo (kept p h.entries) (index_in_whole p h.entries) x (moved (rank_of p h.entries) x)
     moves x effect pass =
-        let found : (k : ℕ) × IsKeptAt p h.entries k x.index x.entry =
-        rank_gives p h.entries x.index x.entry effect.is_entry pass in
+        let found : (k : ℕ) × IsKeptAt p 0 h.entries k x.index x.index x.entry =
+        rank_gives p 0 h.entries x.index x.index x.entry (omega arith) effect.is_entry pass in
         record {
-          there = ap (λ (k : ℕ). slice_get (kept p h.entries) k) found.1.rank ∙ found.1.is_kept;
-          inverse = ap (index_in_whole p h.entries) found.1.rank ∙ found.1.index;
+          there = rw found.1.rank found.1.is_kept;
+          less = as_known x.entry;
+          reply = refl;
+          inverse = rw found.1.rank found.1.index;
         }
 
-    was : WasReturned (kept p h.entries) (rank_of p h.entries) is.order
-    was k e at has = let found : (i : ℕ) × IsKeptAt p h.entries k i e = index_gives p h.entries k e at in
-        (found.0, (found.1.rank, is.returned found.0 e found.1.is_entry has found.1.passes))
+    was : (k : ℕ) (e : Observation) → slice_get (kept p h.entries) k ≡ Some e → HasReturned e →
+        Contains (indices_of (map (moved (rank_of p h.entries)) order)) k
+    was k e at has =
+        let found = index_gives p 0 h.entries k e at in
+        let here : IsKeptAt p 0 h.entries k found.0 found.0 e = found.1 found.0 (omega arith) in
+        let to = moved_has (moved (rank_of p h.entries)) order found.0
+        (is.returned found.0 e here.is_entry has here.passes) in
+        rw (to.1.0, here.rank) at to.1.1
 
 -- and the other way round
-pub restored : (h : ObservedHistory) (p : Observation → Bool) → IsExplained (record h { entries = kept p h.entries }) →
-    PartOrder h p
-unfolding moved
-restored h p explained = record {
-  order = map (moved f) explained.order;
-  by = moved_part (record h { entries = kept p h.entries }) h.entries f (rank_of p h.entries) explained.order
-      (part_of (record h { entries = kept p h.entries }) explained.order explained.by)
-      (λ k d lt. moves (get_or explained.order k d) (explained.by.effects k d lt));
-  passes = All-map (λ (x : Effect). p x.entry ≡ true) (moved f) explained.order
-      (λ k d lt. pass (get_or explained.order k d) (explained.by.effects k d lt));
-  returned = λ i e at has passes. moved_has f explained.order i
-      (let found : (k : ℕ) × IsKeptAt p h.entries k i e = rank_gives p h.entries i e at passes in
-      (found.0, (found.1.index, explained.by.returned found.0 e found.1.is_kept has)));
+pub restored : (h : ObservedHistory) (p : Observation → Bool) (order : List Effect) →
+    IsExplainedBy (record h { entries = kept p h.entries }) order →
+    IsOrderOf h p (map (moved (index_in_whole p h.entries)) order)
+restored h p order by = record {
+  by = moved_part (record h { entries = kept p h.entries }) h.entries (rank_of p h.entries)
+      (moved (index_in_whole p h.entries)) order (part_of (record h { entries = kept p h.entries }) order by)
+      (λ k d lt. moves (get_or order k d) (by.effects k d lt));
+  passes = All-map (λ (x : Effect). p x.entry ≡ true) (moved (index_in_whole p h.entries)) order
+      (λ k d lt. (here (get_or order k d) (by.effects k d lt)).1.passes);
+  returned = λ i e at has passes.
+      let found = rank_gives p 0 h.entries i i e (omega arith) at passes in
+      let to = moved_has (moved (index_in_whole p h.entries)) order found.0
+      (by.returned found.0 e found.1.is_kept has) in
+      rw (to.1.0, found.1.index) at to.1.1;
 }
   where
-    f : ℕ → ℕ
-    f = index_in_whole p h.entries
+    here : (x : Effect) → IsEffectOf (kept p h.entries) x →
+        (i : ℕ) × IsKeptAt p 0 h.entries x.index i i x.entry
+    here x is =
+        let found = index_gives p 0 h.entries x.index x.entry is.is_entry in
+        (found.0, found.1 found.0 (omega arith))
 
-    moves : (x : Effect) → IsEffectOf (kept p h.entries) x → IsMovedTo h.entries f (rank_of p h.entries) x
+    moves : (x : Effect) → IsEffectOf (kept p h.entries) x →
+        IsMovedTo h.entries (rank_of p h.entries) x (moved (index_in_whole p h.entries) x)
     moves x is =
-        let found : (i : ℕ) × IsKeptAt p h.entries x.index i x.entry =
-        index_gives p h.entries x.index x.entry is.is_entry in
+        let at : (i : ℕ) × IsKeptAt p 0 h.entries x.index i i x.entry = here x is in
         record {
-          there = ap (λ (i : ℕ). slice_get h.entries i) found.1.index ∙ found.1.is_entry;
-          inverse = ap (rank_of p h.entries) found.1.index ∙ found.1.rank;
+          there = rw at.1.index at.1.is_entry;
+          less = as_known x.entry;
+          reply = refl;
+          inverse = rw at.1.index at.1.rank;
         }
 
-    pass : (x : Effect) → IsEffectOf (kept p h.entries) x → p x.entry ≡ true
-    pass x is = (index_gives p h.entries x.index x.entry is.is_entry).1.passes
-
--- its effects are those of the order of these entries alone, which stand at other indices
-pub restored_at : (h : ObservedHistory) (p : Observation → Bool)
-    (explained : IsExplained (record h { entries = kept p h.entries })) (k : ℕ) (x : Effect) →
-    slice_get explained.order k ≡ Some x → slice_get (restored h p explained).order k ≡
-    Some (record { index = index_in_whole p h.entries x.index; entry = x.entry; reply = x.reply })
-unfolding restored moved
-restored_at h p explained k x at = slice_get-map (moved (index_in_whole p h.entries)) explained.order k ∙
-    ap (λ (o : Option Effect). option_map (moved (index_in_whole p h.entries)) o) at
-
-pub restored_many : (h : ObservedHistory) (p : Observation → Bool)
-    (explained : IsExplained (record h { entries = kept p h.entries })) →
-    length (restored h p explained).order ≡ length explained.order
-unfolding restored
-restored_many h p explained = length-map explained.order (moved (index_in_whole p h.entries))
-
--- the list of the indices has each of them
-pub indices_at : (p : Observation → Bool) (n : ℕ) (es : List Observation) (k : ℕ) (e : Observation) →
-    slice_get (kept p es) k ≡ Some e → slice_get (indices_where p n es) k ≡ Some (n + index_in_whole p es k)
-unfolding index_in_whole
-indices_at p n [] k e at = absurd (none-some e at)
-indices_at p n (x ∷ es) k e at = by (p x) refl k at (λ m here. indices_at p (n + 1) es m e here)
-  where
-    by : (b : Bool) → p x ≡ b → (m : ℕ) → slice_get (cond b (x ∷ filter p es) (filter p es)) m ≡ Some e →
-        ((j : ℕ) → slice_get (kept p es) j ≡ Some e →
-        slice_get (indices_where p (n + 1) es) j ≡ Some ((n + 1) + index_in_whole p es j)) →
-        slice_get (cond b (n ∷ indices_where p (n + 1) es) (indices_where p (n + 1) es)) m ≡
-        Some (n + index_in_whole p (x ∷ es) m)
-    by true is zero here later =
-        let first : index_in_whole p (x ∷ es) zero ≡ 0 = ap (λ (b : Bool). cond b 0 (suc (index_in_whole p es
-        zero))) is in
-        ap (λ (i : ℕ). Some i) (omega (arith, first))
-    by true is (suc m) here later =
-        let next : index_in_whole p (x ∷ es) (suc m) ≡ suc (index_in_whole p es m) =
-        ap (λ (b : Bool). cond b (suc (index_in_whole p es m)) (suc (index_in_whole p es (suc m)))) is in
-        later m here ∙ ap (λ (i : ℕ). Some i) (omega (arith, next))
-    by false is zero here later =
-        let next : index_in_whole p (x ∷ es) zero ≡ suc (index_in_whole p es zero) =
-        ap (λ (b : Bool). cond b 0 (suc (index_in_whole p es zero))) is in
-        later zero here ∙ ap (λ (i : ℕ). Some i) (omega (arith, next))
-    by false is (suc m) here later =
-        let next : index_in_whole p (x ∷ es) (suc m) ≡ suc (index_in_whole p es (suc m)) =
-        ap (λ (b : Bool). cond b (suc (index_in_whole p es m)) (suc (index_in_whole p es (suc m)))) is in
-        later (suc m) here ∙ ap (λ (i : ℕ). Some i) (omega (arith, next))
-
--- an order up to the first call that begins later
-until : ℕ → List Effect → List Effect
-until last [] = []
-until last (x ∷ xs) = cond (is_early last x.entry) (x ∷ until last xs) []
-
-until_all : (P : Effect → Type 0) (last : ℕ) (xs : List Effect) → All P xs → All P (until last xs)
-unfolding until
-until_all P last [] all = All-nil P
-until_all P last (x ∷ xs) all = by (is_early last x.entry) (until_all P last xs (All-tail P x xs all))
-  where
-    by : (b : Bool) → All P (until last xs) → All P (cond b (x ∷ until last xs) [])
-    by true rest = All-cons P x (until last xs) (All-head P x xs all) rest
-    by false rest = All-nil P
-
-until_pairs : (R : Effect → Effect → Type 0) (last : ℕ) (xs : List Effect) → AllPairs R xs →
-    AllPairs R (until last xs)
-unfolding until
-until_pairs R last [] all = pairs_none R
-until_pairs R last (x ∷ xs) all = by (is_early last x.entry) (until_pairs R last xs (pairs_tail R x xs all))
-  where
-    by : (b : Bool) → AllPairs R (until last xs) → AllPairs R (cond b (x ∷ until last xs) [])
-    by true rest = pairs_cons R x (until last xs) (until_all (R x) last xs (pairs_head R x xs all)) rest
-    by false rest = pairs_none R
-
-until_early : (last : ℕ) (xs : List Effect) → All (λ (x : Effect). is_early last x.entry ≡ true) (until last xs)
-unfolding until
-until_early last [] = All-nil (λ (x : Effect). is_early last x.entry ≡ true)
-until_early last (x ∷ xs) = by (is_early last x.entry) refl (until_early last xs)
-  where
-    by : (b : Bool) → is_early last x.entry ≡ b →
-        All (λ (y : Effect). is_early last y.entry ≡ true) (until last xs) →
-        All (λ (y : Effect). is_early last y.entry ≡ true) (cond b (x ∷ until last xs) [])
-    by true is rest = All-cons (λ (y : Effect). is_early last y.entry ≡ true) x (until last xs) is rest
-    by false is rest = All-nil (λ (y : Effect). is_early last y.entry ≡ true)
-
-until_legal : (limits : Bounds) (events : List LockEvent) (content : List ℕ) (last : ℕ) (xs : List Effect) →
-    IsLegalFrom limits events content (history_of xs) → IsLegalFrom limits events content (history_of (until last xs))
-unfolding until
-until_legal limits events content last [] legal = tt
-until_legal limits events content last (x ∷ xs) legal = by (is_early last x.entry)
-    (until_legal limits (events ++ appended_by (transition limits events x.entry.call))
-    (content_next content x.entry.call x.reply) last xs legal.1)
-  where
-    by : (b : Bool) → IsLegalFrom limits (events ++ appended_by (transition limits events x.entry.call))
-        (content_next content x.entry.call x.reply) (history_of (until last xs)) →
-        IsLegalFrom limits events content (history_of (cond b (x ∷ until last xs) []))
-    by true rest = (legal.0, rest)
-    by false rest = tt
+abbrev is_early : ℕ → Observation → Bool
+is_early last e = not (nat_lt last e.first)
 
 early_is : (last : ℕ) (e : Observation) → e.first ≤ last → is_early last e ≡ true
 early_is last e le = grind (arith, nat_tests)
@@ -394,45 +212,73 @@ is_early_le last e is = grind (arith, nat_tests)
 not_early_lt : (last : ℕ) (e : Observation) → is_early last e ≡ false → last < e.first
 not_early_lt last e is = grind (arith, nat_tests)
 
-before_some : (a b : Observation) (r : Returned) → a.returned ≡ Some r → r.last < b.first → IsBefore a b
-before_some a b r at lt = subst (λ (o : Option Returned). MatchOption o ⊥ (λ (q : Returned). q.last < b.first))
-    (sym at) lt
+-- an order up to the first call that begins later, and from that on
+record IsSplitAt (last : ℕ) (order : List Effect) : Type 0 where
+  sooner : List Effect
+  later : List Effect
+  are : order ≡ sooner ++ later
+  early : AllPass (is_early last) sooner
+  late : (z : Effect) (zs : List Effect) → later ≡ z ∷ zs → last < z.entry.first
 
-some_before : (a b : Observation) → IsBefore a b → (r : Returned) × ((a.returned ≡ Some r) × (r.last < b.first))
-some_before a b before = by a.returned refl before
+split_at : (last : ℕ) (order : List Effect) → IsSplitAt last order
+split_at last [] = record {
+  sooner = [];
+  later = [];
+  are = refl;
+  early = All-nil (λ (x : Effect). is_early last x.entry ≡ true);
+  late = λ z zs is. absurd (cc);
+}
+split_at last (x ∷ xs) = by (is_early last x.entry) refl (split_at last xs)
   where
-    by : (o : Option Returned) → a.returned ≡ o → MatchOption o ⊥ (λ (r : Returned). r.last < b.first) →
-        (r : Returned) × ((a.returned ≡ Some r) × (r.last < b.first))
-    by None at before = absurd before
-    by (Some r) at before = (r, (at, before))
+    by : (b : Bool) → is_early last x.entry ≡ b → IsSplitAt last xs → IsSplitAt last (x ∷ xs)
+    by true is s = record {
+      sooner = x ∷ s.sooner;
+      later = s.later;
+      are = ap (λ (ys : List Effect). x ∷ ys) s.are;
+      early = All-cons (λ (x : Effect). is_early last x.entry ≡ true) x s.sooner is s.early;
+      late = s.late;
+    }
+    by false is s = record {
+      sooner = [];
+      later = x ∷ xs;
+      are = refl;
+      early = All-nil (λ (x : Effect). is_early last x.entry ≡ true);
+      late = λ z zs same. let here : x ≡ z = cc in rw here at (not_early_lt last x.entry is);
+    }
 
--- what returned by then is in it
-until_has : (es : List Observation) (last i : ℕ) (e : Observation) (r : Returned) (xs : List Effect) →
-    slice_get es i ≡ Some e → e.returned ≡ Some r → r.last ≤ last → e.first ≤ last → All (IsEffectOf es) xs →
-    AllPairs RespectsBefore xs → Contains (indices_of xs) i → Contains (indices_of (until last xs)) i
-unfolding until
-until_has es last i e r [] at returned ended begun effects ordered has = has
-until_has es last i e r (x ∷ xs) at returned ended begun effects ordered has =
-    by (is_early last x.entry) refl (contains_cases x.index (indices_of xs) i has)
-    (until_has es last i e r xs at returned ended begun (All-tail (IsEffectOf es) x xs effects)
-    (pairs_tail RespectsBefore x xs ordered))
+legal_left : (limits : Bounds) (events : List LockEvent) (content : List ℕ) (xs ys : List Effect) →
+    IsLegalFrom limits events content (history_of (xs ++ ys)) → IsLegalFrom limits events content (history_of xs)
+legal_left limits events content [] ys legal = tt
+legal_left limits events content (x ∷ xs) ys legal = (
+  legal.0,
+  legal_left limits (events ++ appended_by (transition limits events x.entry.call))
+      (content_next content x.entry.call x.reply) xs ys legal.1,
+)
+
+-- what returned by then is in the first part
+split_has : (entries : List Observation) (last i : ℕ) (e : Observation) (r : Returned) (sooner later : List Effect) →
+    slice_get entries i ≡ Some e → e.returned ≡ Some r → r.last ≤ last → e.first ≤ last →
+    All (IsEffectOf entries) later → AllPairs RespectsBefore later →
+    ((z : Effect) (zs : List Effect) → later ≡ z ∷ zs → last < z.entry.first) →
+    Contains (indices_of (sooner ++ later)) i → Contains (indices_of sooner) i
+split_has entries last i e r sooner later at returned ended begun effects ordered late has =
+    elim (Contains-append_cases (indices_of sooner) (indices_of later) i (rw map-append at has)) [
+      | inl there ↦ there
+      | inr there ↦ absurd (not_later later effects ordered late there)
+    ]
   where
-    here : x.index ≡ i → x.entry ≡ e
-    here same = same_entry es x i e (All-head (IsEffectOf es) x xs effects) same at
-
-    by : (b : Bool) → is_early last x.entry ≡ b → (x.index ≡ i) ⊎ Contains (indices_of xs) i →
-        (Contains (indices_of xs) i → Contains (indices_of (until last xs)) i) →
-        Contains (indices_of (cond b (x ∷ until last xs) [])) i
-    by true is (inl same) later = contains_first x.index (indices_of (until last xs)) i same
-    by true is (inr rest) later = contains_rest x.index (indices_of (until last xs)) i (later rest)
-    by false is (inl same) later = absurd (late (ap (λ (o : Observation). o.first) (here same)))
-      where
-        late : x.entry.first ≡ e.first → ⊥
-        late same = let lt : last < x.entry.first = not_early_lt last x.entry is in omega (arith, lt, same, begun)
-    by false is (inr rest) later =
-        let lt : last < x.entry.first = not_early_lt last x.entry is in
-        absurd (later_of es i e x.entry xs at (All-tail (IsEffectOf es) x xs effects)
-        (pairs_head RespectsBefore x xs ordered) rest (before_some e x.entry r returned (omega (arith, lt, ended))))
+    not_later : (ys : List Effect) → All (IsEffectOf entries) ys → AllPairs RespectsBefore ys →
+        ((z : Effect) (zs : List Effect) → ys ≡ z ∷ zs → last < z.entry.first) → Contains (indices_of ys) i → ⊥
+    not_later [] effects ordered late there = none_in_empty i there
+    not_later (z ∷ zs) effects ordered late there = elim (contains_cases z.index (indices_of zs) i there) [
+      | inl same ↦
+          let here : z.entry ≡ e = same_entry entries z i e (effects 0 z (omega arith)) same at in
+          let lt : last < e.first = rw here at (late z zs refl) in
+          omega arith
+      | inr rest ↦ later_of entries i e z.entry zs at (All-drop (IsEffectOf entries) 1 (z ∷ zs) effects)
+          (pairs_head RespectsBefore z zs ordered) rest
+          (before_some e z.entry r returned (omega (arith, late z zs refl)))
+    ]
 
 -- a call as it is known then: it is the same, and its return is known only if it came by then, and surely if before
 record IsSeenAs (last : ℕ) (e k : Observation) : Type 0 where
@@ -445,20 +291,11 @@ record IsSeenAs (last : ℕ) (e k : Observation) : Type 0 where
 seen_as : (last bound i : ℕ) (e : Observation) → IsSeenAs last e (cut_entry last bound i e)
 seen_as last bound i e = by (returned_by last bound i e.returned) refl
   where
-    by_then : (o : Option Returned) (r : Returned) → o ≡ Some r → returned_by last bound i o ≡ true → r.last ≤ last
-    by_then None r at is = absurd (none-some r at)
-    by_then (Some q) r at is = subst (λ (x : Returned). x.last ≤ last) (same_Some q r at) (within q.last is)
-      where
-        within : (n : ℕ) → (nat_lt n last || ((n == last) && nat_lt i bound)) ≡ true → n ≤ last
-        within n is = grind (arith, nat_tests)
+    by_then : (n : ℕ) → (nat_lt n last || ((n == last) && nat_lt i bound)) ≡ true → n ≤ last
+    by_then n is = grind (arith, nat_tests)
 
-    sooner : (o : Option Returned) (r : Returned) → o ≡ Some r → r.last < last → returned_by last bound i o ≡ true
-    sooner None r at lt = absurd (none-some r at)
-    sooner (Some q) r at lt = within q.last
-        (subst (λ (x : Returned). x.last < last) (sym (same_Some q r at)) lt)
-      where
-        within : (n : ℕ) → n < last → (nat_lt n last || ((n == last) && nat_lt i bound)) ≡ true
-        within n lt = grind (arith, nat_tests)
+    not_sooner : (n : ℕ) → (nat_lt n last || ((n == last) && nat_lt i bound)) ≡ false → last ≤ n
+    not_sooner n is = grind (arith, nat_tests)
 
     by : (b : Bool) → returned_by last bound i e.returned ≡ b →
         IsSeenAs last e (if b then e else record e { returned = None })
@@ -466,15 +303,15 @@ seen_as last bound i e = by (returned_by last bound i e.returned) refl
       thread = refl;
       call = refl;
       first = refl;
-      only = λ r at. (at, by_then e.returned r at is);
-      sooner = λ r at lt. at;
+      only = λ r has. (has, by_then r.last (rw has at is));
+      sooner = λ r has lt. has;
     }
     by false is = record {
       thread = refl;
       call = refl;
       first = refl;
-      only = λ r at. absurd (none-some r at);
-      sooner = λ r at lt. absurd (false≢true (sym is ∙ sooner e.returned r at lt));
+      only = λ r has. absurd (none-some r has);
+      sooner = λ r has lt. absurd (omega (arith, not_sooner r.last (rw has at is)));
     }
 
 all_seen_as : (last bound i : ℕ) (es : List Observation) → AllZip (IsSeenAs last) es (cut_entries last bound i es)
@@ -486,24 +323,21 @@ record IsUntil (last : ℕ) (e : Observation) : Type 0 where
   interval : IsInterval e
   ended : (r : Returned) → e.returned ≡ Some r → (e.first ≤ last) × (r.last ≤ last)
 
-interval_is : (e : Observation) (r : Returned) → IsInterval e → e.returned ≡ Some r → e.first ≤ r.last
-interval_is e r is at = subst (λ (o : Option Returned). MatchOption o (Unit {0}) (λ (q : Returned). e.first ≤
-    q.last)) at
-    is
-
 until_then : (last : ℕ) (e k : Observation) → IsSeenAs last e k → IsInterval e → IsUntil last k
 until_then last e k seen is = record {
   interval = by k.returned refl;
-  ended = λ r at. let was : (e.returned ≡ Some r) × (r.last ≤ last) = seen.only r at in
-      (omega (arith, seen.first, interval_is e r is was.0, was.1), was.1);
+  ended = λ r has. (omega (arith, sound r has, (seen.only r has).1), (seen.only r has).1);
 }
   where
-    by : (o : Option Returned) → k.returned ≡ o → MatchOption o (Unit {0}) (λ (r : Returned). k.first ≤ r.last)
-    by None at = tt
-    by (Some r) at = omega (arith, seen.first, interval_is e r is (seen.only r at).0)
+    sound : (r : Returned) → k.returned ≡ Some r → k.first ≤ r.last
+    sound r has = let le : e.first ≤ r.last = rw (seen.only r has).0 at is in omega (arith, seen.first)
+
+    by : (o : Option Returned) → k.returned ≡ o → IsInterval k
+    by None has = rw has tt
+    by (Some r) has = rw has (sound r has)
 
 -- two of one thread, which were there then, don't overlap
-EarlyApart : ℕ → Observation → Observation → Type 0
+abbrev EarlyApart : ℕ → Observation → Observation → Type 0
 EarlyApart last k l = is_early last k ≡ true → is_early last l ≡ true → DoNotOverlap k l
 
 still_before : (last : ℕ) (a b k l : Observation) → IsSeenAs last a k → IsSeenAs last b l →
@@ -511,136 +345,115 @@ still_before : (last : ℕ) (a b k l : Observation) → IsSeenAs last a k → Is
 still_before last a b k l a_seen b_seen early before =
     let found : (r : Returned) × ((a.returned ≡ Some r) × (r.last < b.first)) = some_before a b before in
     let le : l.first ≤ last = is_early_le last l early in
-    before_some k l found.0
-    (a_seen.sooner found.0 found.1.0 (omega (arith, found.1.1, b_seen.first, le)))
+    before_some k l found.0 (a_seen.sooner found.0 found.1.0 (omega (arith, found.1.1, b_seen.first)))
     (omega (arith, found.1.1, b_seen.first))
 
 early_apart : (last : ℕ) (a b k l : Observation) → IsSeenAs last a k → IsSeenAs last b l → DoNotOverlap a b →
     EarlyApart last k l
-unfolding EarlyApart
 early_apart last a b k l a_seen b_seen apart k_early l_early same =
-    by (apart (sym a_seen.thread ∙ same ∙ b_seen.thread))
-  where
-    by : IsBefore a b ⊎ IsBefore b a → IsBefore k l ⊎ IsBefore l k
-    by (inl before) = inl (still_before last a b k l a_seen b_seen l_early before)
-    by (inr after) = inr (still_before last b a l k b_seen a_seen k_early after)
+    elim (apart (sym a_seen.thread ∙ same ∙ b_seen.thread)) [
+      | inl before ↦ inl (still_before last a b k l a_seen b_seen l_early before)
+      | inr after ↦ inr (still_before last b a l k b_seen a_seen k_early after)
+    ]
 
-seen_is_observed : (h : ObservedHistory) (last bound : ℕ) → IsObserved h → IsObserved (seen_at last bound h)
-unfolding EarlyApart
-seen_is_observed h last bound is = record {
-  intervals = All-filter (is_early last) IsInterval ks (zip_all (IsSeenAs last) IsInterval IsInterval h.entries ks
-      (λ e k seen interval. (until_then last e k seen interval).interval) zip is.intervals);
-  apart = λ i j d lt within. apart i j d lt within (filter_passes (is_early last) ks i d (omega arith))
-      (filter_passes (is_early last) ks j d (omega arith));
-  threads = All-filter (is_early last) Threads ks (zip_all (IsSeenAs last) Threads Threads h.entries ks
-      (λ e k seen lt. subst (λ (t : ℕ). t < 64) (sym seen.thread) lt) zip is.threads);
-  suit = All-filter (is_early last) Suit ks (zip_all (IsSeenAs last) Suit Suit h.entries ks
-      (λ e k seen suits. subst (λ (call : Call). IsTrue (call_suits h.width call)) (sym seen.call) suits) zip is.suit);
-}
-  where
-    ks : List Observation
-    ks = cut_entries last bound 0 h.entries
+module _ (h : ObservedHistory) (last bound : ℕ) where
+  cut_is : AllZip (IsSeenAs last) h.entries (cut_entries last bound 0 h.entries)
+  cut_is = all_seen_as last bound 0 h.entries
 
-    zip : AllZip (IsSeenAs last) h.entries (cut_entries last bound 0 h.entries)
-    zip = all_seen_as last bound 0 h.entries
+  -- what holds of each call holds of those that are seen
+  all_kept : (P Q : Observation → Type 0) → ((e k : Observation) → IsSeenAs last e k → P e → Q k) → All P h.entries →
+      All Q (seen_at last bound h).entries
+  all_kept P Q step all = All-filter (is_early last) Q (cut_entries last bound 0 h.entries)
+      (zip_all (IsSeenAs last) P Q h.entries (cut_entries last bound 0 h.entries) step cut_is all)
 
-    Threads : Observation → Type 0
-    Threads e = e.thread < 64
+  seen_is_observed : IsObserved h → IsObserved (seen_at last bound h)
+  seen_is_observed is = record {
+    intervals = all_kept IsInterval IsInterval (λ e k seen sound. (until_then last e k seen sound).interval)
+        is.intervals;
+    apart = λ i j d lt within. apart i j d lt within (filter_passes (is_early last) ks i d (omega arith))
+        (filter_passes (is_early last) ks j d (omega arith));
+    threads = all_kept (λ e. e.thread < 64) (λ e. e.thread < 64) (λ e k seen lt. rw seen.thread lt) is.threads;
+    suit = all_kept (λ e. IsTrue (call_suits h.width e.call)) (λ e. IsTrue (call_suits h.width e.call))
+        (λ e k seen suits. rw seen.call suits) is.suit;
+  }
+    where
+      ks : List Observation
+      ks = cut_entries last bound 0 h.entries
 
-    Suit : Observation → Type 0
-    Suit e = IsTrue (call_suits h.width e.call)
+      apart : AllPairs (EarlyApart last) (kept (is_early last) (cut_entries last bound 0 h.entries))
+      apart = AllPairs-filter (EarlyApart last) (is_early last) (cut_entries last bound 0 h.entries)
+          (zip_pairs (IsSeenAs last) DoNotOverlap (EarlyApart last) h.entries (cut_entries last bound 0 h.entries)
+          (early_apart last) cut_is is.apart)
 
-    apart : AllPairs (EarlyApart last) (kept (is_early last) (cut_entries last bound 0 h.entries))
-    apart = AllPairs-filter (EarlyApart last) (is_early last) (cut_entries last bound 0 h.entries)
-        (zip_pairs (IsSeenAs last) DoNotOverlap (EarlyApart last) h.entries (cut_entries last bound 0 h.entries)
-        (λ a b k l a_seen b_seen apart. early_apart last a b k l a_seen b_seen apart)
-        (all_seen_as last bound 0 h.entries) is.apart)
+  low_then : (e k : Observation) → IsSeenAs last e k → IsLow e → IsLow k
+  low_then e k seen low = record { first = omega (arith, seen.first, low.first); last = by k.returned refl }
+    where
+      by : (o : Option Returned) → k.returned ≡ o →
+          MatchOption k.returned (Unit {0}) (λ (r : Returned). r.last < 288230376151711744)
+      by None has = rw has tt
+      by (Some r) has = rw has (rw (seen.only r has).0 at low.last)
+
+  pub seen_is_small : IsSmall h → IsSmall (seen_at last bound h)
+  seen_is_small small = record {
+    width = small.width;
+    entries = omega (
+      arith,
+      small.entries,
+      length-filter_both (is_early last) (λ e. not (is_early last e)) (λ _. refl) (cut_entries last bound 0 h.entries),
+      length_all_zip (IsSeenAs last) h.entries (cut_entries last bound 0 h.entries) cut_is,
+    );
+    positions = all_kept IsLow IsLow low_then small.positions;
+  }
 
 -- what is explained by an order is explained without what begins later, and the other way round
 leaves_out : (h : ObservedHistory) (last : ℕ) → All (IsUntil last) h.entries → IsExplained h →
     IsExplained (record h { entries = kept (is_early last) h.entries })
-unfolding WasReturned
-leaves_out h last ends explained = parted h (is_early last) (record {
-  order = until last explained.order;
+leaves_out h last ends explained = parted h (is_early last) s.sooner (record {
   by = record {
-    effects = until_all (IsEffectOf h.entries) last explained.order explained.by.effects;
-    once = until_pairs AreOfTwoEntries last explained.order explained.by.once;
-    ordered = until_pairs RespectsBefore last explained.order explained.by.ordered;
-    legal = until_legal h.limits [] (zeros h.width) last explained.order explained.by.legal;
+    effects = all_left (IsEffectOf h.entries) s.sooner s.later effects;
+    once = pairs_left AreOfTwoEntries s.sooner s.later (rw s.are at explained.by.once);
+    ordered = pairs_left RespectsBefore s.sooner s.later ordered;
+    legal = legal_left h.limits [] (zeros h.width) s.sooner s.later (rw s.are at explained.by.legal);
   };
-  passes = until_early last explained.order;
+  passes = s.early;
   returned = λ i e at has early.
       let ended : (e.first ≤ last) × (has.0.last ≤ last) = (at_index (IsUntil last) h.entries i e ends at).ended has.0
       has.1 in
-      until_has h.entries last i e has.0 explained.order at has.1 ended.1 ended.0 explained.by.effects
-      explained.by.ordered (explained.by.returned i e at has);
+      split_has h.entries last i e has.0 s.sooner s.later at has.1 ended.1 ended.0
+      (rw (drop-append_seam s.sooner s.later) at
+      (All-drop (IsEffectOf h.entries) (length s.sooner) (s.sooner ++ s.later) effects))
+      (rw (drop-append_seam s.sooner s.later) at
+      (pairs_drop RespectsBefore (length s.sooner) (s.sooner ++ s.later) ordered)) s.late
+      (rw s.are at (explained.by.returned i e at has));
 })
+  where
+    s : IsSplitAt last explained.order
+    s = split_at last explained.order
+
+    effects : All (IsEffectOf h.entries) (s.sooner ++ s.later)
+    effects = rw s.are at explained.by.effects
+
+    ordered : AllPairs RespectsBefore (s.sooner ++ s.later)
+    ordered = rw s.are at explained.by.ordered
 
 takes_back : (h : ObservedHistory) (last : ℕ) → All (IsUntil last) h.entries →
     IsExplained (record h { entries = kept (is_early last) h.entries }) → IsExplained h
-takes_back h last ends explained = record {
-  order = back.order;
-  by = record {
-    effects = back.by.effects;
-    once = back.by.once;
-    returned = λ i e at has. back.returned i e at has (early_is last e
-        ((at_index (IsUntil last) h.entries i e ends at).ended has.0 has.1).0);
-    ordered = back.by.ordered;
-    legal = back.by.legal;
-  };
-}
+takes_back h last ends explained = explained_by h _ back.by
+    (λ i e at has. back.returned i e at has (early_is last e
+    ((at_index (IsUntil last) h.entries i e ends at).ended has.0 has.1).0))
   where
-    back : PartOrder h (is_early last)
-    back = restored h (is_early last) explained
+    back : IsOrderOf h (is_early last) (map (moved (index_in_whole (is_early last) h.entries)) explained.order)
+    back = restored h (is_early last) explained.order explained.by
 
 pub seen_explains_as_much : SeenExplainsAsMuch
 seen_explains_as_much h last bound is = (
   seen_is_observed h last bound is,
-  (
-    (λ explained. leaves_out (cut last bound h) last ends explained),
-    (λ explained. takes_back (cut last bound h) last ends explained),
-  ),
+  (leaves_out (cut last bound h) last ends, takes_back (cut last bound h) last ends),
 )
   where
     ends : All (IsUntil last) (cut_entries last bound 0 h.entries)
     ends = zip_all (IsSeenAs last) IsInterval (IsUntil last) h.entries (cut_entries last bound 0 h.entries)
-        (λ e k seen interval. until_then last e k seen interval) (all_seen_as last bound 0 h.entries) is.intervals
-
--- it is no larger
-pub filter_no_longer : (p : Observation → Bool) (xs : List Observation) → length (filter p xs) ≤ length xs
-filter_no_longer p [] = omega arith
-filter_no_longer p (x ∷ xs) = by (p x) (filter_no_longer p xs)
-  where
-    by : (b : Bool) → length (filter p xs) ≤ length xs → length (cond b (x ∷ filter p xs) (filter p xs)) ≤ length
-        (x ∷ xs)
-    by true le = omega (arith, le)
-    by false le = omega (arith, le)
-
-low_then : (last : ℕ) (e k : Observation) → IsSeenAs last e k → IsLow e → IsLow k
-low_then last e k seen low = record {
-  first = omega (arith, seen.first, low.first);
-  last = by k.returned refl;
-}
-  where
-    by : (o : Option Returned) → k.returned ≡ o →
-        MatchOption o (Unit {0}) (λ (r : Returned). r.last < 288230376151711744)
-    by None at = tt
-    by (Some r) at = subst (λ (o : Option Returned). MatchOption o (Unit {0})
-        (λ (q : Returned). q.last < 288230376151711744)) (seen.only r at).0 low.last
-
-pub seen_is_small : (h : ObservedHistory) (last bound : ℕ) → IsSmall h → IsSmall (seen_at last bound h)
-seen_is_small h last bound small = record {
-  width = small.width;
-  entries = omega (
-    arith,
-    small.entries,
-    filter_no_longer (is_early last) (cut_entries last bound 0 h.entries),
-    length_all_zip (IsSeenAs last) h.entries (cut_entries last bound 0 h.entries) (all_seen_as last bound 0 h.entries),
-  );
-  positions = All-filter (is_early last) IsLow (cut_entries last bound 0 h.entries)
-      (zip_all (IsSeenAs last) IsLow IsLow h.entries (cut_entries last bound 0 h.entries)
-      (λ e k seen low. low_then last e k seen low) (all_seen_as last bound 0 h.entries) small.positions);
-}
+        (until_then last) (all_seen_as last bound 0 h.entries) is.intervals
 
 -- what was seen of the first i calls, and what will be of the others
 abbrev pub SeenSoFar : ℕ → ℕ → ℕ → List Observation → List Observation → Type 0

@@ -1,368 +1,222 @@
 -- Orders of the subhistories of lock and record, merged.
-use Rattle.std.proofs.Common.{◌≡◌, ◌≢◌, ◌⊎◌, ℕ, ◌+◌, ◌<◌, ◌≤◌, Bool, List, [], ◌∷◌, ◌++◌, length, get_or, refl, sym}
-use Rattle.std.proofs.Common.{◌∙◌}
-use Rattle.std.proofs.Common.{ap, subst, inl, inr, arith, Option, None, Some}
-use Rattle.std.proofs.Common.{true, false, zero, suc}
-use Rattle.std.specs.Prelude.{slice_get, drop, filter, option_map}
-use Rattle.std.specs.List.{All, AllPairs}
-use Rattle.std.proofs.lemmas.List.{append-nil, append_assoc, drop_more, length-map}
-use Rattle.std.proofs.lemmas.List.Elements.{All-nil}
-use Rattle.std.proofs.lemmas.Option.{none-some, same_Some, slice_get-map, slice_get_within, slice_get_read}
-use Rattle.std.proofs.lemmas.Option.{get_or_from_slice_get}
-use Rattle.std.proofs.Math.ListN.{drop_of_length-le}
-use Rattle.stamp_core.specs.declared.reply.Reply.{Reply}
+use Rattle.std.proofs.Common.{◌≡◌, ◌⊎◌, ℕ, ◌+◌, ◌<◌, ◌≤◌, Bool, true, false, List, [], ◌∷◌, ◌++◌, length, get_or, map}
+use Rattle.std.proofs.Common.{refl, sym, ◌∙◌, ap, subst, inl, inr, arith, Option, None, Some}
+use Rattle.std.specs.Prelude.{slice_get, drop, nat_lt, if◌then◌else◌}
+use Rattle.std.specs.List.{All}
+use Rattle.std.proofs.lemmas.List.{append-nil, append_assoc, drop_all, drop_more, get_or-map, length-map, map-append}
+use Rattle.std.proofs.lemmas.List.Elements.{All-drop, All-map, All-tail}
+use Rattle.std.proofs.lemmas.Bool.Decides.{nat_tests}
+use Rattle.std.proofs.lemmas.Option.{none-some, slice_get_within}
+use Rattle.std.proofs.lemmas.Simd.{map-map}
 use Rattle.stamp_explain.specs.declared.observed.Observation.{Observation}
 use Rattle.stamp_explain.specs.declared.apart.Subhistory.{Subhistory}
 use Rattle.stamp_explain.specs.declared.linearization.OrderedCall.{OrderedCall}
-use Rattle.stamp_explain.specs.Observed.{ObservedHistory, IsObserved, of_lock, of_record, is_of_lock, is_of_record}
-use Rattle.stamp_explain.specs.Explained.{Effect, IsEffectOf, RespectsBefore, IsExplained}
 use Rattle.stamp_explain.specs.declared.found.SearchEnd.{SearchEnd}
 use Rattle.stamp_explain.specs.declared.found.SearchEnd.TheVariants.{Linearization, NoOrder, GaveUp}
-use Rattle.stamp_explain.specs.Configuration.{GivesUp, GivesUpApart, IsNotRefused}
+use Rattle.stamp_explain.specs.Observed.{ObservedHistory, IsObserved, IsSmall, IsLow, of_lock, of_record}
+use Rattle.stamp_explain.specs.Observed.{is_of_lock, is_of_record}
+use Rattle.stamp_explain.specs.Explained.{Effect, IsExplained}
+use Rattle.stamp_explain.specs.Configuration.{GivesUp}
 use Rattle.stamp_explain.specs.Expand.{IsFoundApart, IsSearched}
-use Rattle.stamp_explain.specs.Linearization.{IsLinearizationOf, ordered_calls}
-use Rattle.stamp_explain.specs.Apart.{indices_where, is_of_object, of_object, IsSubhistoryOf}
-use Rattle.stamp_explain.proofs.Lists.{pairs_none, pairs_cons, pairs_head, pairs_drop}
-use Rattle.stamp_explain.proofs.Merging.IsMerge.{none, left, right}
-use Rattle.stamp_explain.proofs.Merging.{merge_all, Merges, HasInterval, respects_all, sound_of}
-use Rattle.stamp_explain.proofs.Parting.{judged_apart, merged_explains}
-use Rattle.stamp_explain.proofs.Subhistories.{all_of_lock, no_calls_explained, none_of_record, subhistory_entries}
-use Rattle.stamp_explain.proofs.Seeing.{index_in_whole, kept, PartOrder, restored, restored_at, restored_many}
-use Rattle.stamp_explain.proofs.Seeing.{indices_at}
+use Rattle.stamp_explain.specs.Linearization.{IsLinearizationOf}
+use Rattle.stamp_explain.specs.Apart.{IsSubhistoryOf, PushesSooner, StandsInWhole, first_of, in_whole, is_of_object}
+use Rattle.stamp_explain.specs.Apart.{begins_at, indices_where, of_object, lesser, merge_by, not_lesser}
+use Rattle.stamp_explain.proofs.Cutting.{explained_by_none}
+use Rattle.stamp_explain.proofs.Expanding.{at_index}
+use Rattle.stamp_explain.proofs.Parting.{begins, judged_apart, merged_explains}
+use Rattle.stamp_explain.proofs.Seeing.{IsKeptAt, index_gives, index_in_whole, moved, restored}
+use Rattle.stamp_explain.proofs.Subhistories.{all_of_lock, none_of_record}
 
--- where lock or record isn't explained, the whole isn't
-pub not_by_part : (h : ObservedHistory) → IsObserved h →
-    (¬ IsExplained (of_lock h)) ⊎ (¬ IsExplained (of_record h)) → ¬ IsExplained h
-not_by_part h observed (inl misses) explained = misses ((judged_apart h observed).1.0 explained).0
-not_by_part h observed (inr misses) explained = misses ((judged_apart h observed).1.0 explained).1
+-- the calls of an order, as they stand in the whole
+abbrev pub calls_of : Subhistory → List OrderedCall → List OrderedCall
+calls_of sub order = map (in_whole sub.indices.items) order
 
--- an order of the entries that pass, in the whole
-abbrev pub in_whole : (h : ObservedHistory) (p : Observation → Bool) (taken : List OrderedCall) →
-    IsLinearizationOf (record h { entries = kept p h.entries }) taken → PartOrder h p
-in_whole h p taken o = restored h p (record { order = o.order; by = o.explains })
-
-abbrev as_taken : Effect → OrderedCall
-as_taken x = record { index = x.index; reply = x.reply }
-
--- its k-th call
-pub record IsCallAt (h : ObservedHistory) (p : Observation → Bool) (xs : List Effect) (k : ℕ) (t : OrderedCall) : Type 0
+pub stand_in_whole : (h : ObservedHistory) (lock : Bool) (sub : Subhistory) (order : List OrderedCall) →
+    IsSubhistoryOf h lock sub → IsLinearizationOf sub.history order →
+    All (StandsInWhole h.entries sub.indices.items) order
+stand_in_whole h lock sub order is o = rw (o.are, is.indices) (All-map (StandsInWhole h.entries _)
+    (λ (x : Effect). record { index = x.index; reply = x.reply }) o.order (λ k d lt.
+    stands (get_or o.order k d) (rw is.history at (o.explains.effects k d lt).is_entry)))
   where
-    pub effect : Effect
-    pub at : slice_get xs k ≡ Some effect
-    pub index : effect.index ≡ index_in_whole p h.entries t.index
-    pub is_kept : slice_get (filter p h.entries) t.index ≡ Some effect.entry
-    pub reply : effect.reply ≡ t.reply
-
-pub call_at : (h : ObservedHistory) (p : Observation → Bool) (taken : List OrderedCall)
-    (o : IsLinearizationOf (record h { entries = kept p h.entries }) taken) (k : ℕ) (t : OrderedCall) →
-    slice_get taken k ≡ Some t → IsCallAt h p (in_whole h p taken o).order k t
-call_at h p taken o k t at = by (slice_get o.order k) refl
-  where
-    was : option_map as_taken (slice_get o.order k) ≡ Some t
-    was = sym (slice_get-map as_taken o.order k) ∙ ap (λ (xs : List OrderedCall). slice_get xs k) (sym o.are) ∙ at
-
-    by : (x : Option Effect) → slice_get o.order k ≡ x → IsCallAt h p (in_whole h p taken o).order k t
-    by None is = absurd (none-some t (ap (λ (x : Option Effect). option_map as_taken x) (sym is) ∙ was))
-    by (Some x) is =
-        let same : as_taken x ≡ t = same_Some (as_taken x) t
-        (ap (λ (x : Option Effect). option_map as_taken x) (sym is) ∙ was) in
-        let effect : IsEffectOf (kept p h.entries) x = subst (IsEffectOf (kept p h.entries))
-        (get_or_from_slice_get o.order k x x is) (o.explains.effects k x (slice_get_within o.order k x is)) in
+    stands : (x : Effect) → slice_get (of_object lock h).entries x.index ≡ Some x.entry →
+        StandsInWhole h.entries (indices_where (is_of_object lock) 0 h.entries)
+        (record { index = x.index; reply = x.reply })
+    stands x at =
+        let found = index_gives (is_of_object lock) 0 h.entries x.index x.entry at in
+        let here : IsKeptAt (is_of_object lock) 0 h.entries x.index found.0 found.0 x.entry =
+        found.1 found.0 (omega arith) in
         record {
-          effect = record { index = index_in_whole p h.entries x.index; entry = x.entry; reply = x.reply };
-          at = restored_at h p (record { order = o.order; by = o.explains }) k x is;
-          index = ap (λ (t : OrderedCall). index_in_whole p h.entries t.index) same;
-          is_kept = ap (λ (t : OrderedCall). slice_get (kept p h.entries) t.index) (sym same) ∙ effect.is_entry;
-          reply = ap (λ (t : OrderedCall). t.reply) same;
+          part = here.inside;
+          whole = rw here.index (slice_get_within h.entries found.0 x.entry here.is_entry);
         }
 
-pub as_long : (h : ObservedHistory) (p : Observation → Bool) (taken : List OrderedCall)
-    (o : IsLinearizationOf (record h { entries = kept p h.entries }) taken) →
-    length (in_whole h p taken o).order ≡ length taken
-as_long h p taken o = restored_many h p (record { order = o.order; by = o.explains }) ∙
-    sym (length-map o.order as_taken) ∙ ap (λ (xs : List OrderedCall). length xs) (sym o.are)
+pub stands_at : (h : ObservedHistory) (lock : Bool) (sub : Subhistory) (order : List OrderedCall) →
+    IsSubhistoryOf h lock sub → IsLinearizationOf sub.history order → (k : ℕ) (t : OrderedCall) → k < length order →
+    t ≡ get_or order k t → StandsInWhole h.entries sub.indices.items t
+stands_at h lock sub order is o k t lt read =
+    subst (StandsInWhole h.entries sub.indices.items) (sym read) (stand_in_whole h lock sub order is o k t lt)
 
--- with its index in the whole it is the effect there
-pub taken_there : (h : ObservedHistory) (p : Observation → Bool) (xs : List Effect) (k : ℕ) (t found : OrderedCall)
-    (call : IsCallAt h p xs k t) → slice_get (indices_where p 0 h.entries) t.index ≡ Some found.index →
-    found.reply ≡ t.reply → found ≡ as_taken call.effect
-taken_there h p xs k t found call at reply =
-    let index : found.index ≡ 0 + index_in_whole p h.entries t.index =
-    same_Some found.index (0 + index_in_whole p h.entries t.index)
-    (sym at ∙ indices_at p 0 h.entries t.index call.effect.entry call.is_kept) in
-    let entry : found.index ≡ call.effect.index = omega (arith, index, call.index) in
-    ap (λ (i : ℕ). record { index = i; reply = found.reply }) entry ∙
-    ap (λ (r : Reply). record { index = call.effect.index; reply = r }) (reply ∙ sym call.reply)
+-- the call that is next
+pub next_call : (indices : List ℕ) (order : List OrderedCall) (k : ℕ) (t : OrderedCall) → k < length order →
+    t ≡ get_or order k t → drop k (map (in_whole indices) order) ≡
+    in_whole indices t ∷ drop (k + 1) (map (in_whole indices) order)
+next_call indices order k t lt read =
+    drop_more (map (in_whole indices) order) k (in_whole indices t) (omega (arith, length-map order (in_whole indices))) ∙
+    ap (λ (c : OrderedCall). c ∷ drop (k + 1) (map (in_whole indices) order))
+    (get_or-map (in_whole indices) order k t (in_whole indices t) lt ∙ ap (in_whole indices) (sym read))
 
--- what is taken so far, and then a merge of what is left, is a merge of both
-pub record BeginsMerge (xs ys : List Effect) (found : List OrderedCall) (rest : List Effect) : Type 0 where
-  pub whole : Merges xs ys
-  pub are : ordered_calls whole.order ≡ found ++ ordered_calls rest
-
-abbrev pub MergesSoFar : List Effect → List Effect → List Effect → List Effect → List OrderedCall → Type 0
-MergesSoFar xs ys lefts rights found = (m : Merges lefts rights) → BeginsMerge xs ys found m.order
-
-merges_left : (xs ys : List Effect) (x : Effect) (lefts rights : List Effect) (found : List OrderedCall) →
-    All (RespectsBefore x) lefts → All (RespectsBefore x) rights → MergesSoFar xs ys (x ∷ lefts) rights found →
-    MergesSoFar xs ys lefts rights (found ++ as_taken x ∷ [])
-merges_left xs ys x lefts rights found on_lefts on_rights so_far m =
-    let next : BeginsMerge xs ys found (x ∷ m.order) = so_far (record {
-      order = x ∷ m.order;
-      merge = left m.merge;
-      ordered = pairs_cons RespectsBefore x m.order (merge_all (RespectsBefore x) m.merge on_lefts on_rights)
-          m.ordered;
-    }) in
-    record {
-      whole = next.whole;
-      are = next.are ∙ sym (append_assoc found (as_taken x ∷ []) (ordered_calls m.order));
-    }
-
-merges_right : (xs ys : List Effect) (y : Effect) (lefts rights : List Effect) (found : List OrderedCall) →
-    All (RespectsBefore y) lefts → All (RespectsBefore y) rights → MergesSoFar xs ys lefts (y ∷ rights) found →
-    MergesSoFar xs ys lefts rights (found ++ as_taken y ∷ [])
-merges_right xs ys y lefts rights found on_lefts on_rights so_far m =
-    let next : BeginsMerge xs ys found (y ∷ m.order) = so_far (record {
-      order = y ∷ m.order;
-      merge = right m.merge;
-      ordered = pairs_cons RespectsBefore y m.order (merge_all (RespectsBefore y) m.merge on_lefts on_rights)
-          m.ordered;
-    }) in
-    record {
-      whole = next.whole;
-      are = next.are ∙ sym (append_assoc found (as_taken y ∷ []) (ordered_calls m.order));
-    }
-
--- what is left of the orders
-next_left : (xs : List Effect) (k : ℕ) (x : Effect) → slice_get xs k ≡ Some x → drop k xs ≡ x ∷ drop (k + 1) xs
-next_left xs k x at = drop_more xs k x (slice_get_within xs k x at) ∙
-    ap (λ (y : Effect). y ∷ drop (k + 1) xs) (get_or_from_slice_get xs k x x at)
-
-later_left : (xs : List Effect) (k : ℕ) (x : Effect) → slice_get xs k ≡ Some x → AllPairs RespectsBefore xs →
-    All (RespectsBefore x) (drop (k + 1) xs)
-later_left xs k x at all = pairs_head RespectsBefore x (drop (k + 1) xs)
-    (subst (AllPairs RespectsBefore) (next_left xs k x at) (pairs_drop RespectsBefore k xs all))
-
-inside_or_past : (taken : List OrderedCall) (k : ℕ) →
-    ((t : OrderedCall) × (slice_get taken k ≡ Some t)) ⊎ (length taken ≤ k)
-inside_or_past [] k = inr (omega arith)
-inside_or_past (t ∷ taken) zero = inl (t, refl)
-inside_or_past (t ∷ taken) (suc k) = by (inside_or_past taken k)
+-- the calls pushed so far, and those that are yet to be
+pub record IsPushing (entries : List Observation) (calls : List OrderedCall) (position from next : ℕ)
+    (old new : List OrderedCall) : Type 0
   where
-    by : ((s : OrderedCall) × (slice_get taken k ≡ Some s)) ⊎ (length taken ≤ k) →
-        ((s : OrderedCall) × (slice_get (t ∷ taken) (suc k) ≡ Some s)) ⊎ (length (t ∷ taken) ≤ suc k)
-    by (inl found) = inl found
-    by (inr past) = inr (omega (arith, past))
+    pub pushed : old ++ lesser (first_of entries) position (drop from calls) ≡
+        new ++ lesser (first_of entries) position (drop next calls)
+    pub left : not_lesser (first_of entries) position (drop from calls) ≡
+        not_lesser (first_of entries) position (drop next calls)
 
--- of the entries alone, the k-th of the others, if there is one, began no sooner than this call
-abbrev pub BeganFirst : List Observation → List Observation → OrderedCall → List OrderedCall → ℕ → Type 0
-BeganFirst es fs t others k = (s : OrderedCall) (e f : Observation) → slice_get others k ≡ Some s →
-    slice_get es t.index ≡ Some e → slice_get fs s.index ≡ Some f → e.first ≤ f.first
-
-respects_left : (h : ObservedHistory) (p : Observation → Bool) (others : List OrderedCall)
-    (o : IsLinearizationOf (record h { entries = kept p h.entries }) others) (k : ℕ) (t : OrderedCall) (x : Effect)
-    (es : List Observation) → IsObserved h → slice_get es t.index ≡ Some x.entry →
-    BeganFirst es (kept p h.entries) t others k → All (RespectsBefore x) (drop k (in_whole h p others o).order)
-respects_left h p others o k t x es observed is first = by (inside_or_past others k)
+pub pushes_one : (entries : List Observation) (calls : List OrderedCall) (position from next : ℕ)
+    (old new : List OrderedCall) (c : OrderedCall) → drop next calls ≡ c ∷ drop (next + 1) calls →
+    first_of entries c < position → IsPushing entries calls position from next old new →
+    IsPushing entries calls position from (next + 1) old (new ++ c ∷ [])
+pushes_one entries calls position from next old new c at less is = record {
+  pushed = (rw (at, so) at is.pushed) ∙ sym (append_assoc new (c ∷ []) _);
+  left = rw (at, so) at is.left;
+}
   where
-    ys : List Effect
-    ys = (in_whole h p others o).order
+    so : nat_lt (first_of entries c) position ≡ true
+    so = test (first_of entries c) less
+      where
+        test : (n : ℕ) → n < position → nat_lt n position ≡ true
+        test n less = grind (arith, nat_tests)
 
-    by : ((s : OrderedCall) × (slice_get others k ≡ Some s)) ⊎ (length others ≤ k) →
-        All (RespectsBefore x) (drop k (in_whole h p others o).order)
-    by (inr past) = subst (All (RespectsBefore x))
-        (sym (drop_of_length-le (in_whole h p others o).order (omega (arith, past, as_long h p others o))))
-        (All-nil (RespectsBefore x))
-    by (inl (s, at)) =
-        let call : IsCallAt h p (in_whole h p others o).order k s = call_at h p others o k s at in
-        let sound : All HasInterval (in_whole h p others o).order =
-        sound_of h (in_whole h p others o).order observed (in_whole h p others o).by.effects in
-        subst (All (RespectsBefore x)) (sym (next_left (in_whole h p others o).order k call.effect call.at))
-        (respects_all x call.effect (drop (k + 1) (in_whole h p others o).order)
-        (first s x.entry call.effect.entry at is call.is_kept)
-        (subst HasInterval (get_or_from_slice_get (in_whole h p others o).order k call.effect call.effect call.at)
-        (sound k call.effect (slice_get_within (in_whole h p others o).order k call.effect call.at)))
-        (later_left (in_whole h p others o).order k call.effect call.at (in_whole h p others o).by.ordered))
+pub pushes_all : (entries : List Observation) (calls : List OrderedCall) (position from next : ℕ)
+    (old new : List OrderedCall) → next ≤ length calls →
+    (length calls ≤ next) ⊎ ((c : OrderedCall) × ((drop next calls ≡ c ∷ drop (next + 1) calls) ×
+    (position ≤ first_of entries c))) → IsPushing entries calls position from next old new →
+    PushesSooner entries calls position from next old new
+pushes_all entries calls position from next old new inside (inl over) is =
+    let none : drop next calls ≡ [] = drop_all next calls over in
+    record {
+      inside = inside;
+      pushed = sym (append-nil new) ∙ sym (rw none at is.pushed);
+      left = rw none (sym (rw none at is.left));
+    }
+pushes_all entries calls position from next old new inside (inr (c, (at, le))) is = record {
+  inside = inside;
+  pushed = sym (append-nil new) ∙ sym (rw (at, so) at is.pushed);
+  left = rw at (sym (rw (at, so) at is.left));
+}
+  where
+    so : nat_lt (first_of entries c) position ≡ false
+    so = test (first_of entries c) le
+      where
+        test : (n : ℕ) → position ≤ n → nat_lt n position ≡ false
+        test n le = grind (arith, nat_tests)
 
--- the calls found so far, of the first i of the one order and the first j of the other
-pub record UnitesSoFar (h : ObservedHistory) (lock_order record_order : List OrderedCall) (i j : ℕ) (found : List
-    OrderedCall) : Type 0 where
-  pub locks : IsLinearizationOf (of_lock h) lock_order
-  pub records : IsLinearizationOf (of_record h) record_order
-  pub locks_within : i ≤ length lock_order
-  pub records_within : j ≤ length record_order
-  pub merges : MergesSoFar (in_whole h is_of_lock lock_order locks).order
-      (in_whole h is_of_record record_order records).order
-      (drop i (in_whole h is_of_lock lock_order locks).order)
-      (drop j (in_whole h is_of_record record_order records).order) found
+-- what is merged so far, and what is yet to be
+pub record MergesSoFar (entries : List Observation) (xs ys : List OrderedCall) (k next : ℕ) (found : List OrderedCall)
+    : Type 0
+  where
+    pub inside : next ≤ length ys
+    pub are : found ++ merge_by (first_of entries) (drop k xs) (drop next ys) ≡ merge_by (first_of entries) xs ys
 
-pub unites_none : (h : ObservedHistory) (of_locks of_records : Subhistory)
-    (lock_order record_order found : List OrderedCall) → IsSubhistoryOf h true of_locks →
-    IsSubhistoryOf h false of_records → IsLinearizationOf of_locks.history lock_order →
-    IsLinearizationOf of_records.history record_order → found ≡ [] → UnitesSoFar h lock_order record_order 0 0 found
-unites_none h of_locks of_records lock_order record_order found locks records locks_are records_are empty = record {
-  locks = subst (λ (g : ObservedHistory). IsLinearizationOf g lock_order) locks.history locks_are;
-  records = subst (λ (g : ObservedHistory). IsLinearizationOf g record_order) records.history records_are;
-  locks_within = omega arith;
-  records_within = omega arith;
-  merges = λ m. record { whole = m; are = ap (λ (xs : List OrderedCall). xs ++ ordered_calls m.order) (sym empty) };
+pub merges_one : (entries : List Observation) (xs ys : List OrderedCall) (k next to : ℕ)
+    (found new : List OrderedCall) (c : OrderedCall) → drop k xs ≡ c ∷ drop (k + 1) xs →
+    PushesSooner entries ys (first_of entries c) next to found new → MergesSoFar entries xs ys k next found →
+    MergesSoFar entries xs ys (k + 1) to (new ++ c ∷ [])
+merges_one entries xs ys k next to found new c at pushes is = record {
+  inside = pushes.inside;
+  are = append_assoc new (c ∷ []) _ ∙
+      rw (pushes.pushed, pushes.left, append_assoc found _ _) (rw at at is.are);
 }
 
-pub unites_lock : (h : ObservedHistory) (of_locks of_records : Subhistory) (lock_order record_order found : List
-    OrderedCall)
-    (i j : ℕ) (t new : OrderedCall) → IsObserved h → IsSubhistoryOf h true of_locks →
-    IsSubhistoryOf h false of_records →
-    slice_get lock_order i ≡ Some t → slice_get of_locks.indices.items t.index ≡ Some new.index →
-    new.reply ≡ t.reply → BeganFirst of_locks.history.entries of_records.history.entries t record_order j →
-    UnitesSoFar h lock_order record_order i j found →
-    UnitesSoFar h lock_order record_order (i + 1) j (found ++ new ∷ [])
-unites_lock h of_locks of_records lock_order record_order found i j t new observed locks records at to reply first u =
-    record {
-      locks = u.locks;
-      records = u.records;
-      locks_within = omega (arith, slice_get_within lock_order i t at);
-      records_within = u.records_within;
-      merges = subst (λ (s : OrderedCall). MergesSoFar xs ys (drop (i + 1) xs) (drop j ys) (found ++ s ∷ []))
-          (sym (taken_there h is_of_lock xs i t new call
-          (subst (λ (ns : List ℕ). slice_get ns t.index ≡ Some new.index) locks.indices to) reply))
-          (merges_left xs ys call.effect (drop (i + 1) xs) (drop j ys) found
-          (later_left xs i call.effect call.at (in_whole h is_of_lock lock_order u.locks).by.ordered)
-          (respects_left h is_of_record record_order u.records j t call.effect (kept is_of_lock h.entries) observed
-          call.is_kept first_there)
-          (subst (λ (rest : List Effect). MergesSoFar xs ys rest (drop j ys) found)
-          (next_left xs i call.effect call.at) u.merges));
-    }
+all_lesser : {X : Type 0} (number : X → ℕ) (n : ℕ) (xs : List X) → All (λ (x : X). number x < n) xs →
+    lesser number n xs ≡ xs
+all_lesser number n [] all = refl
+all_lesser number n (x ∷ xs) all = rw (so (number x) (all 0 x (omega arith)))
+    (ap (λ ys. x ∷ ys) (all_lesser number n xs (All-tail (λ x. number x < n) x xs all)))
   where
-    xs : List Effect
-    xs = (in_whole h is_of_lock lock_order u.locks).order
+    so : (m : ℕ) → m < n → nat_lt m n ≡ true
+    so m less = grind (arith, nat_tests)
 
-    ys : List Effect
-    ys = (in_whole h is_of_record record_order u.records).order
-
-    call : IsCallAt h is_of_lock xs i t
-    call = call_at h is_of_lock lock_order u.locks i t at
-
-    first_there : BeganFirst (kept is_of_lock h.entries) (kept is_of_record h.entries) t record_order j
-    first_there = subst (λ (es : List Observation). BeganFirst es (kept is_of_record h.entries) t record_order j)
-        (subhistory_entries h true of_locks locks)
-        (subst (λ (fs : List Observation). BeganFirst of_locks.history.entries fs t record_order j)
-        (subhistory_entries h false of_records records) first)
-
-pub unites_record : (h : ObservedHistory) (of_locks of_records : Subhistory)
-    (lock_order record_order found : List OrderedCall) (i j : ℕ) (t new : OrderedCall) → IsObserved h →
-    IsSubhistoryOf h true of_locks → IsSubhistoryOf h false of_records → slice_get record_order j ≡ Some t →
-    slice_get of_records.indices.items t.index ≡ Some new.index → new.reply ≡ t.reply →
-    BeganFirst of_records.history.entries of_locks.history.entries t lock_order i →
-    UnitesSoFar h lock_order record_order i j found →
-    UnitesSoFar h lock_order record_order i (j + 1) (found ++ new ∷ [])
-unites_record h of_locks of_records lock_order record_order found i j t new observed locks records at to reply first
-    u =
-    record {
-      locks = u.locks;
-      records = u.records;
-      locks_within = u.locks_within;
-      records_within = omega (arith, slice_get_within record_order j t at);
-      merges = subst (λ (s : OrderedCall). MergesSoFar xs ys (drop i xs) (drop (j + 1) ys) (found ++ s ∷ []))
-          (sym (taken_there h is_of_record ys j t new call
-          (subst (λ (ns : List ℕ). slice_get ns t.index ≡ Some new.index) records.indices to) reply))
-          (merges_right xs ys call.effect (drop i xs) (drop (j + 1) ys) found
-          (respects_left h is_of_lock lock_order u.locks i t call.effect (kept is_of_record h.entries) observed
-          call.is_kept first_there)
-          (later_left ys j call.effect call.at (in_whole h is_of_record record_order u.records).by.ordered)
-          (subst (λ (rest : List Effect). MergesSoFar xs ys (drop i xs) rest found)
-          (next_left ys j call.effect call.at) u.merges));
-    }
+-- each begins below the end of positions
+pub all_low : (h : ObservedHistory) (indices : List ℕ) (order : List OrderedCall) → IsSmall h →
+    All (StandsInWhole h.entries indices) order →
+    All (λ (c : OrderedCall). first_of h.entries c < 288230376151711744) (map (in_whole indices) order)
+all_low h indices order small stand = All-map (λ (c : OrderedCall). first_of h.entries c < 288230376151711744)
+    (in_whole indices) order (λ k d lt. low (get_or indices (get_or order k d).index 0) (stand k d lt).whole)
   where
-    xs : List Effect
-    xs = (in_whole h is_of_lock lock_order u.locks).order
+    low : (i : ℕ) → i < length h.entries → begins_at (slice_get h.entries i) < 288230376151711744
+    low i lt = by (slice_get h.entries i) refl
+      where
+        by : (o : Option Observation) → slice_get h.entries i ≡ o → begins_at o < 288230376151711744
+        by None is = omega arith
+        by (Some e) is = (at_index IsLow h.entries i e small.positions is).first
 
-    ys : List Effect
-    ys = (in_whole h is_of_record record_order u.records).order
+pub merges_all : (entries : List Observation) (xs ys : List OrderedCall) (k next to end : ℕ)
+    (found new : List OrderedCall) → length xs ≤ k → All (λ (c : OrderedCall). first_of entries c < end) ys →
+    PushesSooner entries ys end next to found new → MergesSoFar entries xs ys k next found →
+    new ≡ merge_by (first_of entries) xs ys
+merges_all entries xs ys k next to end found new over low pushes is = pushes.pushed ∙
+    ap (λ (cs : List OrderedCall). found ++ cs) (all_lesser (first_of entries) end (drop next ys)
+    (All-drop (λ (c : OrderedCall). first_of entries c < end) next ys low)) ∙ (rw (drop_all k xs over) at is.are)
 
-    call : IsCallAt h is_of_record ys j t
-    call = call_at h is_of_record record_order u.records j t at
+-- the merged calls are those of the merged order
+lesser_map : {X Y : Type 0} (g : X → Y) (number : Y → ℕ) (n : ℕ) (xs : List X) →
+    map g (lesser (λ x. number (g x)) n xs) ≡ lesser number n (map g xs)
+lesser_map g number n [] = refl
+lesser_map g number n (x ∷ xs) = by (nat_lt (number (g x)) n) (lesser_map g number n xs)
+  where
+    by : (b : Bool) → map g (lesser (λ x. number (g x)) n xs) ≡ lesser number n (map g xs) →
+        map g (if b then x ∷ lesser (λ x. number (g x)) n xs else []) ≡
+        if b then g x ∷ lesser number n (map g xs) else []
+    by true same = ap (λ ys. g x ∷ ys) same
+    by false same = refl
 
-    first_there : BeganFirst (kept is_of_record h.entries) (kept is_of_lock h.entries) t lock_order i
-    first_there = subst (λ (es : List Observation). BeganFirst es (kept is_of_lock h.entries) t lock_order i)
-        (subhistory_entries h false of_records records)
-        (subst (λ (fs : List Observation). BeganFirst of_records.history.entries fs t lock_order i)
-        (subhistory_entries h true of_locks locks) first)
+not_lesser_map : {X Y : Type 0} (g : X → Y) (number : Y → ℕ) (n : ℕ) (xs : List X) →
+    map g (not_lesser (λ x. number (g x)) n xs) ≡ not_lesser number n (map g xs)
+not_lesser_map g number n [] = refl
+not_lesser_map g number n (x ∷ xs) = by (nat_lt (number (g x)) n) (not_lesser_map g number n xs)
+  where
+    by : (b : Bool) → map g (not_lesser (λ x. number (g x)) n xs) ≡ not_lesser number n (map g xs) →
+        map g (if b then not_lesser (λ x. number (g x)) n xs else x ∷ xs) ≡
+        if b then not_lesser number n (map g xs) else g x ∷ map g xs
+    by true same = same
+    by false same = refl
 
-pub united : (h : ObservedHistory) (lock_order record_order found : List OrderedCall) (i j : ℕ) → IsObserved h →
-    length lock_order ≤ i → length record_order ≤ j → UnitesSoFar h lock_order record_order i j found →
+merge_map : {X Y : Type 0} (g : X → Y) (number : Y → ℕ) (xs ys : List X) →
+    map g (merge_by (λ x. number (g x)) xs ys) ≡ merge_by number (map g xs) (map g ys)
+merge_map g number [] ys = refl
+merge_map g number (x ∷ xs) ys =
+    map-append g (lesser (λ x. number (g x)) (number (g x)) ys) _ ∙
+    rw (lesser_map g number (number (g x)) ys, merge_map g number xs _, not_lesser_map g number (number (g x)) ys)
+
+abbrev as_call : Effect → OrderedCall
+as_call x = record { index = x.index; reply = x.reply }
+
+same_calls : (h : ObservedHistory) (lock : Bool) (sub : Subhistory) (order : List OrderedCall)
+    (is : IsSubhistoryOf h lock sub) (o : IsLinearizationOf sub.history order) → calls_of sub order ≡
+    map as_call (map (moved (index_in_whole (is_of_object lock) h.entries)) o.order)
+same_calls h lock sub order is o = rw (is.indices, o.are) (map-map _ _ o.order ∙ sym (map-map _ _ o.order))
+
+pub united : (h : ObservedHistory) (locks records : Subhistory) (lock_order record_order found : List OrderedCall) →
+    IsObserved h → IsSubhistoryOf h true locks → IsSubhistoryOf h false records →
+    IsLinearizationOf locks.history lock_order → IsLinearizationOf records.history record_order →
+    found ≡ merge_by (first_of h.entries) (calls_of locks lock_order) (calls_of records record_order) →
     IsLinearizationOf h found
-united h lock_order record_order found i j observed locks_over records_over u = record {
-  order = all.whole.order;
-  explains = merged_explains h observed (in_whole h is_of_lock lock_order u.locks)
-      (in_whole h is_of_record record_order u.records) all.whole;
-  are = sym (append-nil found) ∙ sym all.are;
+united h locks records lock_order record_order found observed is also a b same = record {
+  order = merge_by (begins h) xs ys;
+  explains = merged_explains h xs ys observed (restored h is_of_lock a.order (rw is.history at a.explains))
+      (restored h is_of_record b.order (rw also.history at b.explains));
+  are = same ∙ rw (same_calls h true locks lock_order is a, same_calls h false records record_order also b)
+      (sym (merge_map as_call (first_of h.entries) xs ys));
 }
   where
     xs : List Effect
-    xs = (in_whole h is_of_lock lock_order u.locks).order
+    xs = map (moved (index_in_whole is_of_lock h.entries)) a.order
 
     ys : List Effect
-    ys = (in_whole h is_of_record record_order u.records).order
-
-    no_lefts : drop i xs ≡ []
-    no_lefts = drop_of_length-le xs (omega (arith, locks_over, as_long h is_of_lock lock_order u.locks))
-
-    no_rights : drop j ys ≡ []
-    no_rights = drop_of_length-le ys (omega (arith, records_over, as_long h is_of_record record_order u.records))
-
-    all : BeginsMerge xs ys found []
-    all = subst (λ (lefts : List Effect). MergesSoFar xs ys lefts [] found) no_lefts
-        (subst (λ (rights : List Effect). MergesSoFar xs ys (drop i xs) rights found) no_rights u.merges)
-        (record { order = []; merge = none; ordered = pairs_none RespectsBefore })
-
--- what is read on the way
-pub call_inside : (h : ObservedHistory) (lock : Bool) (sub : Subhistory) (order : List OrderedCall) (k : ℕ) (t :
-    OrderedCall) → IsSubhistoryOf h lock sub → IsLinearizationOf sub.history order → slice_get order k ≡ Some t →
-    t.index < length sub.history.entries
-call_inside h lock sub order k t is o at =
-    let call : IsCallAt h (is_of_object lock) (in_whole h (is_of_object lock) order
-    (subst (λ (g : ObservedHistory). IsLinearizationOf g order) is.history o)).order k t =
-    call_at h (is_of_object lock) order
-    (subst (λ (g : ObservedHistory). IsLinearizationOf g order) is.history o) k t at in
-    subst (λ (es : List Observation). t.index < length es) (sym (subhistory_entries h lock sub is))
-    (slice_get_within (kept (is_of_object lock) h.entries) t.index call.effect.entry call.is_kept)
-
-pub index_inside : (h : ObservedHistory) (lock : Bool) (sub : Subhistory) (order : List OrderedCall) (k : ℕ) (t :
-    OrderedCall) → IsSubhistoryOf h lock sub → IsLinearizationOf sub.history order → slice_get order k ≡ Some t →
-    t.index < length sub.indices.items
-index_inside h lock sub order k t is o at =
-    let call : IsCallAt h (is_of_object lock) (in_whole h (is_of_object lock) order
-    (subst (λ (g : ObservedHistory). IsLinearizationOf g order) is.history o)).order k t =
-    call_at h (is_of_object lock) order
-    (subst (λ (g : ObservedHistory). IsLinearizationOf g order) is.history o) k t at in
-    subst (λ (ns : List ℕ). t.index < length ns) (sym is.indices)
-    (slice_get_within (indices_where (is_of_object lock) 0 h.entries) t.index
-    (0 + index_in_whole (is_of_object lock) h.entries t.index)
-    (indices_at (is_of_object lock) 0 h.entries t.index call.effect.entry call.is_kept))
-
-pub read_again : (order : List OrderedCall) (k : ℕ) (t s : OrderedCall) → k < length order → t ≡ get_or order k t →
-    s ≡ get_or order k s → t ≡ s
-read_again order k t s lt t_is s_is = same_Some t s (sym (slice_get_read order (length order) k t refl lt t_is) ∙
-    slice_get_read order (length order) k s refl lt s_is)
-
-pub none_is_next : (es fs : List Observation) (t : OrderedCall) (others : List OrderedCall) (k : ℕ) →
-    length others ≤ k → BeganFirst es fs t others k
-none_is_next es fs t others k past s e f at at_e at_f =
-    absurd (omega (arith, past, slice_get_within others k s at))
-
--- the position at which this call of the entries began
-abbrev pub IsFirstOf : List Observation → OrderedCall → ℕ → Type 0
-IsFirstOf es t first = (e : Observation) → slice_get es t.index ≡ Some e → first ≡ e.first
-
-pub began_first : (es fs : List Observation) (t s : OrderedCall) (others : List OrderedCall) (k a b : ℕ) →
-    IsFirstOf es t a → IsFirstOf fs s b → slice_get others k ≡ Some s → a ≤ b → BeganFirst es fs t others k
-began_first es fs t s others k a b t_is s_is at le u e f at_u at_e at_f =
-    let same : s ≡ u = same_Some s u (sym at ∙ at_u) in
-    omega (
-      arith,
-      le,
-      t_is e at_e,
-      s_is f (ap (λ (v : OrderedCall). slice_get fs v.index) same ∙ at_f),
-    )
+    ys = map (moved (index_in_whole is_of_record h.entries)) b.order
 
 -- what one search finds where there is no record
 pub found_alone : (h : ObservedHistory) (most : ℕ) (found : SearchEnd) → IsObserved h → h.width ≡ 0 →
@@ -370,47 +224,18 @@ pub found_alone : (h : ObservedHistory) (most : ℕ) (found : SearchEnd) → IsO
 found_alone h most (Linearization order) observed without found = found
 found_alone h most NoOrder observed without found = found
 found_alone h most GaveUp observed without found =
-    let given_up : GivesUp (of_lock h) most =
-    subst (λ (g : ObservedHistory). GivesUp g most) (sym (all_of_lock h observed without)) found in
-    record {
-      lock = inl given_up;
-      guarded = inr (no_calls_explained (of_record h) (none_of_record h observed without));
-      one = inl given_up;
-    }
-
--- of neither the search found that no order explains it
-not_refused : (h : ObservedHistory) (most : ℕ) (lock : Bool) (sub : Subhistory) (found : SearchEnd) →
-    IsSubhistoryOf h lock sub → IsSearched sub.history most found → found ≢ NoOrder →
-    IsNotRefused (of_object lock h) most
-not_refused h most lock sub (Linearization order) is found some = inr (subst IsExplained is.history
-    (record { order = found.order; by = found.explains }))
-not_refused h most lock sub NoOrder is found some = absurd (some refl)
-not_refused h most lock sub GaveUp is found some = inl (subst (λ (g : ObservedHistory). GivesUp g most) is.history
-    found)
-
--- one of the searches gave up, and none found that there is no order
-pub given_up_by : (h : ObservedHistory) (most : ℕ) (locks records : Subhistory) (a b : SearchEnd) →
-    IsSubhistoryOf h true locks → IsSubhistoryOf h false records → IsSearched locks.history most a →
-    IsSearched records.history most b → a ≢ NoOrder → b ≢ NoOrder → (a ≡ GaveUp) ⊎ (b ≡ GaveUp) →
-    GivesUpApart h most
-given_up_by h most locks records a b is also found too some any one = record {
-  lock = not_refused h most true locks a is found some;
-  guarded = not_refused h most false records b also too any;
-  one = by one;
-}
-  where
-    by : (a ≡ GaveUp) ⊎ (b ≡ GaveUp) → GivesUp (of_lock h) most ⊎ GivesUp (of_record h) most
-    by (inl same) = inl (subst (λ (g : ObservedHistory). GivesUp g most) is.history
-        (subst (λ (f : SearchEnd). IsSearched locks.history most f) same found))
-    by (inr same) = inr (subst (λ (g : ObservedHistory). GivesUp g most) also.history
-        (subst (λ (f : SearchEnd). IsSearched records.history most f) same too))
+    let given_up : GivesUp (of_lock h) most = rw (all_of_lock h observed without) found in
+    let no_calls : IsExplained (of_record h) = record {
+      order = [];
+      by = explained_by_none (of_record h) (λ i at. none-some at.entry
+          (rw (none_of_record h observed without) at at.is_entry));
+    } in
+    record { lock = inl given_up; guarded = inr no_calls; one = inl given_up }
 
 -- where no order explains one of them, none explains the whole
 pub none_of_one : (h : ObservedHistory) (lock : Bool) (sub : Subhistory) → IsObserved h → IsSubhistoryOf h lock sub →
     ¬ IsExplained sub.history → ¬ IsExplained h
-none_of_one h true sub observed is misses = not_by_part h observed (inl (subst (λ (g : ObservedHistory). ¬
-    IsExplained g)
-    is.history misses))
-none_of_one h false sub observed is misses = not_by_part h observed (inr (subst (λ (g : ObservedHistory). ¬
-    IsExplained g)
-    is.history misses))
+none_of_one h true sub observed is misses explained =
+    misses (rw is.history ((judged_apart h observed).1.0 explained).0)
+none_of_one h false sub observed is misses explained =
+    misses (rw is.history ((judged_apart h observed).1.0 explained).1)

@@ -1,11 +1,12 @@
 //! The subhistories of the lock and of the record, and the merging of their orders.
-ghost use Rattle.std.specs.Prelude.{◌≡◌, ◌<◌, true, false, length, slice_get, Some, IfOk};
+ghost use Rattle.std.specs.Prelude.{◌≡◌, ◌<◌, ◌≤◌, true, false, length, map, slice_get, IfOk};
+ghost use Rattle.std.specs.List.{All};
 ghost use Rattle.stamp_explain.specs.Observed.{IsObserved};
 ghost use Rattle.stamp_explain.specs.Linearization.{IsLinearizationOf};
-ghost use Rattle.stamp_explain.specs.Apart.{IsSubhistoryOf};
+ghost use Rattle.stamp_explain.specs.Apart.{IsSubhistoryOf, StandsInWhole, PushesSooner, begins_at, in_whole};
 
 use crate::linearization::OrderedCall;
-use crate::observed::{Observation, Observed};
+use crate::observed::{END_OF_POSITIONS, Observation, Observed};
 use std::alloc::{AllocError, Global};
 
 /// The calls of one object alone, with the index of each in the whole history.
@@ -38,25 +39,49 @@ pub(crate) fn subhistory_of(
 }
 
 impl Subhistory {
-    /// The position at which this call began.
-    fn first_of(&self, call: OrderedCall) -> u64
-        requires { call.index < length self.now.history.entries }
-        ensures { (e : Observation) → slice_get self.now.history.entries call.index ≡ Some e → result ≡ e.first }
-    {
-        self.history.entries()[call.index].first
-    }
-
     /// The same call, with its index in the whole history.
     fn in_whole(&self, call: OrderedCall) -> OrderedCall
         requires { call.index < length self.now.indices.items }
-        ensures index { slice_get self.now.indices.items call.index ≡ Some result.index }
-        ensures reply { result.reply ≡ call.reply }
+        ensures { result ≡ in_whole self.now.indices.items call }
     {
         OrderedCall {
             index: self.indices[call.index],
             reply: call.reply,
         }
     }
+}
+
+/// The position at which the call of this index began.
+fn first_at(entries: &[Observation], i: usize) -> u64
+    requires { i < length entries.now }
+    ensures { result ≡ begins_at (slice_get entries.now i) }
+{
+    entries[i].first
+}
+
+/// Appends the calls of an order, from this one on, up to the first that didn't begin before this position; gives
+/// how many of the order come before that.
+fn push_sooner(
+    entries: &[Observation],
+    calls: &Subhistory,
+    order: &[OrderedCall],
+    from: usize,
+    position: u64,
+    merged: &mut Vec<OrderedCall>,
+) -> Result<usize, AllocError>
+    requires from { from ≤ length order.now }
+    requires stand { All (StandsInWhole entries.now calls.now.indices.items) order.now }
+    ensures { IfOk result (λ to. PushesSooner entries.now (map (in_whole calls.now.indices.items) order.now) position
+        from to merged.old.items merged.new.items) }
+{
+    for next in from..order.len() {
+        let call = calls.in_whole(order[next]);
+        if position <= first_at(entries, call.index) {
+            return Ok(next);
+        }
+        merged.push(call)?;
+    }
+    Ok(order.len())
 }
 
 /// Merges an order of each subhistory into one of the whole history: of the two calls that are next,
@@ -76,20 +101,29 @@ pub(crate) fn merged(
     requires record_order { IsLinearizationOf record_calls.now.history record_order.now }
     ensures { IfOk result (λ order. IsLinearizationOf observed.now order.items) }
 {
-    let mut order = Vec::with_capacity(alloc, observed.entries().len())?;
-    let mut i = 0;
-    let mut j = 0;
-    while i < lock_order.len() || j < record_order.len() {
-        let lock_is_next = j == record_order.len()
-            || i < lock_order.len()
-                && lock_calls.first_of(lock_order[i]) <= record_calls.first_of(record_order[j]);
-        if lock_is_next {
-            order.push(lock_calls.in_whole(lock_order[i]))?;
-            i += 1;
-        } else {
-            order.push(record_calls.in_whole(record_order[j]))?;
-            j += 1;
-        }
+    let entries = observed.entries();
+    let mut order = Vec::with_capacity(alloc, entries.len())?;
+    let mut next = 0;
+    for lock_call in lock_order {
+        let call = lock_calls.in_whole(*lock_call);
+        let position = first_at(entries, call.index);
+        next = push_sooner(
+            entries,
+            record_calls,
+            record_order,
+            next,
+            position,
+            &mut order,
+        )?;
+        order.push(call)?;
     }
+    push_sooner(
+        entries,
+        record_calls,
+        record_order,
+        next,
+        END_OF_POSITIONS,
+        &mut order,
+    )?;
     Ok(order)
 }

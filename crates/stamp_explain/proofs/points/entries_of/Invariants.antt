@@ -1,5 +1,7 @@
+use Rattle.stamp_explain.specs.Linearization.{IsLinearizationOf}
 use Rattle.stamp_explain.proofs.MakingEntries.{MakesEntries}
 use Rattle.stamp_explain.proofs.points.entries_of.Given as goal
 
 abbrev pub invariant-loop-call : goal.invariant-loop-call
-invariant-loop-call l = MakesEntries l.observed l.order l.end l.call-index l.made.items l.next.position l.next.earlier
+invariant-loop-call l = (o : IsLinearizationOf l.observed l.order) →
+    MakesEntries o.order l.end l.call-index l.made.items l.next.position l.next.earlier
