@@ -4,7 +4,6 @@ pub mod LockEvent
 pub mod IsWellFormed
 pub mod Stamp
 pub mod Word
-pub mod Words
 pub mod Call
 pub mod Transition
 pub mod Decision
@@ -19,3 +18,4 @@ pub mod StampKind
 pub mod Respelling
 pub mod Replayed
 pub mod Laws
+pub mod inner
