@@ -2,12 +2,13 @@
 # Builds the static library and a C program by the two commands of docs/C.md, in a copy that is as a fresh
 # clone: in FOLDER, which is made. The program must print what the page says.
 #
-#   tests/archive/build.sh FOLDER
+#   tests/archive/build.sh FOLDER [LIBRARY]
 #
-# It proves stamp_core and stamped_c from nothing (some minutes). The archive is then
-# FOLDER/crates/stamped_c/out/libstamped_c.a.
+# LIBRARY is the folder of stamp_core's library, as the gate has built it; without it stamp_core is proved anew (some
+# minutes). The archive is then FOLDER/crates/stamped_c/out/libstamped_c.a.
 set -euo pipefail
 top=$(cd "$(dirname "$0")/../.." && pwd)
+library=${2:+$(cd "$2" && pwd)}
 mkdir "$1"
 cd "$1"
 
@@ -19,6 +20,10 @@ fail() {
 # What was built here is left out, since the gate may be changing it.
 (cd "$top" && find crates -mindepth 2 -maxdepth 2 ! -name out -print0 | tar -c --null -T - crates.txt HANDLES examples) |
     tar -x
+if [ -n "$library" ]; then
+    mkdir crates/stamp_core/out
+    cp -r "$library" crates/stamp_core/out/rlib
+fi
 
 awk '$0 == "## Build and link" { below = 1 } /^## Is / { below = 0 } below && /^    / { print substr($0, 5) }' \
     "$top/docs/C.md" > lines

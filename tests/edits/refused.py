@@ -3,8 +3,8 @@
     refused.py [--libraries FOLDER] [--count FILE] [--all] [CRATE | CRATE/NAME.edit | CRATE/more/NAME.edit ..]
 
 Without --all, or an edit's own name, those of the folders `more` are left out: `./test` tries one for each public
-function that a wrong body can be made of, and those of the faults that a lock, a judge or a picture must not have;
-the others take as long again.
+function that a wrong body can be made of, but for most of those that only hand a call on, and those of the faults that
+a lock, a judge or a picture must not have; the others take as long again.
 
 An edit is a file tests/edits/CRATE/NAME.edit or tests/edits/CRATE/more/NAME.edit, in the form of the kit's must-fail
 edits: a line `file:`, then pairs of lines `old:` and `new:`. A function is proved from the contracts of those that it

@@ -4,13 +4,18 @@
 
 Run at the top of the repository. A library is a crate with a `lib.rt`, but for those of tests. Its public functions are
 those that `lib.rt` exports, by name or with their type, and that have an `ensures` and a body: so no law, and none that
-is another library's. A function has a wrong body if an edit of tests/edits/CRATE changes a line of it; edits in the
-folder `more` don't count, since `./test` leaves them out."""
+is another library's. A function has a wrong body if an edit of tests/edits/CRATE changes a line of it. Edits in the
+folder `more`, which `./test` leaves out, count only for a method of `stamped_lock` that is one expression: most of those
+hand a call on to the layer below, and some of them say for all that such a body is refused."""
 import glob
 import re
 import sys
 
 IMPL = re.compile(r"^impl(?:<(?:[^<>{]|<[^<>{]*>)*>)? (?:[\w:<>]+ for )?(\w+)[^{]*\{$.*?^\}$", re.M | re.S)
+# The library whose methods of one expression may have their wrong body in `more`.
+HANDS_ON = "stamped_lock"
+# What a body of one expression has none of.
+STATEMENT = re.compile(r";|\b(?:if|match|while|for|loop)\b")
 # Of these no wrong body compiles: the only verdict that this one can refer to is the one that it answers.
 WITHOUT = {"stamp_picture: Picture::verdict"}
 FUNCTION = re.compile(r'^( *)(pub )?(?:pub\(\w+\) )?(?:const )?(?:extern "C" )?fn (\w+)', re.M)
@@ -42,9 +47,15 @@ def exported(crate):
     return {name for names in lists for name in re.findall(r"\w+", names)}
 
 
-def edited(crate):
-    """The places that the crate's edits change, by the file, and the functions that an edit's lines `by:` name."""
-    for path in glob.glob(f"tests/edits/{crate}/*.edit"):
+def is_one_expression(text):
+    """Whether the body of this function is a single expression, with no statement and no choice."""
+    opened = re.compile(r"\{$", re.M).search(text)
+    return not STATEMENT.search(text, opened.end())
+
+
+def edited(folder, crate):
+    """The places that the edits of a folder change, by the file, and the functions that an edit's lines `by:` name."""
+    for path in glob.glob(f"tests/edits/{folder}/*.edit"):
         text, file = text_of(path), None
         # the prover writes a type of one impl as `Type+Argument`
         by = {f"::{re.sub(r'[+][A-Za-z]+', '', name)}" for name in re.findall(r"^by: (\S+)$", text, re.M)}
@@ -67,12 +78,14 @@ def main():
         crate = root.split("/")[1]
         if crate.endswith("_tests"):
             continue
-        names, places = exported(crate), [*edited(crate)]
+        names, places, more = exported(crate), [*edited(crate, crate)], [*edited(f"{crate}/more", crate)]
         for path in sorted(glob.glob(f"crates/{crate}/src/*.rt")):
-            for begin, end, name, is_public in functions_of(text_of(path)):
+            text = text_of(path)
+            for begin, end, name, is_public in functions_of(text):
                 if is_public and name.split("::")[0] in names and f"{crate}: {name}" not in WITHOUT:
                     count += 1
-                    if not is_covered(path, begin, end, name, places):
+                    hands_on = crate == HANDS_ON and is_one_expression(text[begin:end])
+                    if not is_covered(path, begin, end, name, places + more if hands_on else places):
                         missing.append(f"{crate}: {name} ({path.split('/')[-1]})")
     if missing:
         sys.exit("\n".join(f"no wrong body: {it}" for it in missing))

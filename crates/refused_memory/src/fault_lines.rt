@@ -1,8 +1,8 @@
 //! The line of each fault.
 use crate::outcome::Outcome;
 use stamp_cli::{ServeFault, fault_line};
-use stamp_core::ScriptError;
 use stamp_history::{Field, ReadError};
+use stamp_machines::ScriptError;
 use std::alloc::Global;
 
 const FAULTS: [(ServeFault, &str); 15] = [

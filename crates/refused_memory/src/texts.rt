@@ -1,9 +1,9 @@
 //! Texts that are refused at one field after the other: what was read before it is dropped.
 use crate::outcome::Outcome;
-use stamp_core::ScriptError;
 use stamp_history::{
     AnswerError, Field, ReadError, read_history, read_replay, read_script, replay_text,
 };
+use stamp_machines::ScriptError;
 use std::alloc::Global;
 
 /// The call that reads a text. A replay may be answered at once.

@@ -1,11 +1,11 @@
 -- The line on standard error for each fault.
 use Rattle.std.specs.Prelude.{ℕ, List, ◌++◌, codes, decimal}
-use Rattle.stamp_core.specs.declared.script_error.ScriptError.{ScriptError}
-use Rattle.stamp_core.specs.declared.script_error.ScriptError.TheVariants.{TooManyThreads}
-use Rattle.stamp_core.specs.declared.script_error.ScriptError.TheVariants.{TooManyCalls}
-use Rattle.stamp_core.specs.declared.script_error.ScriptError.TheVariants.{TooManySteps}
-use Rattle.stamp_core.specs.declared.script_error.ScriptError.TheVariants.{NoSuchThread}
-use Rattle.stamp_core.specs.declared.script_error.ScriptError.TheVariants.{RecordWidth}
+use Rattle.stamp_machines.specs.declared.script_error.ScriptError.{ScriptError}
+use Rattle.stamp_machines.specs.declared.script_error.ScriptError.TheVariants.{TooManyThreads}
+use Rattle.stamp_machines.specs.declared.script_error.ScriptError.TheVariants.{TooManyCalls}
+use Rattle.stamp_machines.specs.declared.script_error.ScriptError.TheVariants.{TooManySteps}
+use Rattle.stamp_machines.specs.declared.script_error.ScriptError.TheVariants.{NoSuchThread}
+use Rattle.stamp_machines.specs.declared.script_error.ScriptError.TheVariants.{RecordWidth}
 use Rattle.stamp_history.specs.Field.{field_text}
 use Rattle.stamp_history.specs.declared.read_error.ReadError.{ReadError}
 use Rattle.stamp_history.specs.declared.read_error.ReadError.TheVariants as read

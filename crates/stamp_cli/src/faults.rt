@@ -5,8 +5,8 @@ ghost use Rattle.stamp_cli.specs.declared.faults.ServeFault.TheVariants.{Memory}
 ghost use Rattle.stamp_cli.specs.Refusal.{refusal, unanswered};
 ghost use Rattle.stamp_cli.specs.FaultText.{script_error_text, read_error_text, fault_text};
 
-use stamp_core::ScriptError;
 use stamp_history::{AnswerError, ReadError};
+use stamp_machines::ScriptError;
 use std::alloc::{AllocError, AllocFailed, Global};
 use std::fmt;
 use thiserror::Error;

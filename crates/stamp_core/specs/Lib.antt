@@ -18,4 +18,5 @@ pub mod Linearized
 pub mod StampKind
 pub mod Respelling
 pub mod Replayed
+pub mod Texts
 pub mod Laws

@@ -3,9 +3,10 @@ ghost use Rattle.std.specs.Prelude.{◌≡◌};
 ghost use Rattle.stamp_core.specs.Call.{is_lock_call, call_suits};
 
 use crate::words::Words;
+use std::fmt;
 
 /// A call: of the lock, with the name of its method of Java's `StampedLock`, or of the guarded record.
-/// A number is a stamp; any number may be given.
+/// A number is a stamp; any number may be given. By `{}` it shows its name and what it takes.
 #[derive(Clone, Copy, Debug, PartialEq, Eq)]
 pub enum Call {
     /// Acquires write mode if nobody holds the lock and a version is left (`tryWriteLock`).
@@ -52,6 +53,38 @@ pub enum Call {
     Put(Words),
     /// Writes the second words if the record holds the first; `No` and no change otherwise.
     PutIf(Words, Words),
+}
+
+impl fmt::Display for Call {
+    ghost use Rattle.std.specs.Prelude.{Some};
+    ghost use Rattle.stamp_core.specs.Texts.{call_text};
+
+    ghost output = { λ call. Some (call_text call) };
+
+    fn fmt<W: fmt::Write>(&self, f: &mut fmt::Formatter<W>) -> fmt::Result {
+        match self {
+            Call::TryWrite => write!(f, "try_write"),
+            Call::TryRead => write!(f, "try_read"),
+            Call::WriteLock => write!(f, "write_lock"),
+            Call::ReadLock => write!(f, "read_lock"),
+            Call::Optimistic => write!(f, "optimistic"),
+            Call::Validate(stamp) => write!(f, "validate {stamp}"),
+            Call::UnlockWrite(stamp) => write!(f, "unlock_write {stamp}"),
+            Call::UnlockRead(stamp) => write!(f, "unlock_read {stamp}"),
+            Call::Unlock(stamp) => write!(f, "unlock {stamp}"),
+            Call::ToWrite(stamp) => write!(f, "to_write {stamp}"),
+            Call::ToRead(stamp) => write!(f, "to_read {stamp}"),
+            Call::ToOptimistic(stamp) => write!(f, "to_optimistic {stamp}"),
+            Call::TryUnlockWrite => write!(f, "try_unlock_write"),
+            Call::TryUnlockRead => write!(f, "try_unlock_read"),
+            Call::IsWriteLocked => write!(f, "is_write_locked"),
+            Call::IsReadLocked => write!(f, "is_read_locked"),
+            Call::ReadCount => write!(f, "read_count"),
+            Call::Get => write!(f, "get"),
+            Call::Put(words) => write!(f, "put {}", words),
+            Call::PutIf(expected, words) => { write!(f, "put_if {} {}", expected, words) }
+        }
+    }
 }
 
 impl Call {

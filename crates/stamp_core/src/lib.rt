@@ -16,7 +16,6 @@ mod records;
 mod replayed;
 mod reply;
 mod respelling;
-mod script_error;
 mod stamps;
 mod word;
 mod words;
@@ -32,7 +31,6 @@ pub use records::{MOST_ENTRIES, MOST_THREADS, Record};
 pub use replayed::{ReplayError, Replayed, replay};
 pub use reply::Reply;
 pub use respelling::respell;
-pub use script_error::ScriptError;
 pub use stamps::{
     StampKind, is_lock_stamp, is_lock_stamp_in, is_optimistic_stamp, is_optimistic_stamp_in,
     is_read_stamp, is_read_stamp_in, is_write_stamp, is_write_stamp_in, stamp_kind, stamp_kind_in,

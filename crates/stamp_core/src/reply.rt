@@ -2,6 +2,7 @@
 ghost use Rattle.std.specs.Prelude.{◌≡◌, ◌↔◌, IsTrue};
 
 use crate::words::Words;
+use std::fmt;
 
 /// What a call is answered. A stamp of 0 is the stamp of failure.
 #[derive(Clone, Copy, Debug, PartialEq, Eq)]
@@ -21,6 +22,25 @@ pub enum Reply {
     Count(u64),
     /// The words of the record.
     Content(Words),
+}
+
+impl fmt::Display for Reply {
+    ghost use Rattle.std.specs.Prelude.{Some};
+    ghost use Rattle.stamp_core.specs.Texts.{reply_text};
+
+    ghost output = { λ reply. Some (reply_text reply) };
+
+    fn fmt<W: fmt::Write>(&self, f: &mut fmt::Formatter<W>) -> fmt::Result {
+        match self {
+            Reply::Stamp(stamp) => write!(f, "{stamp}"),
+            Reply::Yes => write!(f, "yes"),
+            Reply::No => write!(f, "no"),
+            Reply::Done => write!(f, "done"),
+            Reply::Mismatch => write!(f, "mismatch"),
+            Reply::Count(count) => write!(f, "count {count}"),
+            Reply::Content(words) => write!(f, "{}", words),
+        }
+    }
 }
 
 fn is_this_stamp(reply: &Reply, stamp: u64) -> bool

@@ -3,6 +3,7 @@ ghost use Rattle.std.specs.Prelude.{◌≡◌, ◌≤◌, ◌<◌, ◌-◌, ◌�
 ghost use Rattle.std.specs.Prelude.{take, drop};
 ghost use Rattle.stamp_core.specs.Content.{same_words};
 
+use std::fmt;
 use std::marker::Model;
 
 /// The most words of a guarded record.
@@ -36,6 +37,17 @@ impl Model for Words {
       len = length-take-le w.len w.words (Prim.omega (arith, h.1, h.2)) i;
       words = padded-take w.len w.words h.1 h.2 h.3 i;
     } };
+}
+
+impl fmt::Display for Words {
+    ghost use Rattle.std.specs.Prelude.{Some};
+    ghost use Rattle.stamp_core.specs.Texts.{words_text};
+
+    ghost output = { λ words. Some (words_text words) };
+
+    fn fmt<W: fmt::Write>(&self, f: &mut fmt::Formatter<W>) -> fmt::Result {
+        write!(f, "{:?}", self.as_slice())
+    }
 }
 
 impl Words {

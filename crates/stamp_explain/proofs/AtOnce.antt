@@ -102,9 +102,9 @@ without {S} Goes i s (x ∷ rest) still runs =
         either j other (inr has) = contains_rest x.index (indices_of left.others) j (left.whole j other has)
 
 -- the reply of a returned call is told
-one_effect_of : (entries : List Observation) (x y : Effect) → IsEffectOf entries x → IsEffectOf entries y →
+one_effect_of : {entries : List Observation} {x y : Effect} → IsEffectOf entries x → IsEffectOf entries y →
     HasReturned x.entry → y.index ≡ x.index → (y.entry ≡ x.entry) × (y.reply ≡ x.reply)
-one_effect_of entries x y x_is y_is returned same =
+one_effect_of {entries} {x} {y} x_is y_is returned same =
     let e : y.entry ≡ x.entry = same_Some y.entry x.entry (sym y_is.is_entry ∙
     ap (λ (k : ℕ). slice_get entries k) same ∙ x_is.is_entry) in
     let y_may : AllowsReply x.entry y.reply = subst (λ (o : Observation). AllowsReply o y.reply) e y_is.replies in
@@ -121,24 +121,24 @@ record AtOnce {S : Type 0} (Goes : S → Call × Reply → S → Type 0) (entrie
   by : IsCompletedBy Goes entries to_come s (i ∷ taken) others
   fewer : ¬ Contains taken i → Contains to_come i → suc (length others) ≤ length rest
 
-at_once : {S : Type 0} (Goes : S → Call × Reply → S → Type 0) (entries : List Observation) (to_come : List ℕ) (s : S)
-    (taken : List ℕ) (x : Effect) (rest : List Effect) → IsEffectOf entries x → HasReturned x.entry →
+at_once : {S : Type 0} (Goes : S → Call × Reply → S → Type 0) {entries : List Observation} {to_come : List ℕ} {s : S}
+    {taken : List ℕ} {x : Effect} {rest : List Effect} → IsEffectOf entries x → HasReturned x.entry →
     ((s t : S) → Goes s (x.entry.call, x.reply) t → t ≡ s) → IsCompletedBy Goes entries to_come s taken rest →
     AtOnce Goes entries to_come s taken x.index rest
-at_once {S} Goes entries to_come s taken x rest is returned nothing by = record {
+at_once {S} Goes {entries} {to_come} {s} {taken} {x} {rest} is returned nothing by = record {
   others = left.others;
   by = record {
     effects = part_all (IsEffectOf entries) left.part by.effects;
     once = part_pairs AreOfTwoEntries left.part by.once;
-    fresh = λ k d lt. fresh (get_or left.others k d) (left.misses k d lt)
-        (part_all (λ (y : Effect). ¬ Contains taken y.index) left.part by.fresh k d lt);
+    fresh = λ k d lt. fresh (get_or left.others k d) (left.misses k d lt) (part_all
+        (λ (y : Effect). ¬ Contains taken y.index) left.part by.fresh k d lt);
     returned = All-weaker (λ (j : ℕ). Contains taken j ⊎ Contains (indices_of rest) j)
         (λ (j : ℕ). Contains (x.index ∷ taken) j ⊎ Contains (indices_of left.others) j) moved to_come by.returned;
     ordered = part_pairs RespectsBefore left.part by.ordered;
     runs = left.runs;
   };
-  fewer = λ not_yet due. left.shorter (still_to_come not_yet
-      (All-contains (λ (j : ℕ). Contains taken j ⊎ Contains (indices_of rest) j) to_come x.index by.returned due));
+  fewer = λ not_yet due. left.shorter (still_to_come not_yet (All-contains
+      (λ (j : ℕ). Contains taken j ⊎ Contains (indices_of rest) j) to_come x.index by.returned due));
 }
   where
     still_to_come : ¬ Contains taken x.index → Contains taken x.index ⊎ Contains (indices_of rest) x.index →
@@ -149,7 +149,7 @@ at_once {S} Goes entries to_come s taken x rest is returned nothing by = record 
     still : (y : Effect) → IsEffectOf entries y → y.index ≡ x.index → (s t : S) → Goes s (y.entry.call, y.reply) t →
         t ≡ s
     still y y_is same s t steps =
-        let both : (y.entry ≡ x.entry) × (y.reply ≡ x.reply) = one_effect_of entries x y is y_is returned same in
+        let both : (y.entry ≡ x.entry) × (y.reply ≡ x.reply) = one_effect_of is y_is returned same in
         nothing s t (subst (λ (r : Reply). Goes s (x.entry.call, r) t) both.1
         (subst (λ (o : Observation). Goes s (o.call, y.reply) t) both.0 steps))
 
@@ -163,8 +163,8 @@ at_once {S} Goes entries to_come s taken x rest is returned nothing by = record 
         neither (inl e) = apart (sym e)
         neither (inr found) = misses found
 
-    moved : (j : ℕ) → Contains taken j ⊎ Contains (indices_of rest) j →
-        Contains (x.index ∷ taken) j ⊎ Contains (indices_of left.others) j
+    moved : (j : ℕ) → Contains taken j ⊎ Contains (indices_of rest) j → Contains (x.index ∷ taken) j ⊎ Contains
+        (indices_of left.others) j
     moved j (inl has) = inl (contains_rest x.index taken j has)
     moved j (inr has) = which (cases_eq j x.index)
       where
@@ -175,25 +175,23 @@ at_once {S} Goes entries to_come s taken x rest is returned nothing by = record 
 pub unchanging_calls_at_once : UnchangingCallsAtOnce
 unchanging_calls_at_once limits entries awaited to_come s t taken x may returned h can =
     let now : AtOnce (StateTransition limits) entries to_come s taken x.index can.rest =
-    at_once (StateTransition limits) entries to_come s taken x can.rest may.effect returned
-    (λ s t steps. unchanging_calls_change_nothing limits x.entry.call x.reply s t h steps) can.by in
+    at_once (StateTransition limits) may.effect returned (λ s t steps. unchanging_calls_change_nothing limits
+    x.entry.call x.reply s t h steps) can.by in
     record { rest = now.others; by = now.by }
 
 -- so it is a move of a search
-pub record TakesAtOnce {S : Type 0} (Goes : S → Call × Reply → S →
-    Type 0) (entries : List Observation) (to_come : List ℕ) (s : S) (taken : List ℕ) (n : ℕ) : Type 0 where
+pub record TakesAtOnce {S : Type 0} (Goes : S → Call × Reply → S → Type 0) (entries : List Observation)
+    (to_come : List ℕ) (s : S) (taken : List ℕ) (n : ℕ) : Type 0 where
   pub left : ℕ
   pub fewer : suc left ≤ n
   pub completes : CompletesIn Goes entries to_come s taken left
 
-pub takes_at_once : {S : Type 0} (Goes : S → Call × Reply → S →
-    Type 0) (entries : List Observation) (to_come : List ℕ) (s : S) (taken : List ℕ) (x : Effect) (n : ℕ) →
-    IsEffectOf entries x → HasReturned x.entry → ((s t : S) → Goes s (x.entry.call, x.reply) t → t ≡ s) →
-    ¬ Contains taken x.index → Contains to_come x.index → CompletesIn Goes entries to_come s taken n →
-    TakesAtOnce Goes entries to_come s (x.index ∷ taken) n
-takes_at_once Goes entries to_come s taken x n is returned nothing not_yet due can =
-    let now : AtOnce Goes entries to_come s taken x.index can.rest =
-    at_once Goes entries to_come s taken x can.rest is returned nothing can.by in
+pub takes_at_once : {S : Type 0} (Goes : S → Call × Reply → S → Type 0) {entries : List Observation} {to_come : List ℕ}
+    {s : S} (taken : List ℕ) {x : Effect} {n : ℕ} → IsEffectOf entries x → HasReturned x.entry →
+    ((s t : S) → Goes s (x.entry.call, x.reply) t → t ≡ s) → ¬ Contains taken x.index → Contains to_come x.index →
+    CompletesIn Goes entries to_come s taken n → TakesAtOnce Goes entries to_come s (x.index ∷ taken) n
+takes_at_once Goes {entries} {to_come} {s} taken {x} is returned nothing not_yet due can =
+    let now : AtOnce Goes entries to_come s taken x.index can.rest = at_once Goes is returned nothing can.by in
     record {
       left = length to_come + length now.others;
       fewer = omega (arith, now.fewer not_yet due, can.moves);

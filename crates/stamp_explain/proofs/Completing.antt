@@ -102,10 +102,10 @@ module _ (P : Effect → Type 0) (x : Effect) where
             (pairs_tail RespectsBefore y xs ordered) later
       ]
 
-module _ {S : Type 0} (Goes : S → Call × Reply → S → Type 0) (entries : List Observation) where
+module _ {S : Type 0} (Goes : S → Call × Reply → S → Type 0) {entries : List Observation} where
   -- with no return to come nothing is left to do
-  pub completed_by_none : (s : S) (taken : List ℕ) → IsCompletedBy Goes entries [] s taken []
-  completed_by_none s taken = record {
+  pub completed_by_none : {s : S} {taken : List ℕ} → IsCompletedBy Goes entries [] s taken []
+  completed_by_none {taken} = record {
     effects = All-nil (IsEffectOf entries);
     once = pairs_none AreOfTwoEntries;
     fresh = All-nil (λ (x : Effect). ¬ Contains taken x.index);
@@ -115,9 +115,9 @@ module _ {S : Type 0} (Goes : S → Call × Reply → S → Type 0) (entries : L
   }
 
   -- a call in effect may return
-  other_returns : (returns more : List ℕ) (s : S) (taken : List ℕ) (rest : List Effect) → All (IsDone taken rest) more →
+  other_returns : {returns more : List ℕ} {s : S} {taken : List ℕ} {rest : List Effect} → All (IsDone taken rest) more →
       IsCompletedBy Goes entries returns s taken rest → IsCompletedBy Goes entries more s taken rest
-  other_returns returns more s taken rest returned by = record {
+  other_returns returned by = record {
     effects = by.effects;
     once = by.once;
     fresh = by.fresh;
@@ -126,24 +126,24 @@ module _ {S : Type 0} (Goes : S → Call × Reply → S → Type 0) (entries : L
     runs = by.runs;
   }
 
-  pub past_return : (i : ℕ) (returns : List ℕ) (s : S) (taken : List ℕ) (rest : List Effect) →
+  pub past_return : (i : ℕ) {returns : List ℕ} {s : S} {taken : List ℕ} {rest : List Effect} →
       IsCompletedBy Goes entries (i ∷ returns) s taken rest → IsCompletedBy Goes entries returns s taken rest
-  past_return i returns s taken rest by =
-      other_returns (i ∷ returns) returns s taken rest (All-tail (IsDone taken rest) i returns by.returned) by
+  past_return i {returns} {taken} {rest} by =
+      other_returns (All-tail (IsDone taken rest) i returns by.returned) by
 
-  pub before_return : (i : ℕ) (returns : List ℕ) (s : S) (taken : List ℕ) (rest : List Effect) → Contains taken i →
+  pub before_return : (i : ℕ) {returns : List ℕ} {s : S} {taken : List ℕ} {rest : List Effect} → Contains taken i →
       IsCompletedBy Goes entries returns s taken rest → IsCompletedBy Goes entries (i ∷ returns) s taken rest
-  before_return i returns s taken rest has by = other_returns returns (i ∷ returns) s taken rest
-      (All-cons (IsDone taken rest) i returns (inl has) by.returned) by
+  before_return i {returns} {taken} {rest} has by =
+      other_returns (All-cons (IsDone taken rest) i returns (inl has) by.returned) by
 
   -- an effect of an order may be the next, if what stands before it may wait; the others complete what it leaves
-  pub takes_next : (i : ℕ) (a : Observation) (returns : List ℕ) (s t : S) (taken : List ℕ) (P : Effect → Type 0)
-      (x : Effect) {rest others : List Effect} → IsAwaited entries i a → ¬ Contains taken i →
+  pub takes_next : {i : ℕ} {a : Observation} (returns : List ℕ) {s : S} (t : S) {taken : List ℕ}
+      (P : Effect → Type 0) {x : Effect} {rest others : List Effect} → IsAwaited entries i a → ¬ Contains taken i →
       ((y : Effect) → IsEffectOf entries y → P y → y.index ≢ i) → IsBehind P x rest others →
       Goes s (x.entry.call, x.reply) t → Runs Goes t (history_of others) →
       IsCompletedBy Goes entries (i ∷ returns) s taken rest →
       MayTake Goes entries a s taken x t × IsCompletedBy Goes entries (i ∷ returns) t (x.index ∷ taken) others
-  takes_next i a returns s t taken P x {rest} {others} awaited not_yet other b steps runs by = (
+  takes_next {i} {a} returns t {taken} P {x} {rest} {others} awaited not_yet other b steps runs by = (
     record {
       effect = effects.0;
       fresh = fresh.0;
@@ -178,27 +178,22 @@ module _ {S : Type 0} (Goes : S → Call × Reply → S → Type 0) (entries : L
       ]
 
   -- the first call of an order may take effect
-  pub takes_first : (i : ℕ) (a : Observation) (returns : List ℕ) (s : S) (taken : List ℕ) (x : Effect)
+  pub takes_first : {i : ℕ} {a : Observation} (returns : List ℕ) {s : S} {taken : List ℕ} (x : Effect)
       (rest : List Effect) → IsAwaited entries i a → ¬ Contains taken i →
       IsCompletedBy Goes entries (i ∷ returns) s taken (x ∷ rest) → (t : S) × (MayTake Goes entries a s taken x t ×
       IsCompletedBy Goes entries (i ∷ returns) t (x.index ∷ taken) rest)
-  takes_first i a returns s taken x rest awaited not_yet by = (
+  takes_first returns x rest awaited not_yet by = (
     by.runs.0,
-    takes_next i a returns s by.runs.0 taken (λ (y : Effect). ⊥) x awaited not_yet (λ y is none. absurd none)
-        IsBehind.at_first by.runs.1.0 by.runs.1.1 by,
+    takes_next returns by.runs.0 (λ (y : Effect). ⊥) awaited not_yet (λ y is none. absurd none) IsBehind.at_first
+        by.runs.1.0 by.runs.1.1 by,
   )
 
-  -- nothing is left to take effect only where the return is not awaited
-  pub never_empty : (i : ℕ) (returns : List ℕ) (s : S) (taken : List ℕ) → ¬ Contains taken i →
-      ¬ IsCompletedBy Goes entries (i ∷ returns) s taken []
-  never_empty i returns s taken not_yet by = none_in_empty i (awaited_in i returns taken [] not_yet by.returned)
-
   -- and conversely: a call that may take effect, and an order that completes what it leaves, make an order
-  pub puts_first : (a : Observation) (returns : List ℕ) (s t : S) (taken : List ℕ) (x : Effect) (rest : List Effect) →
+  pub puts_first : {a : Observation} {returns : List ℕ} {s t : S} {taken : List ℕ} {x : Effect} {rest : List Effect} →
       IsFirstReturn entries taken a → MayTake Goes entries a s taken x t →
       IsCompletedBy Goes entries returns t (x.index ∷ taken) rest →
       IsCompletedBy Goes entries returns s taken (x ∷ rest)
-  puts_first a returns s t taken x rest first may by = record {
+  puts_first {returns} {t} {taken} {x} {rest} first may by = record {
     effects = All-cons (IsEffectOf entries) x rest may.effect by.effects;
     once = pairs_cons AreOfTwoEntries x rest
         (λ k d lt e. by.fresh k d lt (contains_first x.index taken (get_or rest k d).index e)) by.once;
@@ -218,3 +213,10 @@ module _ {S : Type 0} (Goes : S → Call × Reply → S → Type 0) (entries : L
         | inr taken_too ↦ inl taken_too
       ]
       moved j (inr has) = inr (contains_rest x.index (indices_of rest) j has)
+
+-- nothing is left to take effect only where the return is not awaited
+pub never_empty : {S : Type 0} (Goes : S → Call × Reply → S → Type 0) (entries : List Observation) (i : ℕ)
+    (returns : List ℕ) (s : S) (taken : List ℕ) → ¬ Contains taken i →
+    ¬ IsCompletedBy Goes entries (i ∷ returns) s taken []
+never_empty Goes entries i returns s taken not_yet by =
+    none_in_empty i (awaited_in i returns taken [] not_yet by.returned)

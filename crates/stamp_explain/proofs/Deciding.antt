@@ -33,11 +33,11 @@ cons_rest : (x y : ℕ) (xs ys : List ℕ) → x ∷ xs ≡ y ∷ ys → xs ≡ 
 cons_rest x y xs ys same = ap (λ (l : List ℕ). drop 1 l) same
 
 -- one call, in one state, does one thing
-one_effect : (h : ObservedHistory) (a b : Observation) (s : LockState) (taken : List ℕ) (x y : Effect)
-    (t u : LockState) (put : Option ℕ) → MayTake (StateTransition h.limits) h.entries a s taken x t →
+one_effect : (h : ObservedHistory) {a b : Observation} {s : LockState} {taken : List ℕ} {x y : Effect}
+    {t u : LockState} (put : Option ℕ) → MayTake (StateTransition h.limits) h.entries a s taken x t →
     MayTake (StateTransition h.limits) h.entries b s taken y u → x.index ≡ y.index →
     IsSame t (put_after put x.index x.entry.call x.reply) u (put_after put y.index y.entry.call y.reply)
-one_effect h a b s taken x y t u put may other same = (state, puts)
+one_effect h {s} {x} {y} {t} {u} put may other same = (state, puts)
   where
     entry : x.entry ≡ y.entry
     entry = same_Some x.entry y.entry (sym may.effect.is_entry ∙ ap (λ (k : ℕ). slice_get h.entries k) same ∙
@@ -47,58 +47,52 @@ one_effect h a b s taken x y t u put may other same = (state, puts)
     call = ap (λ (e : Observation). e.call) entry
 
     reply : x.reply ≡ y.reply
-    reply = one_reply h.limits s.0 s.1 y.entry.call x.reply y.reply
-        (subst (λ (e : Observation). StateTransition h.limits s (e.call, x.reply) t) entry may.goes).replies
-        other.goes.replies
+    reply = one_reply h.limits s.0 s.1 y.entry.call x.reply y.reply (subst (λ
+        (e : Observation). StateTransition h.limits s (e.call, x.reply) t) entry may.goes).replies other.goes.replies
 
     state : t ≡ u
     state = may.goes.next ∙ ap (λ (c : Call). after_call h.limits s (c, x.reply)) call ∙
         ap (λ (r : Reply). after_call h.limits s (y.entry.call, r)) reply ∙ sym other.goes.next
 
     puts : put_after put x.index x.entry.call x.reply ≡ put_after put y.index y.entry.call y.reply
-    puts = ap (λ (k : ℕ). put_after put k x.entry.call x.reply) same ∙
-        ap (λ (c : Call). put_after put y.index c x.reply) call ∙
-        ap (λ (r : Reply). put_after put y.index y.entry.call r) reply
+    puts = ap (λ (k : ℕ). put_after put k x.entry.call x.reply) same ∙ ap (λ
+        (c : Call). put_after put y.index c x.reply) call ∙ ap (λ (r : Reply). put_after put y.index y.entry.call r)
+        reply
 
-none_decides : (h : ObservedHistory) (asked : Option ℕ) (returns : List ℕ) (s : LockState) {ys : List ℕ}
+none_decides : {h : ObservedHistory} {asked : Option ℕ} {returns : List ℕ} (s : LockState) {ys : List ℕ}
     {t : LockState} {other : Option ℕ} {also : List ℕ} → s ≡ first_state h.width →
     Reaches h asked returns ys t other also → [] ≡ also → IsSame s None t other
-none_decides h asked returns s is begins same = (is, refl)
-none_decides h asked returns s is (goes_past way has) same = none_decides h asked returns s is way same
-none_decides h asked returns s is (goes_on_by way awaited x t is_awaited not_yet tried may) same =
+none_decides s is begins same = (is, refl)
+none_decides s is (goes_past way has) same = none_decides s is way same
+none_decides s is (goes_on_by way awaited x t is_awaited not_yet tried may) same =
     absurd (omega (arith, ap (λ (l : List ℕ). length l) same))
 
-one_decides : (h : ObservedHistory) (asked : Option ℕ) (returns : List ℕ) (a : Observation) (s t : LockState)
-    (put : Option ℕ)
-    (taken : List ℕ) (x : Effect) → MayTake (StateTransition h.limits) h.entries a s taken x t →
+one_decides : {h : ObservedHistory} {asked : Option ℕ} {returns : List ℕ} {a : Observation} {s t : LockState}
+    (put : Option ℕ) {taken : List ℕ} {x : Effect} → MayTake (StateTransition h.limits) h.entries a s taken x t →
     Decides h asked returns taken s put → {ys : List ℕ} {u : LockState} {other : Option ℕ} {also : List ℕ} →
-    Reaches h asked returns ys u other also → x.index ∷ taken ≡ also →
-    IsSame t (put_after put x.index x.entry.call x.reply) u other
-one_decides h asked returns a s t put taken x may before begins same =
-    absurd (omega (arith, ap (λ (l : List ℕ). length l) same))
-one_decides h asked returns a s t put taken x may before (goes_past way has) same =
-    one_decides h asked returns a s t put taken x may before way same
-one_decides h asked returns a s t put taken x may before
-    (goes_on_by {i} {to_come} {s = v} {put = other} {taken = also} way awaited y u is_awaited not_yet tried might)
+    Reaches h asked returns ys u other also → x.index ∷ taken ≡ also → IsSame t
+    (put_after put x.index x.entry.call x.reply) u other
+one_decides put may before begins same = absurd (omega (arith, ap (λ (l : List ℕ). length l) same))
+one_decides put may before (goes_past way has) same = one_decides put may before way same
+one_decides {h} {s} {t} put {taken} {x} may before (goes_on_by {i} {to_come} {s = v} {put = other}
+    {taken = also} way awaited y u is_awaited not_yet tried might)
     same =
-    let was : IsSame s put v other = before (i ∷ to_come) v other also way (cons_rest x.index y.index taken also
-    same) in
+    let was : IsSame s put v other = before (i ∷ to_come) v other also way (cons_rest x.index y.index taken also same)
+    in
     let then : MayTake (StateTransition h.limits) h.entries awaited s taken y u =
     subst (λ (w : LockState). MayTake (StateTransition h.limits) h.entries awaited w taken y u) (sym was.0)
     (subst (λ (l : List ℕ). MayTake (StateTransition h.limits) h.entries awaited v l y u)
     (sym (cons_rest x.index y.index taken also same)) might) in
-    let both : IsSame t (put_after put x.index x.entry.call x.reply) u
-    (put_after put y.index y.entry.call y.reply) =
-    one_effect h a awaited s taken x y t u put may then (cons_first x.index y.index taken also same) in
+    let both : IsSame t (put_after put x.index x.entry.call x.reply) u (put_after put y.index y.entry.call y.reply)
+    = one_effect h put may then (cons_first x.index y.index taken also same) in
     (both.0, both.1 ∙ ap (λ (o : Option ℕ). put_after o y.index y.entry.call y.reply) was.1)
 
 decides : (h : ObservedHistory) (asked : Option ℕ) (returns : List ℕ) {xs : List ℕ} {s : LockState} {put : Option ℕ}
     {taken : List ℕ} → Reaches h asked returns xs s put taken → Decides h asked returns taken s put
-decides h asked returns begins ys t other also way = none_decides h asked returns (first_state h.width) refl way
+decides h asked returns begins ys t other also way = none_decides (first_state h.width) refl way
 decides h asked returns (goes_past way has) ys t other also that = decides h asked returns way ys t other also that
 decides h asked returns (goes_on_by {i} {to_come} {s} {put} {taken} way awaited x t is_awaited not_yet tried may) ys u
-    other
-    also that = one_decides h asked returns awaited s t put taken x may (decides h asked returns way) that
+    other also that = one_decides put may (decides h asked returns way) that
 
 -- each takes effect once, and is a call of the history
 inside : (h : ObservedHistory) (asked : Option ℕ) (returns : List ℕ) {xs : List ℕ} {s : LockState} {put : Option ℕ}
@@ -118,16 +112,14 @@ once : (h : ObservedHistory) (asked : Option ℕ) (returns : List ℕ) {xs : Lis
 once h asked returns begins = pairs_none (λ (i j : ℕ). i ≢ j)
 once h asked returns (goes_past way has) = once h asked returns way
 once h asked returns (goes_on_by {i} {to_come} {s} {put} {taken} way awaited x t is_awaited not_yet tried may) =
-    pairs_cons (λ (i j : ℕ). i ≢ j) x.index taken
-    (λ k d lt same. may.fresh (k, omega (arith, lt), get_at taken k d x.index lt ∙ sym same))
-    (once h asked returns way)
+    pairs_cons (λ (i j : ℕ). i ≢ j) x.index taken (λ k d lt same. may.fresh
+    (k, omega (arith, lt), get_at taken k d x.index lt ∙ sym same)) (once h asked returns way)
   where
     get_at : (xs : List ℕ) (k d e : ℕ) → k < length xs → get_or xs k e ≡ get_or xs k d
     get_at xs k d e lt = get_or_default xs k e d lt
 
 left : (h : ObservedHistory) (asked : Option ℕ) (returns : List ℕ) {xs : List ℕ} {s : LockState} {put : Option ℕ}
-    {taken : List ℕ} →
-    Reaches h asked returns xs s put taken → (n : ℕ) × (xs ≡ drop n returns)
+    {taken : List ℕ} → Reaches h asked returns xs s put taken → (n : ℕ) × (xs ≡ drop n returns)
 left h asked returns begins = (0, refl)
 left h asked returns (goes_on_by way awaited x t is_awaited not_yet tried may) = left h asked returns way
 left h asked returns (goes_past {i} {to_come} way has) = let was : (n : ℕ) × (i ∷ to_come ≡ drop n returns) =

@@ -23,6 +23,7 @@ use Rattle.stamp_explain.specs.declared.observed.Observation.{Observation}
 use Rattle.stamp_explain.specs.declared.node.Node.{Node}
 use Rattle.stamp_explain.specs.declared.node.CallTransition.{CallTransition}
 use Rattle.stamp_explain.specs.Observed.{ObservedHistory, IsObserved, IsBefore, IsInterval, DoNotOverlap}
+use Rattle.stamp_explain.specs.Observed.{AllowsReply}
 use Rattle.stamp_explain.specs.Explained.{Effect}
 use Rattle.stamp_explain.specs.Search.{LockState, StateTransition, MayTake, AreReturns, after_call}
 use Rattle.stamp_explain.specs.Node.{IsFirstLeft, AreTaken, StandsFor, Does, IsTransitionOf}
@@ -37,8 +38,8 @@ pub at_index : (P : Observation → Type 0) (es : List Observation) (i : ℕ) (e
     slice_get es i ≡ Some e → P e
 at_index P es i e all at = subst P (get_or_from_slice_get es i e e at) (all i e (slice_get_within es i e at))
 
-pub orderly : (h : ObservedHistory) → IsObserved h → AreOrderly h.entries
-orderly h observed = record {
+pub orderly : {h : ObservedHistory} → IsObserved h → AreOrderly h.entries
+orderly {h} observed = record {
   interval = λ i e at. at_index IsInterval h.entries i e observed.intervals at;
   thread = λ i e at. at_index (λ (o : Observation). o.thread < 64) h.entries i e observed.threads at;
   apart = λ i j e f at_i at_j other same. which i j e f at_i at_j (sides i j other) same;
@@ -51,9 +52,8 @@ orderly h observed = record {
         DoNotOverlap e f
     pair i j e f at_i at_j lt =
         subst (λ (o : Observation). DoNotOverlap o f) (get_or_from_slice_get h.entries i e e at_i)
-        (subst (λ (o : Observation). DoNotOverlap (get_or h.entries i e) o)
-        (get_or_from_slice_get h.entries j f e at_j)
-        (observed.apart i j e lt (slice_get_within h.entries j f at_j)))
+        (subst (λ (o : Observation). DoNotOverlap (get_or h.entries i e) o) (get_or_from_slice_get h.entries j f e
+        at_j) (observed.apart i j e lt (slice_get_within h.entries j f at_j)))
 
     turned : {A B : Type 0} → A ⊎ B → B ⊎ A
     turned (inl a) = inr a
@@ -70,11 +70,11 @@ in_take xs n k j lt le is =
     (k, lt_take, get_or-take n xs k j lt ∙ is)
 
 -- a call that had returned before another began, which the awaited one had not, is past
-pub sooner_past : (entries : List Observation) (returns : List ℕ) (past : ℕ) (a : Observation) →
+pub sooner_past : {entries : List Observation} {returns : List ℕ} (past : ℕ) (a : Observation) →
     AreReturns entries returns → past < length returns → slice_get entries (get_or returns past 0) ≡ Some a →
     (j : ℕ) (f x : Observation) → slice_get entries j ≡ Some f → IsBefore f x → ¬ IsBefore a x →
     Contains (take past returns) j
-sooner_past entries returns past a are lt at j f x at_j before not = by (are.whole j f at_j (has_returned f x before))
+sooner_past {entries} {returns} past a are lt at j f x at_j before not = by (are.whole j f at_j (has_returned f x before))
   where
     by : Contains returns j → Contains (take past returns) j
     by (k, within, is) = which (cases_order k past)
@@ -94,11 +94,11 @@ sooner_past entries returns past a are lt at j f x at_j before not = by (are.who
             absurd (not (no_later a f x (are.in_order past k j more within a f first second) before))
 
 -- a call that may take effect is open
-pub open_may : (h : ObservedHistory) (returns : List ℕ) (past threads : ℕ) (a : Observation) (s u : LockState)
-    (taken : List ℕ) (x : Effect) → slice_get h.entries (get_or returns past 0) ≡ Some a →
-    AreTaken h.entries (take past returns) threads taken →
-    MayTake (StateTransition h.limits) h.entries a s taken x u → IsOpenAt h returns past x.index
-open_may h returns past threads a s u taken x at in_effect may = record {
+pub open_may : {h : ObservedHistory} {returns : List ℕ} {past threads : ℕ} {a : Observation} {s u : LockState}
+    {taken : List ℕ} {x : Effect} → slice_get h.entries (get_or returns past 0) ≡ Some a →
+    AreTaken h.entries (take past returns) threads taken → MayTake (StateTransition h.limits) h.entries a s taken x u →
+    IsOpenAt h returns past x.index
+open_may {a} {x} at in_effect may = record {
   entry = x.entry;
   is_entry = may.effect.is_entry;
   still = λ found. may.fresh (in_effect.all_past x.index found);
@@ -106,32 +106,32 @@ open_may h returns past threads a s u taken x at in_effect may = record {
 }
 
 -- and one that is open is the next of its thread
-pub next_open : (h : ObservedHistory) (returns : List ℕ) (past : ℕ) (a : Observation) (i : ℕ) → IsObserved h →
+pub next_open : {h : ObservedHistory} {returns : List ℕ} {past : ℕ} (a : Observation) {i : ℕ} → IsObserved h →
     AreReturns h.entries returns → past < length returns → slice_get h.entries (get_or returns past 0) ≡ Some a →
     (it : IsOpenAt h returns past i) → IsFirstLeft h.entries (take past returns) i it.entry
-next_open h returns past a i observed are lt at it = record {
+next_open {h} {returns} {past} a {i} observed are lt at it = record {
   is_entry = it.is_entry;
   still = it.still;
-  first = λ j f at_j same misses other. by j f at_j misses ((orderly h observed).apart i j it.entry f
-      it.is_entry at_j (λ e. other (sym e)) (sym same));
+  first = λ j f at_j same misses other. by j f at_j misses ((orderly observed).apart i j it.entry f it.is_entry at_j
+      (λ e. other (sym e)) (sym same));
 }
   where
     by : (j : ℕ) (f : Observation) → slice_get h.entries j ≡ Some f → ¬ Contains (take past returns) j →
         IsBefore it.entry f ⊎ IsBefore f it.entry → IsBefore it.entry f
     by j f at_j misses (inl before) = before
-    by j f at_j misses (inr before) = absurd (misses (sooner_past h.entries returns past a are lt at j f it.entry
-        at_j before (it.begun a at)))
+    by j f at_j misses (inr before) = absurd (misses (sooner_past past a are lt at j f it.entry at_j before
+        (it.begun a at)))
 
 -- and so is the awaited one
-pub next_awaited : (h : ObservedHistory) (returns : List ℕ) (past : ℕ) (a : Observation) → IsObserved h →
+pub next_awaited : {h : ObservedHistory} {returns : List ℕ} (past : ℕ) {a : Observation} → IsObserved h →
     AreReturns h.entries returns → AllPairs (λ (i j : ℕ). i ≢ j) returns → past < length returns →
     slice_get h.entries (get_or returns past 0) ≡ Some a → IsFirstLeft h.entries (take past returns)
     (get_or returns past 0) a
-next_awaited h returns past a observed are once lt at = record {
+next_awaited {h} {returns} past {a} observed are once lt at = record {
   is_entry = at;
   still = still;
-  first = λ j f at_j same misses other. by j f at_j misses ((orderly h observed).apart (get_or returns past 0) j a f
-      at at_j (λ e. other (sym e)) (sym same));
+  first = λ j f at_j same misses other. by j f at_j misses ((orderly observed).apart
+      (get_or returns past 0) j a f at at_j (λ e. other (sym e)) (sym same));
 }
   where
     still : Contains (take past returns) (get_or returns past 0) → ⊥
@@ -146,8 +146,8 @@ next_awaited h returns past a observed are once lt at = record {
         IsBefore a f ⊎ IsBefore f a → IsBefore a f
     by j f at_j misses (inl before) = before
     by j f at_j misses (inr before) =
-        absurd (misses (sooner_past h.entries returns past a are lt at j f a at_j before
-        (not_before_itself a ((orderly h observed).interval (get_or returns past 0) a at))))
+        absurd (misses (sooner_past past a are lt at j f a at_j before (not_before_itself a
+        ((orderly observed).interval (get_or returns past 0) a at))))
 
 -- lock and record give one reply
 one_of_lock : (o : Option Transition) (p q : Reply) → Replies o p → Replies o q → p ≡ q
@@ -177,8 +177,8 @@ entry_is es read i e d at same = sym (ap (λ (xs : List Observation). get_or xs 
     get_or_from_slice_get es i e d at)
 
 -- what is known where the call of an entry is tried
-pub record Trying (h : ObservedHistory) (returns : List ℕ) (node : Node) (a : Observation) (i : ℕ)
-    (s : LockState) (taken : List ℕ) : Type 0 where
+pub record Trying (h : ObservedHistory) (returns : List ℕ) (node : Node) (a : Observation) (i : ℕ) (s : LockState)
+    (taken : List ℕ) : Type 0 where
   pub observed : IsObserved h
   pub are : AreReturns h.entries returns
   pub inside : node.past < length returns
@@ -198,48 +198,62 @@ trying observed are awaited stands it = record {
   it = it;
 }
 
-next_of : (h : ObservedHistory) (returns : List ℕ) (node : Node) (a : Observation) (i : ℕ) (s : LockState)
-    (taken : List ℕ) → (is : Trying h returns node a i s taken) → IsFirstLeft h.entries (take node.past returns) i
-    is.it.entry
-next_of h returns node a i s taken is = next_open h returns node.past a i is.observed is.are is.inside is.at is.it
+next_of : {h : ObservedHistory} {returns : List ℕ} {node : Node} {a : Observation} {i : ℕ} {s : LockState}
+    {taken : List ℕ} → (is : Trying h returns node a i s taken) → IsFirstLeft h.entries
+    (take node.past returns) i is.it.entry
+next_of {a} is = next_open a is.observed is.are is.inside is.at is.it
 
 -- it is in effect
-pub none_by_bit : (h : ObservedHistory) (returns : List ℕ) (node : Node) (a : Observation) (i : ℕ)
-    (s : LockState) (taken : List ℕ) → (is : Trying h returns node a i s taken) →
-    bit_at node.threads is.it.entry.thread ≡ 1 → Takes h returns node a i s taken None
-none_by_bit h returns node a i s taken is bit x u may same =
-    may.fresh (subst (Contains taken) (sym same) (is.stands.in_effect.each_first i is.it.entry
-    (next_of h returns node a i s taken is) bit))
+pub none_by_bit : {h : ObservedHistory} {returns : List ℕ} {node : Node} {a : Observation} {i : ℕ} {s : LockState}
+    {taken : List ℕ} → (is : Trying h returns node a i s taken) → bit_at node.threads is.it.entry.thread ≡ 1 →
+    Takes h returns node a i s taken None
+none_by_bit {i} {taken} is bit x u may same =
+    may.fresh (subst (Contains taken) (sym same) (is.stands.in_effect.each_first i is.it.entry (next_of is) bit))
+
+-- it waits
+pub none_by_wait : {h : ObservedHistory} {returns : List ℕ} {node : Node} {a : Observation} {i : ℕ} {s : LockState}
+    {taken : List ℕ} → Trying h returns node a i s taken → ((e : Observation) → slice_get h.entries i ≡ Some e →
+    IsTransitionOf h i e node.put s None) → Takes h returns node a i s taken None
+none_by_wait {h} is gone x u may same =
+    gone x.entry (ap (λ (k : ℕ). slice_get h.entries k) (sym same) ∙ may.effect.is_entry) x.reply u may.goes
 
 -- it gives another reply
-pub none_by_reply : (h : ObservedHistory) (returns : List ℕ) (node : Node) (a : Observation) (i : ℕ)
-    (s : LockState) (taken : List ℕ) → Trying h returns node a i s taken →
-    ((e : Observation) → slice_get h.entries i ≡ Some e → IsTransitionOf h i e node.put s None) →
-    Takes h returns node a i s taken None
-none_by_reply h returns node a i s taken is gone x u may same =
-    gone x.entry (ap (λ (k : ℕ). slice_get h.entries k) (sym same) ∙ may.effect.is_entry) x.reply u
-    may.effect.replies may.goes
+pub none_by_reply : {h : ObservedHistory} {returns : List ℕ} {node : Node} {a : Observation} {i : ℕ} {s : LockState}
+    {taken : List ℕ} (did : CallTransition) → (is : Trying h returns node a i s taken) →
+    ¬ AllowsReply is.it.entry did.reply → ((e : Observation) → slice_get h.entries i ≡ Some e →
+    IsTransitionOf h i e node.put s (Some did)) → Takes h returns node a i s taken None
+none_by_reply {h} {i} {s} did is denied gone x u may same =
+    denied (subst (λ (o : Observation). AllowsReply o did.reply) entry (subst (AllowsReply x.entry)
+    (sym reply) may.effect.replies))
+  where
+    here : slice_get h.entries i ≡ Some x.entry
+    here = ap (λ (k : ℕ). slice_get h.entries k) (sym same) ∙ may.effect.is_entry
+
+    entry : x.entry ≡ is.it.entry
+    entry = same_Some x.entry is.it.entry (sym here ∙ is.it.is_entry)
+
+    reply : did.reply ≡ x.reply
+    reply = one_reply h.limits s.0 s.1 x.entry.call did.reply x.reply (gone x.entry here).goes.replies may.goes.replies
 
 -- it takes effect
-pub taken_to : (h : ObservedHistory) (returns : List ℕ) (node : Node) (a : Observation) (i : ℕ) (s : LockState)
-    (taken : List ℕ) (threads : ℕ) (did : CallTransition) → (is : Trying h returns node a i s taken) →
-    bit_at node.threads is.it.entry.thread ≢ 1 →
+pub taken_to : {h : ObservedHistory} {returns : List ℕ} {node : Node} {a : Observation} {i : ℕ} {s : LockState}
+    {taken : List ℕ} {threads : ℕ} (did : CallTransition) → (is : Trying h returns node a i s taken) →
+    bit_at node.threads is.it.entry.thread ≢ 1 → AllowsReply is.it.entry did.reply →
     ((e : Observation) → slice_get h.entries i ≡ Some e → IsTransitionOf h i e node.put s (Some did)) →
     SetsBit node.threads threads is.it.entry.thread → Takes h returns node a i s taken
     (Some (record {
       node = record { past = node.past; bits = did.bits; put = did.put; threads = threads };
       took = Some i;
     }))
-taken_to h returns node a i s taken threads did is bit gone sets = record {
+taken_to {h} {returns} {node} {a} {i} {s} {taken} {threads} did is bit allowed gone sets = record {
   past = refl;
   effect = effect;
   index = refl;
   took = refl;
   state = after_call h.limits s (e.call, did.reply);
   may = record {
-    effect = record { is_entry = is.it.is_entry; replies = went.may };
-    fresh = λ has. bit (taken_by_bit h.entries (take node.past returns) node.threads taken i e is.stands.in_effect
-        is.it.is_entry is.it.still has).0;
+    effect = record { is_entry = is.it.is_entry; replies = allowed };
+    fresh = λ has. bit (taken_by_bit i e is.stands.in_effect is.it.is_entry is.it.still has).0;
     begun = is.it.begun a is.at;
     goes = went.goes;
   };
@@ -274,6 +288,5 @@ taken_to h returns node a i s taken threads did is bit gone sets = record {
     stands : StandsFor h returns made (after_call h.limits s (e.call, did.reply)) (i ∷ taken)
     stands = record {
       at = went.at;
-      in_effect = taken_more h.entries (take node.past returns) node.threads threads taken i e
-          (orderly h is.observed) is.stands.in_effect (next_of h returns node a i s taken is) sets;
+      in_effect = taken_more (orderly is.observed) is.stands.in_effect (next_of is) sets;
     }

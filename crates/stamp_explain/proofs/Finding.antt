@@ -35,8 +35,8 @@ FindsWithin {S} Goes entries n = (to_come : List ℕ) (s : S) (taken : List ℕ)
     IsCompletedBy Goes entries to_come s taken rest → FindsOrder Goes entries to_come s taken
 
 -- what an order completes is found; n bounds the moves
-pub finds : {S : Type 0} (Goes : S → Call × Reply → S → Type 0) (entries : List Observation) (n : ℕ)
-    (to_come : List ℕ) (s : S) (taken : List ℕ) (rest : List Effect) → length to_come + length rest ≤ n →
+pub finds : {S : Type 0} (Goes : S → Call × Reply → S → Type 0) (entries : List Observation) (n : ℕ) (to_come : List ℕ)
+    (s : S) (taken : List ℕ) (rest : List Effect) → length to_come + length rest ≤ n →
     All (IsSoundReturn entries) to_come → IsCompletedBy Goes entries to_come s taken rest →
     FindsOrder Goes entries to_come s taken
 finds Goes entries n [] s taken rest few sound by = at_end
@@ -51,10 +51,10 @@ finds {S} Goes entries (suc n) (i ∷ to_come) s taken rest few sound by =
         IsCompletedBy Goes entries (i ∷ to_come) s taken rest → Contains taken i ⊎ (¬ Contains taken i) →
         FindsWithin Goes entries n → FindsOrder Goes entries (i ∷ to_come) s taken
     which rest few by (inl has) go = returns has (go to_come s taken rest (omega arith)
-        (All-tail (IsSoundReturn entries) i to_come sound) (past_return Goes entries i to_come s taken rest by))
+        (All-tail (IsSoundReturn entries) i to_come sound) (past_return Goes i by))
     which [] few by (inr not_yet) go = absurd (never_empty Goes entries i to_come s taken not_yet by)
     which (x ∷ rest) few by (inr not_yet) go =
-        let first = takes_first Goes entries i it.entry to_come s taken x rest it.awaited not_yet by in
+        let first = takes_first Goes to_come x rest it.awaited not_yet by in
         takes it.entry x first.0 it.awaited.is_entry not_yet first.1.0
         (go (i ∷ to_come) first.0 (x.index ∷ taken) rest (omega arith) sound first.1.1)
 
@@ -81,20 +81,20 @@ has_returned e x before = by e.returned refl before
     by None e before = absurd before
     by (Some r) e before = (r, e)
 
-pub first_of_pending : (entries : List Observation) (i : ℕ) (a : Observation) (to_come taken : List ℕ) →
+pub first_of_pending : {entries : List Observation} (i : ℕ) (a : Observation) (to_come : List ℕ) {taken : List ℕ} →
     slice_get entries i ≡ Some a → ArePending entries (i ∷ to_come) taken → IsFirstReturn entries taken a
-first_of_pending entries i a to_come taken at pending j e x at_j not_yet before =
+first_of_pending {entries} i a to_come at pending j e x at_j not_yet before =
     by (contains_cases i to_come j (pending.whole j e at_j (has_returned e x before) not_yet))
   where
     by : (i ≡ j) ⊎ Contains to_come j → IsBefore a x
-    by (inl same) = subst (λ (o : Observation). IsBefore o x)
-        (same_Some e a (sym at_j ∙ ap (λ (k : ℕ). slice_get entries k) (sym same) ∙ at)) before
+    by (inl same) = subst (λ (o : Observation). IsBefore o x) (same_Some e a
+        (sym at_j ∙ ap (λ (k : ℕ). slice_get entries k) (sym same) ∙ at)) before
     by (inr has) = no_later a e x (All-contains (AreInOrder entries i) to_come j
         (pairs_head (AreInOrder entries) i to_come pending.in_order) has a e at at_j) before
 
-pub past_pending : (entries : List Observation) (i : ℕ) (to_come taken : List ℕ) → Contains taken i →
+pub past_pending : {entries : List Observation} (i : ℕ) {to_come taken : List ℕ} → Contains taken i →
     ArePending entries (i ∷ to_come) taken → ArePending entries to_come taken
-past_pending entries i to_come taken has pending = record {
+past_pending {entries} i {to_come} {taken} has pending = record {
   whole = λ j e at back not_yet. other (contains_cases i to_come j (pending.whole j e at back not_yet)) not_yet;
   in_order = pairs_tail (AreInOrder entries) i to_come pending.in_order;
 }
@@ -103,43 +103,24 @@ past_pending entries i to_come taken has pending = record {
     other (inl e) not_yet = absurd (not_yet (subst (λ (k : ℕ). Contains taken k) e has))
     other (inr found) not_yet = found
 
-pub taken_pending : (entries : List Observation) (to_come taken : List ℕ) (x : ℕ) → ArePending entries to_come taken →
+pub taken_pending : {entries : List Observation} {to_come taken : List ℕ} (x : ℕ) → ArePending entries to_come taken →
     ArePending entries to_come (x ∷ taken)
-taken_pending entries to_come taken x pending = record {
+taken_pending {taken} x pending = record {
   whole = λ j e at back misses. pending.whole j e at back (λ has. misses (contains_rest x taken j has));
   in_order = pending.in_order;
 }
 
 -- what is found completes
-pub completes : {S : Type 0} (Goes : S → Call × Reply → S → Type 0) (entries : List Observation) {to_come : List ℕ}
+pub completes : {S : Type 0} (Goes : S → Call × Reply → S → Type 0) {entries : List Observation} {to_come : List ℕ}
     {s : S} {taken : List ℕ} → FindsOrder Goes entries to_come s taken → ArePending entries to_come taken →
     CanComplete Goes entries to_come s taken
-completes Goes entries (at_end {s} {taken}) pending = record { rest = []; by = completed_by_none Goes entries s taken }
-completes Goes entries (returns {i} {to_come} {s} {taken} has found) pending =
-    let more : ArePending entries to_come taken = record {
-      whole = λ j e at back not_yet. other (contains_cases i to_come j (pending.whole j e at back not_yet)) not_yet;
-      in_order = pairs_tail (AreInOrder entries) i to_come pending.in_order;
-    } in
-    let left : CanComplete Goes entries to_come s taken = completes Goes entries found more in
-    record { rest = left.rest; by = before_return Goes entries i to_come s taken left.rest has left.by }
-  where
-    other : {j : ℕ} → (i ≡ j) ⊎ Contains to_come j → ¬ Contains taken j → Contains to_come j
-    other (inl e) not_yet = absurd (not_yet (subst (λ (k : ℕ). Contains taken k) e has))
-    other (inr found) not_yet = found
-completes Goes entries (takes {i} {to_come} {s} {taken} a x t at not_yet may found) pending =
-    let more : ArePending entries (i ∷ to_come) (x.index ∷ taken) = record {
-      whole = λ j e at_j back misses. pending.whole j e at_j back (λ has. misses (rest_of j has));
-      in_order = pending.in_order;
-    } in
-    let left : CanComplete Goes entries (i ∷ to_come) t (x.index ∷ taken) = completes Goes entries found more in
-    record {
-      rest = x ∷ left.rest;
-      by = puts_first Goes entries a (i ∷ to_come) s t taken x left.rest
-          (first_of_pending entries i a to_come taken at pending) may left.by;
-    }
-  where
-    rest_of : (j : ℕ) → Contains taken j → Contains (x.index ∷ taken) j
-    rest_of j (k, lt, e) = let less : suc k < length (x.index ∷ taken) = omega arith in (suc k, less, e)
+completes Goes (at_end {s} {taken}) pending = record { rest = []; by = completed_by_none Goes }
+completes Goes (returns {i} has found) pending =
+    let left = completes Goes found (past_pending i has pending) in
+    record { rest = left.rest; by = before_return Goes i has left.by }
+completes Goes (takes {i} {to_come} a x t at not_yet may found) pending =
+    let left = completes Goes found (taken_pending x.index pending) in
+    record { rest = x ∷ left.rest; by = puts_first Goes (first_of_pending i a to_come at pending) may left.by }
 
 -- legal histories are those that lock and record run
 pub runs_legal : (limits : Bounds) (events : List LockEvent) (content : List ℕ) (history : History) →
@@ -158,8 +139,8 @@ pub legal_runs : (limits : Bounds) (events : List LockEvent) (content : List ℕ
 legal_runs limits events content [] runs = tt
 legal_runs limits events content (x ∷ xs) runs = (
   runs.1.0.replies,
-  legal_runs limits (events ++ appended_by (transition limits events x.0))
-      (content_next content x.0 x.1) xs (subst (λ (t : LockState). Runs (StateTransition limits) t xs) runs.1.0.next
+  legal_runs limits (events ++ appended_by (transition limits events x.0)) (content_next content x.0 x.1) xs
+      (subst (λ (t : LockState). Runs (StateTransition limits) t xs) runs.1.0.next
       runs.1.1),
 )
 
@@ -172,8 +153,8 @@ not_before_itself e le before = by e.returned le before
     by None le before = before
     by (Some r) le before = omega arith
 
-pub sound_return : (h : ObservedHistory) (i : ℕ) → IsObserved h → IsReturnAt h.entries i → IsSoundReturn h.entries i
-sound_return h i observed r = record {
+pub sound_return : {h : ObservedHistory} {i : ℕ} → IsObserved h → IsReturnAt h.entries i → IsSoundReturn h.entries i
+sound_return {h} {i} observed r = record {
   entry = r.entry;
   awaited = record {
     is_entry = r.is_entry;
@@ -181,51 +162,3 @@ sound_return h i observed r = record {
         (observed.intervals i r.entry (slice_get_within h.entries i r.entry r.is_entry)));
   };
 }
-
-pub just_in_time : JustInTime
-just_in_time h to_come observed are = (there, back)
-  where
-    there : IsExplained h → FindsOrder (StateTransition h.limits) h.entries to_come (first_state h.width) []
-    there explained =
-        let by = explained.by in
-        finds (StateTransition h.limits) h.entries (length to_come + length explained.order) to_come
-        (first_state h.width) []
-        explained.order (omega arith)
-        (All-weaker (IsReturnAt h.entries) (IsSoundReturn h.entries) (λ i r. sound_return h i observed r) to_come
-        are.each)
-        (record {
-          effects = by.effects;
-          once = by.once;
-          fresh = λ k d lt. none_in_empty (get_or explained.order k d).index;
-          returned = All-weaker (IsReturnAt h.entries) (λ (i : ℕ). Contains [] i ⊎
-              Contains (indices_of explained.order) i) (λ i r. inr (by.returned i r.entry r.is_entry
-              (r.return, r.returned))) to_come are.each;
-          ordered = by.ordered;
-          runs = runs_legal h.limits [] (zeros h.width) (history_of explained.order) by.legal;
-        })
-
-    back : FindsOrder (StateTransition h.limits) h.entries to_come (first_state h.width) [] → IsExplained h
-    back found =
-        let left : CanComplete (StateTransition h.limits) h.entries to_come (first_state h.width) [] =
-        completes (StateTransition h.limits) h.entries found (record {
-          whole =
-              λ i e at returned _. are.whole i e at returned;
-          in_order = are.in_order;
-        }) in
-        let by = left.by in
-        record {
-          order = left.rest;
-          by = record {
-            effects = by.effects;
-            once = by.once;
-            returned = λ i e at returned. right (indices_of left.rest) i
-                (All-contains (λ (j : ℕ). Contains [] j ⊎ Contains (indices_of left.rest) j) to_come i by.returned
-                (are.whole i e at returned));
-            ordered = by.ordered;
-            legal = legal_runs h.limits [] (zeros h.width) (history_of left.rest) by.runs;
-          };
-        }
-      where
-        right : (xs : List ℕ) (i : ℕ) → Contains [] i ⊎ Contains xs i → Contains xs i
-        right xs i (inl has) = absurd (none_in_empty i has)
-        right xs i (inr has) = has

@@ -1,88 +1,22 @@
 -- A configuration that goes on from another, and a node by which a search goes on from one.
-use Rattle.std.proofs.Common.{◌≡◌, ◌⊎◌, ℕ, ◌+◌, ◌-◌, ◌<◌, ◌≤◌, List, [], ◌∷◌, ◌++◌, length}
-use Rattle.std.proofs.Common.{get_or}
-use Rattle.std.proofs.Common.{refl, sym, ◌∙◌, ap, subst, inl, inr, arith, Option, None, Some}
+use Rattle.std.proofs.Common.{◌≡◌, ◌⊎◌, ℕ, List, [], ◌∷◌, ◌++◌, length, refl, sym, ◌∙◌, ap, subst}
+use Rattle.std.proofs.Common.{inl, inr, arith, Option, None, Some}
 use Rattle.std.specs.Prelude.{take, drop, slice_get, slice_index}
 use Rattle.std.specs.List.{Contains}
-use Rattle.std.proofs.lemmas.List.{length-append, length-drop, append_assoc}
+use Rattle.std.specs.Int.{bit_at}
+use Rattle.std.proofs.lemmas.List.{length-append, append_assoc}
 use Rattle.std.proofs.lemmas.List.Elements.{Contains-append_right}
-use Rattle.std.proofs.lemmas.Option.{same_Some, slice_get-get_or, slice_get_within}
 use Rattle.stamp_explain.specs.declared.observed.Observation.{Observation}
 use Rattle.stamp_explain.specs.declared.node.Node.{Node}
 use Rattle.stamp_explain.specs.declared.node.Next.{Next}
 use Rattle.stamp_explain.specs.Observed.{ObservedHistory}
-use Rattle.stamp_explain.specs.Configuration.{Configuration, GoesOnFrom, Reaches}
-use Rattle.std.specs.Int.{bit_at}
+use Rattle.stamp_explain.specs.Configuration.{Configuration, GoesOnFrom, MovesOn}
 use Rattle.stamp_explain.specs.Node.{AreTaken, IsFirstLeft, IsReached}
-use Rattle.stamp_explain.specs.Expand.{ComesByOneMove, ComesByMove, ComesNext, PassesTo, ComesByReturn, ComesByCall}
+use Rattle.stamp_explain.specs.Expand.{ComesByMove, ComesNext, PassesTo, ComesByReturn}
 use Rattle.stamp_explain.specs.Expand.PassesTo.{passes_none, passes_more}
 use Rattle.stamp_explain.proofs.Lists.{contains_first}
-use Rattle.stamp_explain.proofs.AddingNew.{read_left, read_right, read_last}
 use Rattle.stamp_explain.proofs.Leading.{come, come_less, reached_past, reached_by}
-use Rattle.stamp_explain.proofs.Counting.{IsFor, configuration_of, is_for_its}
-
--- what stands in a list behind which one more is put
-pub read_push : {X : Type 0} (xs : List X) (x y : X) (k : ℕ) → slice_get (xs ++ x ∷ []) k ≡ Some y →
-    (slice_get xs k ≡ Some y) ⊎ ((k ≡ length xs) × (x ≡ y))
-read_push {X} xs x y k at = by (below k)
-  where
-    below : (k : ℕ) → (k < length xs) ⊎ (length xs ≤ k)
-    below k = grind arith
-
-    by : (k < length xs) ⊎ (length xs ≤ k) → (slice_get xs k ≡ Some y) ⊎ ((k ≡ length xs) × (x ≡ y))
-    by (inl less) =
-        let was : slice_get xs k ≡ Some (get_or xs k y) = slice_get-get_or xs k y less in
-        inl (was ∙ sym (read_left xs (x ∷ []) k (get_or xs k y) was) ∙ at)
-    by (inr past) =
-        let lt : k < length (xs ++ x ∷ []) = slice_get_within (xs ++ x ∷ []) k y at in
-        let e : k ≡ length xs = omega (arith, lt, past, length-append xs (x ∷ [])) in
-        inr (e, same_Some x y (sym (read_last xs x) ∙ ap (λ (n : ℕ). slice_get (xs ++ x ∷ []) n) (sym e) ∙ at))
-
--- what stands in two lists, one behind the other
-pub read_both : {X : Type 0} (xs ys : List X) (y : X) (k : ℕ) → slice_get (xs ++ ys) k ≡ Some y →
-    (slice_get xs k ≡ Some y) ⊎ ((length xs ≤ k) × (slice_get ys (k - length xs) ≡ Some y))
-read_both {X} xs ys y k at = by (below k)
-  where
-    below : (k : ℕ) → (k < length xs) ⊎ (length xs ≤ k)
-    below k = grind arith
-
-    by : (k < length xs) ⊎ (length xs ≤ k) →
-        (slice_get xs k ≡ Some y) ⊎ ((length xs ≤ k) × (slice_get ys (k - length xs) ≡ Some y))
-    by (inl less) =
-        let was : slice_get xs k ≡ Some (get_or xs k y) = slice_get-get_or xs k y less in
-        inl (was ∙ sym (read_left xs ys k (get_or xs k y) was) ∙ at)
-    by (inr past) =
-        let e : k ≡ length xs + (k - length xs) = omega (arith, past) in
-        inr (past, sym (read_right xs ys (k - length xs)) ∙ ap (λ (n : ℕ). slice_get (xs ++ ys) n) (sym e) ∙ at)
-
-pub at_contains : {X : Type 0} (xs : List X) (x : X) → Contains xs x → (k : ℕ) × (slice_get xs k ≡ Some x)
-at_contains {X} xs x (k, lt, e) = (k, slice_get-get_or xs k x lt ∙ ap (λ (y : X). Some y) e)
-
--- a configuration goes on from itself, and from what those before it go on from
-pub same_goes_on : (h : ObservedHistory) (returns : List ℕ) (c : Configuration h None returns) →
-    GoesOnFrom h returns c c
-same_goes_on h returns c = record { later = []; taken = refl; passed = []; to_come = refl }
-
-pub goes_on_through : (h : ObservedHistory) (returns : List ℕ) (b c d : Configuration h None returns) →
-    GoesOnFrom h returns b c → GoesOnFrom h returns c d → GoesOnFrom h returns b d
-goes_on_through h returns b c d one two = record {
-  later = two.later ++ one.later;
-  taken = two.taken ∙ ap (λ (xs : List ℕ). two.later ++ xs) one.taken ∙
-      sym (append_assoc two.later one.later b.taken);
-  passed = one.passed ++ two.passed;
-  to_come = one.to_come ∙ ap (λ (xs : List ℕ). one.passed ++ xs) two.to_come ∙
-      sym (append_assoc one.passed two.passed d.to_come);
-}
-
--- a node by which a search goes on, with a configuration that goes on from that of the node before. No
--- configuration before it is of that node: more calls are in effect, or more returns past
-pub record MovesTo (h : ObservedHistory) (returns : List ℕ) (c : Configuration h None returns) (w : Node) :
-    Type 0 where
-  pub next : Configuration h None returns
-  pub is_for : IsFor h None returns w next
-  pub goes_on : GoesOnFrom h returns c next
-  pub one : length goes_on.later ≤ 1
-  pub is_new : (b : Configuration h None returns) → IsFor h None returns w b → GoesOnFrom h returns b c → ⊥
+use Rattle.stamp_explain.proofs.Counting.{configuration_of}
 
 taken_in_both : (h : ObservedHistory) (past : List ℕ) (threads : ℕ) (one other : List ℕ) (i : ℕ) (e : Observation) →
     AreTaken h.entries past threads one → AreTaken h.entries past threads other → slice_get h.entries i ≡ Some e →
@@ -93,87 +27,112 @@ taken_in_both h past threads one other i e are also at has = by (are.only i e at
     by (inl is_past) = also.all_past i is_past
     by (inr both) = also.each_first i e both.1 both.0
 
-pub reached_of : (h : ObservedHistory) (returns : List ℕ) (v : Node) (c : Configuration h None returns) →
-    IsFor h None returns v c → IsReached h None returns v
-reached_of h returns v c is = record {
-  state = c.state;
-  taken = c.taken;
-  inside = is.inside;
-  stands = is.stands;
-  way = subst (λ (rs : List ℕ). Reaches h None returns rs c.state v.put c.taken) is.to_come
-      (subst (λ (put : Option ℕ). Reaches h None returns c.to_come c.state put c.taken) is.put c.way);
-}
+module _ (h : ObservedHistory) (asked : Option ℕ) (returns : List ℕ) where
+  -- a configuration goes on from itself, and from what those before it go on from
+  pub same_goes_on : (c : Configuration h asked returns) → GoesOnFrom h asked returns c c
+  same_goes_on c = record { later = []; taken = refl; passed = []; to_come = refl }
 
-moves_by : (h : ObservedHistory) (returns : List ℕ) (v : Node) (next : Next) (c : Configuration h None returns) →
-    IsFor h None returns v c → ComesByOneMove h None returns v next → MovesTo h returns c next.node
-unfolding reached_of
-moves_by h returns v next c is leads = by next.took (leads.leads c.state c.taken is.stands)
-  where
-    past : ComesByReturn h returns v next.node c.state c.taken → IsReached h None returns next.node
-    past l = reached_past h None returns v next.node (reached_of h returns v c is) leads.inside l
+  pub goes_on_through : (b c d : Configuration h asked returns) → GoesOnFrom h asked returns b c →
+      GoesOnFrom h asked returns c d → GoesOnFrom h asked returns b d
+  goes_on_through b c d one two = record {
+    later = two.later ++ one.later;
+    taken = two.taken ∙ ap (λ (xs : List ℕ). two.later ++ xs) one.taken ∙ sym
+        (append_assoc two.later one.later b.taken);
+    passed = one.passed ++ two.passed;
+    to_come = one.to_come ∙ ap (λ (xs : List ℕ). one.passed ++ xs) two.to_come ∙
+        sym (append_assoc one.passed two.passed d.to_come);
+  }
 
-    taken : (i : ℕ) → ComesByCall h None returns v next.node c.state c.taken i → IsReached h None returns next.node
-    taken i l = reached_by h None returns v next.node i (reached_of h returns v c is) leads.inside l
+  -- returns are past, and the calls in effect are the same
+  record IsPassed (v : Node) (is : IsReached h asked returns v) (w : Node) : Type 0 where
+    pub reached : IsReached h asked returns w
+    pub same : reached.taken ≡ is.taken
+    pub passed : List ℕ
+    pub to_come : drop v.past returns ≡ passed ++ drop w.past returns
 
-    by : (o : Option ℕ) → ComesByMove h None returns v next.node c.state c.taken o → MovesTo h returns c next.node
-    by None l = record {
-      next = configuration_of h None returns next.node (past l);
-      is_for = is_for_its h None returns next.node (past l);
-      goes_on = record {
-        later = [];
-        taken = refl;
-        passed = slice_index returns v.past ∷ [];
-        to_come = is.to_come ∙ come returns v.past leads.inside ∙
-            ap (λ (rest : List ℕ). slice_index returns v.past ∷ rest) (come_less returns v.past next.node.past l.past);
-      };
-      one = omega arith;
-      is_new = λ b of on. omega (
-        arith,
-        leads.inside,
-        l.past,
-        length-drop next.node.past returns,
-        length-drop v.past returns,
-        ap (λ (xs : List ℕ). length xs) of.to_come,
-        ap (λ (xs : List ℕ). length xs) is.to_come,
-        ap (λ (xs : List ℕ). length xs) on.to_come,
-        length-append on.passed c.to_come,
-      );
-    }
-    by (Some i) l = record {
-      next = configuration_of h None returns next.node (taken i l);
-      is_for = is_for_its h None returns next.node (taken i l);
-      goes_on = record {
-        later = l.effect.index ∷ [];
-        taken = refl;
-        passed = [];
-        to_come = is.to_come ∙ ap (λ (n : ℕ). drop n returns) (sym l.past);
-      };
-      one = omega arith;
-      is_new = λ b of on. l.may.fresh (subst (λ (xs : List ℕ). Contains xs l.effect.index) (sym on.taken)
-          (Contains-append_right on.later b.taken l.effect.index (taken_in_both h (take next.node.past returns)
-          next.node.threads (l.effect.index ∷ c.taken) b.taken l.effect.index l.effect.entry l.stands.in_effect
-          of.stands.in_effect l.may.effect.is_entry
-          (contains_first l.effect.index c.taken l.effect.index refl))));
-    }
+  passes : (v w : Node) (is : IsReached h asked returns v) → PassesTo h returns v w → IsPassed v is w
+  passes v w is passes_none = record { reached = is; same = refl; passed = []; to_come = refl }
+  passes v w is (passes_more {u} before step) =
+      let at : IsPassed v is u = passes v u is before in
+      let l : ComesByReturn h returns u w at.reached.state at.reached.taken =
+      step.leads at.reached.state at.reached.taken at.reached.stands in
+      record {
+        reached = reached_past h asked returns u w at.reached step.inside l;
+        same = at.same;
+        passed = at.passed ++ slice_index returns u.past ∷ [];
+        to_come = at.to_come ∙ ap (λ (xs : List ℕ). at.passed ++ xs) (come returns u.past step.inside ∙
+            ap (λ (rest : List ℕ). slice_index returns u.past ∷ rest) (come_less returns u.past w.past l.past)) ∙
+            sym (append_assoc at.passed (slice_index returns u.past ∷ []) (drop w.past returns));
+      }
 
-moves_past : (h : ObservedHistory) (returns : List ℕ) (c : Configuration h None returns) (v w : Node) →
-    MovesTo h returns c v → PassesTo h returns v w → MovesTo h returns c w
-unfolding goes_on_through moves_by
-moves_past h returns c v w to passes_none = to
-moves_past h returns c v w to (passes_more {u} before step) =
-    let there : MovesTo h returns c u = moves_past h returns c v u to before in
-    let on : MovesTo h returns there.next w = moves_by h returns u (record { node = w; took = None }) there.next
-    there.is_for (record { inside = step.inside; leads = step.leads }) in
-    record {
-      next = on.next;
-      is_for = on.is_for;
-      goes_on = goes_on_through h returns c there.next on.next there.goes_on on.goes_on;
-      one = there.one;
-      is_new = λ b of back. on.is_new b of (goes_on_through h returns b c there.next back there.goes_on);
-    }
+  -- a node by which a search goes on. Nothing that it stands for came before: more calls are in effect, or more
+  -- returns past
+  pub record MovesTo (v : Node) (is : IsReached h asked returns v) (w : Node) : Type 0 where
+    pub reached : IsReached h asked returns w
+    pub moves : MovesOn h asked returns (configuration_of h asked returns v is)
+        (configuration_of h asked returns w reached)
+    pub is_new : (b : IsReached h asked returns w) → GoesOnFrom h asked returns (configuration_of h asked returns w b)
+        (configuration_of h asked returns v is) → ⊥
 
--- where a call takes effect, and then returns are past
-pub moves_to : (h : ObservedHistory) (returns : List ℕ) (v : Node) (next : Next) (c : Configuration h None returns) →
-    IsFor h None returns v c → ComesNext h None returns v next → MovesTo h returns c next.node
-moves_to h returns v next c is leads = moves_past h returns c leads.via next.node
-    (moves_by h returns v (record { node = leads.via; took = next.took }) c is leads.comes) leads.passes
+  -- where a call takes effect, and then returns are past
+  pub moves_to : (v : Node) (next : Next) (is : IsReached h asked returns v) → ComesNext h asked returns v next →
+      MovesTo v is next.node
+  moves_to v next is leads = by next.took (leads.comes.leads is.state is.taken is.stands)
+    where
+      via : Node
+      via = leads.via
+
+      by : (o : Option ℕ) → ComesByMove h asked returns v via is.state is.taken o → MovesTo v is next.node
+      by None l = record {
+        reached = on.reached;
+        moves = record {
+          goes = record {
+            later = [];
+            taken = on.same;
+            passed = slice_index returns v.past ∷ on.passed;
+            to_come = there;
+          };
+          one = omega arith;
+        };
+        is_new = λ b back. omega (
+          arith,
+          ap (λ (xs : List ℕ). length xs) there,
+          ap (λ (xs : List ℕ). length xs) back.to_come,
+          length-append back.passed (drop v.past returns),
+          length-append on.passed (drop next.node.past returns),
+        );
+      }
+        where
+          at : IsReached h asked returns via
+          at = reached_past h asked returns v via is leads.comes.inside l
+
+          on : IsPassed via at next.node
+          on = passes via next.node at leads.passes
+
+          there : drop v.past returns ≡ slice_index returns v.past ∷ (on.passed ++ drop next.node.past returns)
+          there = come returns v.past leads.comes.inside ∙ ap (λ (rest : List ℕ). slice_index returns v.past ∷ rest)
+              (come_less returns v.past via.past l.past ∙ on.to_come)
+      by (Some i) l = record {
+        reached = on.reached;
+        moves = record {
+          goes = record {
+            later = l.effect.index ∷ [];
+            taken = on.same;
+            passed = on.passed;
+            to_come = ap (λ (n : ℕ). drop n returns) (sym l.past) ∙ on.to_come;
+          };
+          one = omega arith;
+        };
+        is_new = λ b back. l.may.fresh (subst (λ (xs : List ℕ). Contains xs l.effect.index) (sym back.taken)
+            (Contains-append_right back.later b.taken l.effect.index (taken_in_both h
+            (take next.node.past returns) next.node.threads on.reached.taken b.taken l.effect.index l.effect.entry
+            on.reached.stands.in_effect b.stands.in_effect l.may.effect.is_entry
+            (subst (λ (xs : List ℕ). Contains xs l.effect.index) (sym on.same)
+            (contains_first l.effect.index is.taken l.effect.index refl)))));
+      }
+        where
+          at : IsReached h asked returns via
+          at = reached_by h asked returns v via i is leads.comes.inside l
+
+          on : IsPassed via at next.node
+          on = passes via next.node at leads.passes

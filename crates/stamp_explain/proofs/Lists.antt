@@ -111,9 +111,9 @@ pub zip_pairs : {X Y : Type 0} (S : X → Y → Type 0) (R : X → X → Type 0)
 zip_pairs S R Q [] [] step zip all = pairs_none Q
 zip_pairs S R Q [] (y ∷ ys) step zip all = absurd zip
 zip_pairs S R Q (x ∷ xs) [] step zip all = absurd zip
-zip_pairs S R Q (x ∷ xs) (y ∷ ys) step zip all = pairs_cons Q y ys
-    (zip_all S (R x) (Q y) xs ys (λ a b s r. step x a y b zip.0 s r) zip.1 (pairs_head R x xs all))
-    (zip_pairs S R Q xs ys step zip.1 (pairs_tail R x xs all))
+zip_pairs S R Q (x ∷ xs) (y ∷ ys) step zip all = pairs_cons Q y ys (zip_all S (R x) (Q y) xs ys
+    (λ a b s r. step x a y b zip.0 s r) zip.1 (pairs_head R x xs all)) (zip_pairs S R Q xs ys step zip.1
+    (pairs_tail R x xs all))
 
 pub pairs_map : {X Y : Type 0} (R : X → X → Type 0) (Q : Y → Y → Type 0) (E : X → Type 0) (f : X → Y) (xs : List X) →
     ((x y : X) → E x → E y → R x y → Q (f x) (f y)) → All E xs → AllPairs R xs → AllPairs Q (map f xs)

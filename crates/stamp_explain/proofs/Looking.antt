@@ -20,10 +20,10 @@ pub record Looking (old now : Store) (waited waiting : List Waiting) : Type 0 wh
   pub are : waited ≡ waiting ++ passed
   pub visited : All (λ (w : Waiting). Contains old.nodes.items w.node) passed
 
-pub looking_past : (old now new : Store) (waited before waiting : List Waiting) (last : Waiting) →
+pub looking_past : {old now new : Store} {waited before waiting : List Waiting} (last : Waiting) →
     Looking old now waited before → before ≡ waiting ++ last ∷ [] → IsStored now new last.node last.origin false →
     Looking old new waited waiting
-looking_past old now new waited before waiting last is popped stored = record {
+looking_past {old} {waiting} last is popped stored = record {
   keeps = stored.keeps;
   nodes = stored.nodes.0 ∙ is.nodes;
   origins = stored.origins ∙ is.origins;
@@ -33,10 +33,10 @@ looking_past old now new waited before waiting last is popped stored = record {
       (subst (λ (ns : List Node). Contains ns last.node) is.nodes stored.nodes.1) is.visited;
 }
 
-pub looked_at : (old now new : Store) (waited before waiting : List Waiting) (last : Waiting) →
+pub looked_at : {old now new : Store} {waited before : List Waiting} (waiting : List Waiting) (last : Waiting) →
     Looking old now waited before → before ≡ waiting ++ last ∷ [] → IsStored now new last.node last.origin true →
     LooksAt old new waited waiting true
-looked_at old now new waited before waiting last is popped stored = record {
+looked_at waiting last is popped stored = record {
   last = last;
   passed = is.passed;
   are = is.are ∙ ap (λ (ws : List Waiting). ws ++ is.passed) popped ∙ append_assoc waiting (last ∷ []) is.passed;

@@ -61,12 +61,12 @@ question_under_way e asks = by e.returned refl asks
     by (Some r) at asks = absurd (false≢true asks)
 
 -- what an order completes after a question under way, it completes without it
-pub without_question : (limits : Bounds) (entries : List Observation) (returns : List ℕ) (s u : LockState)
-    (taken : List ℕ) (x : Effect) (left : ℕ) → All (IsReturnAt entries) returns → IsEffectOf entries x →
+pub without_question : {limits : Bounds} {entries : List Observation} {returns : List ℕ} {s u : LockState}
+    {taken : List ℕ} {x : Effect} {left : ℕ} → All (IsReturnAt entries) returns → IsEffectOf entries x →
     StateTransition limits s (x.entry.call, x.reply) u → is_question_under_way x.entry ≡ true →
     CompletesIn (StateTransition limits) entries returns u (x.index ∷ taken) left →
     CompletesIn (StateTransition limits) entries returns s taken left
-without_question limits entries returns s u taken x left are effect steps asks can = record {
+without_question {limits} {entries} {returns} {s} {u} {taken} {x} are effect steps asks can = record {
   rest = can.rest;
   by = record {
     effects = can.by.effects;
@@ -83,13 +83,13 @@ without_question limits entries returns s u taken x left are effect steps asks c
     question = question_under_way x.entry asks
 
     same : u ≡ s
-    same = unchanging_calls_change_nothing limits x.entry.call x.reply s u
-        (question_changes_nothing x.entry.call x.reply question.1) steps
+    same = unchanging_calls_change_nothing limits x.entry.call x.reply s u (question_changes_nothing x.entry.call
+        x.reply question.1) steps
 
     apart : (i : ℕ) → IsReturnAt entries i → x.index ≢ i
-    apart i at is = none-some at.return (sym question.0 ∙
-        ap (λ (o : Observation). o.returned) (same_Some x.entry at.entry (sym effect.is_entry ∙
-        ap (λ (k : ℕ). slice_get entries k) is ∙ at.is_entry)) ∙ at.returned)
+    apart i at is = none-some at.return (sym question.0 ∙ ap (λ (o : Observation). o.returned)
+        (same_Some x.entry at.entry (sym effect.is_entry ∙ ap (λ (k : ℕ). slice_get entries k) is ∙ at.is_entry)) ∙
+        at.returned)
 
     back : (i : ℕ) → IsReturnAt entries i → Contains (x.index ∷ taken) i ⊎ Contains (indices_of can.rest) i →
         Contains taken i ⊎ Contains (indices_of can.rest) i
@@ -103,6 +103,5 @@ without_question limits entries returns s u taken x left are effect steps asks c
 pub questions_under_way_are_not_needed : QuestionsUnderWayAreNotNeeded
 questions_under_way_are_not_needed limits entries to_come s t taken x are effect asks steps can =
     let left : CompletesIn (StateTransition limits) entries to_come s taken (length to_come + length can.rest) =
-    without_question limits entries to_come s t taken x (length to_come + length can.rest) are effect steps asks
-    (record { rest = can.rest; by = can.by; moves = refl }) in
+    without_question are effect steps asks (record { rest = can.rest; by = can.by; moves = refl }) in
     record { rest = left.rest; by = left.by }

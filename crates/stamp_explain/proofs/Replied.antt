@@ -31,38 +31,38 @@ one_transition limits word events others call range is also = ap (λ (c : Counts
     (sym (counts_in-represented limits word events range is) ∙ counts_in-represented limits word others range also)
 
 -- a call has one reply in all states that the numbers stand for
-one_reply_at : (h : ObservedHistory) (bits : ℕ) (put : Option ℕ) (s t : LockState) (call : Call)
-    (reply : Reply) → AreInRange h.limits → IsStateBy h bits put s → IsStateBy h bits put t →
-    IsReply h.limits s.0 s.1 call reply → IsReply h.limits t.0 t.1 call reply
-one_reply_at h bits put s t call reply range at there is =
+one_reply_at : {h : ObservedHistory} {bits : ℕ} {put : Option ℕ} {s t : LockState} (call : Call) (reply : Reply) →
+    AreInRange h.limits → IsStateBy h bits put s → IsStateBy h bits put t → IsReply h.limits s.0 s.1 call reply →
+    IsReply h.limits t.0 t.1 call reply
+one_reply_at {h} {bits} {s} {t} call reply range at there is =
     subst (λ (content : List ℕ). IsReply h.limits t.0 content call reply) (sym at.content ∙ there.content)
     (subst (λ (o : Option Transition). MatchBool (is_lock_call call) (Replies o reply) (RecordReplies s.1 call reply))
     (one_transition h.limits (word_at h.limits bits) s.0 t.0 call range at.word there.word) is)
 
 -- a call that has returned got the reply of its return
-pub replied : (h : ObservedHistory) (node : Node) (i : ℕ) (e : Observation) (returned : Returned) →
+pub replied : {h : ObservedHistory} {node : Node} {i : ℕ} (e : Observation) (returned : Returned) →
     AreInRange h.limits → IsLedBy h node i → slice_get h.entries i ≡ Some e → e.returned ≡ Some returned →
     RepliesAt h node (record { index = i; reply = returned.reply })
-replied h node i e returned range led is_entry at f s is there =
-    let same : led.effect.entry ≡ f = same_Some led.effect.entry f
-    (sym led.is_effect.is_entry ∙ ap (λ (k : ℕ). slice_get h.entries k) led.index ∙ is) in
-    let here : led.effect.entry ≡ e = same_Some led.effect.entry e
-    (sym led.is_effect.is_entry ∙ ap (λ (k : ℕ). slice_get h.entries k) led.index ∙ is_entry) in
+replied {h} e returned range led is_entry at f s is there =
+    let same : led.effect.entry ≡ f = same_Some led.effect.entry f (sym led.is_effect.is_entry ∙
+    ap (λ (k : ℕ). slice_get h.entries k) led.index ∙ is) in
+    let here : led.effect.entry ≡ e = same_Some led.effect.entry e (sym led.is_effect.is_entry ∙
+    ap (λ (k : ℕ). slice_get h.entries k) led.index ∙ is_entry) in
     let told : returned.reply ≡ led.effect.reply = MatchOption-at_some (Unit {0})
-    (λ (r : Returned). r.reply ≡ led.effect.reply) returned
-    (ap (λ (o : Observation). o.returned) here ∙ at) led.is_effect.replies in
+    (λ (r : Returned). r.reply ≡ led.effect.reply) returned (ap (λ (o : Observation). o.returned) here ∙ at)
+    led.is_effect.replies in
     subst (λ (o : Observation). IsReply h.limits s.0 s.1 o.call returned.reply) same
     (subst (λ (reply : Reply). IsReply h.limits s.0 s.1 led.effect.entry.call reply) (sym told)
-    (one_reply_at h node.bits node.put led.state s led.effect.entry.call led.effect.reply range led.at there
+    (one_reply_at led.effect.entry.call led.effect.reply range led.at there
     led.goes.replies))
 
 -- the same, where the entry is read
-pub replied_read : (h : ObservedHistory) (node : Node) (i : ℕ) (read : List Observation) (e : Observation)
+pub replied_read : {h : ObservedHistory} {node : Node} {i : ℕ} (read : List Observation) (e : Observation)
     (returned : Returned) → AreInRange h.limits → IsLedBy h node i → read ≡ h.entries → e ≡ get_or read i e →
     e.returned ≡ Some returned → RepliesAt h node (record { index = i; reply = returned.reply })
-replied_read h node i read e returned range led same is at =
+replied_read {h} {i} read e returned range led same is at =
     let there : slice_get h.entries i ≡ Some led.effect.entry =
     ap (λ (k : ℕ). slice_get h.entries k) (sym led.index) ∙ led.is_effect.is_entry in
-    replied h node i e returned range led
+    replied e returned range led
     (slice_get_read h.entries (length h.entries) i e refl (slice_get_within h.entries i led.effect.entry there)
     (is ∙ ap (λ (xs : List Observation). get_or xs i e) same)) at

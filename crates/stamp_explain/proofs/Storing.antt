@@ -70,39 +70,22 @@ same_key_laws = record {
   congr = λ a b c h. ap (λ (k : Key). same_key k c) (exact_key a b h);
 }
 
-exact_node : (v w : Node) → key_of v ≡ key_of w → v ≡ w
-exact_node v w h =
-    let e0 : v.past ≡ w.past = ap (λ (k : Key). k.0) h in
-    let e1 : v.bits ≡ w.bits = ap (λ (k : Key). k.1) h in
-    let e2 : v.put ≡ w.put = ap (λ (k : Key). k.2) h in
-    let e3 : v.threads ≡ w.threads = ap (λ (k : Key). k.3) h in
-    ap (λ (x : ℕ). record v { past = x }) e0 ∙ ap (λ (x : ℕ). record {
-      past = w.past;
-      bits = x;
-      put = v.put;
-      threads = v.threads;
-    }) e1 ∙ ap (λ (x : Option ℕ). record {
-      past = w.past;
-      bits = w.bits;
-      put = x;
-      threads = v.threads;
-    }) e2 ∙ ap (λ (x : ℕ). record {
-      past = w.past;
-      bits = w.bits;
-      put = w.put;
-      threads = x;
-    }) e3
+abbrev node_by : Key → Node
+node_by k = record { past = k.0; bits = k.1; put = k.2; threads = k.3 }
 
-pub stored : (old new : Store) (node : Node) (origin : Origin) → Keeps old →
+exact_node : (v w : Node) → key_of v ≡ key_of w → v ≡ w
+exact_node v w h = ap node_by h
+
+pub stored : {old new : Store} {node : Node} {origin : Origin} → Keeps old →
     new.nodes.items ≡ old.nodes.items ++ node ∷ [] → new.origins.items ≡ old.origins.items ++ origin ∷ [] →
     IsPermutation (key_of node ∷ old.known.keys) new.known.keys → ¬ Contains old.known.keys (key_of node) →
     IsStored old new node origin true
-stored old new node origin keeps is comes moved misses = record {
+stored {old} {new} {node} {origin} keeps is comes moved misses = record {
   keeps = record {
-    listed = λ w has. subst (λ (ws : List Node). Contains ws w) (sym is)
-        (listed w (contains_cases (key_of node) old.known.keys (key_of w)
-        (Contains-permutation new.known.keys (key_of node ∷ old.known.keys) (key_of w)
-        (IsPermutation-sym (key_of node ∷ old.known.keys) new.known.keys moved) has)));
+    listed = λ w has. subst (λ (ws : List Node). Contains ws w) (sym is) (listed w
+        (contains_cases (key_of node) old.known.keys (key_of w) (Contains-permutation new.known.keys
+        (key_of node ∷ old.known.keys) (key_of w) (IsPermutation-sym (key_of node ∷ old.known.keys) new.known.keys
+        moved) has)));
     known = λ w has. Contains-permutation (key_of node ∷ old.known.keys) new.known.keys (key_of w) moved
         (known w (Contains-push_cases old.nodes.items node w (subst (λ (ws : List Node). Contains ws w) is has)));
     origins = omega (
@@ -113,10 +96,10 @@ stored old new node origin keeps is comes moved misses = record {
       length-append old.nodes.items (node ∷ []),
       length-append old.origins.items (origin ∷ []),
     );
-    different = subst (AllPairs (λ (v w : Node). v ≢ w)) (sym is)
-        (all_pairs_push (λ (v w : Node). v ≢ w) old.nodes.items node keeps.different
-        (λ k d lt same. misses (subst (λ (w : Node). Contains old.known.keys (key_of w)) same
-        (keeps.known (get_or old.nodes.items k d) (Contains-get_or old.nodes.items k d lt)))));
+    different = subst (AllPairs (λ (v w : Node). v ≢ w)) (sym is) (all_pairs_push
+        (λ (v w : Node). v ≢ w) old.nodes.items node keeps.different (λ k d lt same. misses
+        (subst (λ (w : Node). Contains old.known.keys (key_of w)) same (keeps.known (get_or old.nodes.items k d)
+        (Contains-get_or old.nodes.items k d lt)))));
   };
   nodes = is;
   origins = comes;
@@ -132,13 +115,13 @@ stored old new node origin keeps is comes moved misses = record {
     known w (inl has) = contains_rest (key_of node) old.known.keys (key_of w) (keeps.known w has)
     known w (inr same) = contains_first (key_of node) old.known.keys (key_of w) (ap key_of same)
 
-pub not_stored : (old new : Store) (node : Node) (origin : Origin) → Keeps old →
-    new.nodes.items ≡ old.nodes.items → new.origins.items ≡ old.origins.items →
-    new.known.keys ≡ old.known.keys → Contains old.known.keys (key_of node) → IsStored old new node origin false
-not_stored old new node origin keeps is comes same has = record {
+pub not_stored : {old new : Store} {node : Node} {origin : Origin} → Keeps old → new.nodes.items ≡ old.nodes.items →
+    new.origins.items ≡ old.origins.items → new.known.keys ≡ old.known.keys → Contains old.known.keys (key_of node) →
+    IsStored old new node origin false
+not_stored {node} keeps is comes same has = record {
   keeps = record {
-    listed = λ w found. subst (λ (ws : List Node). Contains ws w) (sym is)
-        (keeps.listed w (subst (λ (ks : List Key). Contains ks (key_of w)) same found));
+    listed = λ w found. subst (λ (ws : List Node). Contains ws w) (sym is) (keeps.listed w
+        (subst (λ (ks : List Key). Contains ks (key_of w)) same found));
     known = λ w found. subst (λ (ks : List Key). Contains ks (key_of w)) (sym same)
         (keeps.known w (subst (λ (ws : List Node). Contains ws w) is found));
     origins = omega (

@@ -38,9 +38,9 @@ of_object_small h lock small = record {
 }
 
 -- it may be observed
-pub subhistory_observed : (h : ObservedHistory) (lock : Bool) (sub : Subhistory) → IsObserved h →
+pub subhistory_observed : {h : ObservedHistory} {lock : Bool} {sub : Subhistory} → IsObserved h →
     IsSubhistoryOf h lock sub → IsObserved sub.history
-subhistory_observed h lock sub observed is = rw is.history (part_observed h (is_of_object lock) observed)
+subhistory_observed {h} {lock} observed is = rw is.history (part_observed h (is_of_object lock) observed)
 
 -- all calls are of the lock where there is no record, and none of the record
 lock_calls : (h : ObservedHistory) → IsObserved h → h.width ≡ 0 → All (λ (e : Observation). is_of_lock e ≡ true)

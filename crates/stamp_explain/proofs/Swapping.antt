@@ -149,30 +149,28 @@ module _ (limits : Bounds) where
         ]
       ]
 
-  pub takes_of_one_object : (entries : List Observation) (i : ℕ) (a : Observation) (to_come : List ℕ) (s : LockState)
-      (taken : List ℕ) (rest : List Effect) → IsAwaited entries i a → ¬ Contains taken i →
-      IsCompletedBy (StateTransition limits) entries (i ∷ to_come) s taken rest →
-      TakesOfOneObject limits entries i a to_come s taken rest
-  takes_of_one_object entries i a to_come s taken rest awaited not_yet by =
-      let b = brings entries i a s rest awaited.is_entry by.effects by.runs
-      (awaited_in i to_come taken rest not_yet by.returned) in
-      let both = takes_next (StateTransition limits) entries i a to_come s b.state taken
-      (IsOfOther (is_lock_call a.call)) b.effect awaited not_yet (other_call entries i a awaited.is_entry) b.out b.goes
-      b.runs by in
-      record {
-        effect = b.effect;
-        others = b.others;
-        object = sym b.kind;
-        state = b.state;
-        may = both.0;
-        by = both.1;
-        fewer = behind_length (IsOfOther (is_lock_call a.call)) b.effect b.out;
-      }
+pub takes_of_one_object : {limits : Bounds} {entries : List Observation} {i : ℕ} {a : Observation} {to_come : List ℕ}
+    {s : LockState} {taken : List ℕ} {rest : List Effect} → IsAwaited entries i a → ¬ Contains taken i →
+    IsCompletedBy (StateTransition limits) entries (i ∷ to_come) s taken rest →
+    TakesOfOneObject limits entries i a to_come s taken rest
+takes_of_one_object {limits} {entries} {i} {a} {to_come} {s} {taken} {rest} awaited not_yet by =
+    let b = brings limits entries i a s rest awaited.is_entry by.effects by.runs
+    (awaited_in i to_come taken rest not_yet by.returned) in
+    let both = takes_next (StateTransition limits) to_come b.state (IsOfOther (is_lock_call a.call)) awaited not_yet
+    (other_call entries i a awaited.is_entry) b.out b.goes b.runs by in
+    record {
+      effect = b.effect;
+      others = b.others;
+      object = sym b.kind;
+      state = b.state;
+      may = both.0;
+      by = both.1;
+      fewer = behind_length (IsOfOther (is_lock_call a.call)) b.effect b.out;
+    }
 
 pub one_object_suffices : OneObjectSuffices
 one_object_suffices limits entries i a to_come s taken at interval not_yet can =
-    let one = takes_of_one_object limits entries i a to_come s taken can.rest
-    (record { is_entry = at; begun = not_before_itself a interval }) not_yet can.by in
+    let one = takes_of_one_object (record { is_entry = at; begun = not_before_itself a interval }) not_yet can.by in
     record {
       effect = one.effect;
       object = one.object;

@@ -29,11 +29,11 @@ one_below h k e within read below sound apart = record {
     alone : (i : ℕ) (d : Observation) → (i < k) ⊎ (i ≡ k) → MayBeTold h.width (get_or h.entries i d)
     alone i d (inl less) = below.alone i d less
     alone i d (inr same) =
-        subst (λ (n : ℕ). MayBeTold h.width (get_or h.entries n d)) (sym same) (subst (MayBeTold h.width) (here d)
-        sound)
+        subst (λ (n : ℕ). MayBeTold h.width (get_or h.entries n d)) (sym same)
+        (subst (MayBeTold h.width) (here d) sound)
 
-    pair : (i j : ℕ) (d : Observation) → i < j → (j < k) ⊎ (j ≡ k) →
-        DoNotOverlap (get_or h.entries i d) (get_or h.entries j d)
+    pair : (i j : ℕ) (d : Observation) → i < j → (j < k) ⊎ (j ≡ k) → DoNotOverlap (get_or h.entries i d)
+        (get_or h.entries j d)
     pair i j d lt (inl less) = below.apart i j d lt less
     pair i j d lt (inr same) =
         let sooner : i < k = omega (arith, lt, same) in

@@ -31,76 +31,47 @@ lock_puts_none put i (Put words) reply lock = absurd (false≢true lock)
 lock_puts_none put i (PutIf expected words) reply lock = absurd (false≢true lock)
 lock_puts_none put i call reply lock = refl
 
-pub lock_went : (h : ObservedHistory) (i : ℕ) (e : Observation) (s : LockState) (bits next : ℕ) (put : Option ℕ)
-    (reply : Reply) → is_lock_call e.call ≡ true → IsStateBy h bits put s →
-    LockGoes h.limits bits e (Some (next, reply)) →
-    Does h i e put s (record { bits = next; put = put; reply = reply })
-lock_went h i e s bits next put reply lock at goes =
-    let found = goes.after s.0 at.word in
-    record {
-      may = found.0;
-      goes = record {
-        replies = subst (λ (b : Bool). MatchBool b (Replies (transition h.limits s.0 e.call) reply)
-            (RecordReplies s.1 e.call reply)) (sym lock) found.1.0;
-        next = refl;
-      };
-      at = record {
-        word = found.1.1;
-        content = at.content ∙ sym (lock_leaves s.1 e.call reply lock);
-      };
-      leaves = lock_puts_none put i e.call reply lock;
-    }
-
-pub lock_did_not : (h : ObservedHistory) (i : ℕ) (e : Observation) (s : LockState) (bits : ℕ) (put : Option ℕ) →
-    is_lock_call e.call ≡ true → IsStateBy h bits put s → LockGoes h.limits bits e None →
-    IsTransitionOf h i e put s None
-lock_did_not h i e s bits put lock at goes reply t may steps =
-    goes.after s.0 at.word reply may
-    (MatchBool-at_true (Replies (transition h.limits s.0 e.call) reply) (RecordReplies s.1 e.call reply) lock
-    steps.replies)
-
 -- what the record holds by the put whose words it has
 content_put : (width : ℕ) (entries : List Observation) (put : Option ℕ) (i : ℕ) (e : Observation) (reply : Reply) →
-    slice_get entries i ≡ Some e → content_by width entries (put_after put i e.call reply) ≡
-    content_next (content_by width entries put) e.call reply
+    slice_get entries i ≡ Some e → content_by width entries (put_after put i e.call reply) ≡ content_next
+    (content_by width entries put) e.call reply
 content_put width entries put i e reply at = by e.call reply refl
   where
     put_here : (words : List ℕ) → words_put width e.call ≡ words → content_by width entries (Some i) ≡ words
     put_here words same = ap (λ (o : Option Observation). words_put_at width o) at ∙ same
 
-    by : (call : Call) (r : Reply) → e.call ≡ call → content_by width entries (put_after put i call r) ≡
-        content_next (content_by width entries put) call r
+    by : (call : Call) (r : Reply) → e.call ≡ call → content_by width entries (put_after put i call r) ≡ content_next
+        (content_by width entries put) call r
     by (Put words) r same = put_here words (ap (λ (c : Call). words_put width c) same)
     by (PutIf expected words) Yes same = put_here words (ap (λ (c : Call). words_put width c) same)
     by call r same = refl
 
-pub record_went : (h : ObservedHistory) (i : ℕ) (e : Observation) (s : LockState) (bits : ℕ)
-    (put next : Option ℕ) (reply : Reply) → slice_get h.entries i ≡ Some e → is_lock_call e.call ≡ false →
-    IsStateBy h bits put s → RecordGoes h.width h.entries put i e (Some (next, reply)) →
+pub record_went : {h : ObservedHistory} {i : ℕ} {e : Observation} {s : LockState} {bits : ℕ} {put : Option ℕ}
+    (next : Option ℕ) (reply : Reply) → slice_get h.entries i ≡ Some e → is_lock_call e.call ≡ false →
+    IsStateBy h bits put s → RecordGoes h.width h.entries put i e.call (Some (next, reply)) →
     Does h i e put s (record { bits = bits; put = next; reply = reply })
-record_went h i e s bits put next reply is_entry guarded at goes = record {
-  may = goes.0;
+record_went {h} {i} {e} {s} {bits} {put} next reply is_entry guarded at goes = record {
   goes = record {
     replies = subst (λ (b : Bool). MatchBool b (Replies (transition h.limits s.0 e.call) reply)
-        (RecordReplies s.1 e.call reply)) (sym guarded)
-        (subst (λ (content : List ℕ). RecordReplies content e.call reply) at.content goes.1.0);
+        (RecordReplies s.1 e.call reply)) (sym guarded) (subst (λ (content : List ℕ). RecordReplies content e.call
+        reply) at.content goes.0);
     next = refl;
   };
   at = record {
     word = subst (λ (events : List LockEvent). Represents h.limits (word_at h.limits bits) events)
         (sym (record_appends h.limits s.0 e.call guarded)) at.word;
-    content = ap (λ (put : Option ℕ). content_by h.width h.entries put) goes.1.1 ∙
-        content_put h.width h.entries put i e reply is_entry ∙
-        ap (λ (content : List ℕ). content_next content e.call reply) at.content;
+    content = ap (λ (put : Option ℕ). content_by h.width h.entries put) goes.1 ∙
+        content_put h.width h.entries put i e reply is_entry ∙ ap (λ (content : List ℕ). content_next content e.call
+        reply) at.content;
   };
-  leaves = goes.1.1;
+  leaves = goes.1;
 }
 
-pub record_did_not : (h : ObservedHistory) (i : ℕ) (e : Observation) (s : LockState) (bits : ℕ)
-    (put : Option ℕ) → is_lock_call e.call ≡ false → IsStateBy h bits put s →
-    RecordGoes h.width h.entries put i e None → IsTransitionOf h i e put s None
-record_did_not h i e s bits put guarded at goes reply t may steps =
-    goes reply may (subst (λ (content : List ℕ). RecordReplies content e.call reply) (sym at.content)
+pub record_did_not : {h : ObservedHistory} (i : ℕ) (e : Observation) {s : LockState} {bits : ℕ} {put : Option ℕ} →
+    is_lock_call e.call ≡ false → IsStateBy h bits put s → RecordGoes h.width h.entries put i e.call None →
+    IsTransitionOf h i e put s None
+record_did_not {h} i e {s} guarded at goes reply t steps =
+    goes reply (subst (λ (content : List ℕ). RecordReplies content e.call reply) (sym at.content)
     (MatchBool-at_false (Replies (transition h.limits s.0 e.call) reply) (RecordReplies s.1 e.call reply) guarded
     steps.replies))
 

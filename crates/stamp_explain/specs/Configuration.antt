@@ -1,4 +1,4 @@
--- The configurations that a search for an order reaches, and what one has looked at that gives up.
+-- The configurations that a search reaches, and what one has reached that gives up.
 use Rattle.std.specs.Prelude.{ℕ, ◌≡◌, ◌≢◌, ◌≤◌, ◌<◌, ◌+◌, ◌++◌, ◌⊎◌, ◌↔◌, List, [], ◌∷◌, length, slice_get, true}
 use Rattle.std.specs.Prelude.{false, Option, Some, None}
 use Rattle.std.specs.List.{All, AllPairs, Contains}
@@ -46,10 +46,11 @@ IsFirstAlike h asked awaited taken x = (i : ℕ) (e : Observation) → asked ≢
     IsAhead e x.entry → ¬ IsBefore awaited e → Contains taken i
 
 -- where none takes effect at once, one of the awaited one's object is chosen: of those that are alike, the
--- one that returned first. A question that is under way is left out
+-- one that returned first. The call that is asked is left out, if one is, and so is a question that is under way
 pub record IsChosen (h : ObservedHistory) (asked : Option ℕ) (awaited : Observation) (s : LockState) (taken : List ℕ)
     (x : Effect) : Type 0 where
   pub none : NoneIsAtOnce h asked awaited s taken
+  pub other : asked ≢ Some x.index
   pub object : AreOfOneObject awaited x.entry
   pub no_question : is_question_under_way x.entry ≡ false
   pub first : IsFirstAlike h asked awaited taken x
@@ -95,26 +96,10 @@ pub record AreOne (h : ObservedHistory) (asked : Option ℕ) (returns : List ℕ
   pub put : c.put ≡ d.put
   pub in_effect : (i : ℕ) → Contains c.taken i ↔ Contains d.taken i
 
--- so many configurations are reached, no two of which are one
-pub record AreReached (h : ObservedHistory) (asked : Option ℕ) (returns : List ℕ) (most : ℕ) : Type 0 where
-  pub configurations : List (Configuration h asked returns)
-  pub different : AllPairs (λ (c d : Configuration h asked returns). ¬ AreOne h asked returns c d) configurations
-  pub many : most ≤ length configurations
-
 -- the call that returns next is not in effect
 abbrev pub IsSettledAt : (h : ObservedHistory) (asked : Option ℕ) (returns : List ℕ) → Configuration h asked returns →
     Type 0
 IsSettledAt h asked returns c = (i : ℕ) (rest : List ℕ) → c.to_come ≡ i ∷ rest → ¬ Contains c.taken i
-
--- a search on whose ways the call of this entry takes no effect reaches more than so many, at each of which the next
--- return is of a call that is not in effect: the returns come in their order, each once
-pub record ReachesMoreBeside (h : ObservedHistory) (i most : ℕ) : Type 0 where
-  pub returns : List ℕ
-  pub are : AreReturns h.entries returns
-  pub once : AllPairs (λ (i j : ℕ). i ≢ j) returns
-  pub reached : AreReached h (Some i) returns (most + 1)
-  pub settled : All (IsSettledAt h (Some i) returns) reached.configurations
-  pub beside : All (λ (c : Configuration h (Some i) returns). ¬ Contains c.taken i) reached.configurations
 
 -- an order goes on from here to the end
 abbrev pub IsAlive : (h : ObservedHistory) (returns : List ℕ) → Configuration h None returns → Type 0
@@ -122,57 +107,63 @@ IsAlive h returns c = CanComplete (StateTransition h.limits) h.entries c.to_come
 
 -- the second goes on from the first: its calls took effect as they did there, and then more; returns that were to
 -- come there are past
-pub record GoesOnFrom (h : ObservedHistory) (returns : List ℕ) (c d : Configuration h None returns) : Type 0 where
+pub record GoesOnFrom (h : ObservedHistory) (asked : Option ℕ) (returns : List ℕ)
+    (c d : Configuration h asked returns) : Type 0 where
   pub later : List ℕ
   pub taken : d.taken ≡ later ++ c.taken
   pub passed : List ℕ
   pub to_come : c.to_come ≡ passed ++ d.to_come
 
 -- where a search begins: no call is in effect, and all returns are to come
-pub record IsBeginning (h : ObservedHistory) (returns : List ℕ) (c : Configuration h None returns) : Type 0 where
+pub record IsBeginning (h : ObservedHistory) (asked : Option ℕ) (returns : List ℕ)
+    (c : Configuration h asked returns) : Type 0 where
   pub none : c.taken ≡ []
   pub all : c.to_come ≡ returns
 
 -- one goes on from the other by one call that takes effect, and returns that are past then
-pub record MovesOn (h : ObservedHistory) (returns : List ℕ) (c d : Configuration h None returns) : Type 0 where
-  pub goes : GoesOnFrom h returns c d
+pub record MovesOn (h : ObservedHistory) (asked : Option ℕ) (returns : List ℕ) (c d : Configuration h asked returns) :
+    Type 0 where
+  pub goes : GoesOnFrom h asked returns c d
   pub one : length goes.later ≤ 1
 
 -- so it does from one of the first k of these
-pub record MovesFromOne (h : ObservedHistory) (returns : List ℕ) (looked : List (Configuration h None returns))
-    (k : ℕ) (d : Configuration h None returns) : Type 0 where
+pub record MovesFromOne (h : ObservedHistory) (asked : Option ℕ) (returns : List ℕ)
+    (reached : List (Configuration h asked returns)) (k : ℕ) (d : Configuration h asked returns) : Type 0 where
   pub index : ℕ
   pub before : index < k
-  pub from : Configuration h None returns
-  pub is_from : slice_get looked index ≡ Some from
-  pub moves : MovesOn h returns from d
+  pub from : Configuration h asked returns
+  pub is_from : slice_get reached index ≡ Some from
+  pub moves : MovesOn h asked returns from d
 
--- a search has looked at more than so many configurations, no two of which are one, and reached a further one. It
--- begins at its beginning, and each other comes by one move from one that was looked at before it. At each some
--- return is to come, the next one of a call that is not in effect, and after one from which an order goes on to the
--- end it has looked at such alone as go on from that one. So but for those on one way it has looked at dead ends
-pub record LookedAtMore (h : ObservedHistory) (returns : List ℕ) (most : ℕ) : Type 0 where
-  pub looked : List (Configuration h None returns)
-  pub different : AllPairs (λ (c d : Configuration h None returns). ¬ AreOne h None returns c d) looked
-  pub unended : All (λ (c : Configuration h None returns). c.to_come ≢ []) looked
-  pub settled : All (IsSettledAt h None returns) looked
-  pub in_depth : AllPairs (λ (c d : Configuration h None returns). IsAlive h returns c → GoesOnFrom h returns c d)
-      looked
-  pub many : length looked ≡ most + 1
-  pub begins : (c : Configuration h None returns) → slice_get looked 0 ≡ Some c → IsBeginning h returns c
-  pub linked : (k : ℕ) (d : Configuration h None returns) → 0 < k → slice_get looked k ≡ Some d →
-      MovesFromOne h returns looked k d
-  pub further : Configuration h None returns
-  pub further_settled : IsSettledAt h None returns further
-  pub further_linked : MovesFromOne h returns looked (most + 1) further
-  pub is_further : All (λ (c : Configuration h None returns). ¬ AreOne h None returns c further) looked
+-- a search has reached more than so many configurations, no two of which are one, at each of which the next return is
+-- of a call that is not in effect. It begins at its beginning, and each other comes by one move from one before it
+pub record ReachedMore (h : ObservedHistory) (asked : Option ℕ) (returns : List ℕ) (most : ℕ) : Type 0 where
+  pub reached : List (Configuration h asked returns)
+  pub different : AllPairs (λ (c d : Configuration h asked returns). ¬ AreOne h asked returns c d) reached
+  pub settled : All (IsSettledAt h asked returns) reached
+  pub begins : (c : Configuration h asked returns) → slice_get reached 0 ≡ Some c → IsBeginning h asked returns c
+  pub linked : (k : ℕ) (d : Configuration h asked returns) → 0 < k → slice_get reached k ≡ Some d →
+      MovesFromOne h asked returns reached k d
+  pub many : most < length reached
 
--- a search for an order gives up: it has looked at more than so many. The returns come in their order, each once
+-- a search on whose ways the call of this entry takes no effect reaches more than so many: the returns come in their
+-- order, each once
+pub record ReachesMoreBeside (h : ObservedHistory) (i most : ℕ) : Type 0 where
+  pub returns : List ℕ
+  pub are : AreReturns h.entries returns
+  pub once : AllPairs (λ (i j : ℕ). i ≢ j) returns
+  pub searched : ReachedMore h (Some i) returns most
+
+-- a search for an order gives up: it has looked at more than so many, and reached a further one. The returns come in
+-- their order, each once. After one from which an order goes on to the end it has reached such alone as go on from
+-- that one. So but for those on one way it has looked at dead ends
 pub record GivesUp (h : ObservedHistory) (most : ℕ) : Type 0 where
   pub returns : List ℕ
   pub are : AreReturns h.entries returns
   pub once : AllPairs (λ (i j : ℕ). i ≢ j) returns
-  pub searched : LookedAtMore h returns most
+  pub searched : ReachedMore h None returns (most + 1)
+  pub in_depth : AllPairs (λ (c d : Configuration h None returns). IsAlive h returns c →
+      GoesOnFrom h None returns c d) searched.reached
 
 -- the search gives up, or an order was found
 abbrev pub IsNotRefused : ObservedHistory → ℕ → Type 0

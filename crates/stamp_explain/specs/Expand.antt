@@ -4,6 +4,7 @@ use Rattle.std.specs.Prelude.{slice_index}
 use Rattle.std.specs.Prelude.{Option, Some, None, Bool, true, false}
 use Rattle.std.specs.List.{All, Contains}
 use Rattle.std.specs.Int.{bit_at}
+use Rattle.stamp_core.specs.declared.reply.Reply.{Reply}
 use Rattle.stamp_explain.specs.declared.observed.Observation.{Observation}
 use Rattle.stamp_explain.specs.declared.node.Node.{Node}
 use Rattle.stamp_explain.specs.declared.node.Next.{Next}
@@ -13,23 +14,18 @@ use Rattle.stamp_explain.specs.declared.store.Store.{Store}
 use Rattle.stamp_explain.specs.declared.found.SearchEnd.{SearchEnd}
 use Rattle.stamp_explain.specs.declared.found.SearchEnd.TheVariants.{Linearization, NoOrder, GaveUp}
 use Rattle.stamp_explain.specs.declared.timeline.Timeline.{Timeline}
-use Rattle.stamp_explain.specs.Observed.{ObservedHistory, IsObserved, AreOfOneObject}
+use Rattle.stamp_explain.specs.Observed.{ObservedHistory, IsObserved, IsReturnAt, AreOfOneObject}
+use Rattle.stamp_explain.specs.Asking.{AreReplies, GetsMore, IsAim}
 use Rattle.stamp_explain.specs.Unchanging.{is_question_under_way_at}
 use Rattle.stamp_explain.specs.Ahead.{GivesWay}
 use Rattle.stamp_explain.specs.Explained.{Effect, IsEffectOf, IsExplained}
 use Rattle.stamp_explain.specs.Search.{LockState, StateTransition, MayTake, IsCompletedBy}
-use Rattle.stamp_explain.specs.Configuration.{GivesUp, GivesUpApart, IsTried, NoneIsAtOnce, put_after}
+use Rattle.stamp_explain.specs.Configuration.{GivesUp, GivesUpApart, IsTried, NoneIsAtOnce, ReachesMoreBeside}
+use Rattle.stamp_explain.specs.Configuration.{put_after}
 use Rattle.stamp_explain.specs.Node.{IsStateBy, StandsFor, IsReached, IsFirstNode}
 use Rattle.stamp_explain.specs.Timeline.{IsTimeline, IsAwaitedAt}
-use Rattle.stamp_explain.specs.Store.{IsStored, Keeps}
+use Rattle.stamp_explain.specs.Store.{IsStored}
 use Rattle.stamp_explain.specs.Linearization.{IsLinearizationOf}
-
--- a node that a search reached, with a return to come
-pub record MayGoOn (h : ObservedHistory) (timeline : Timeline) (node : Node) : Type 0 where
-  pub observed : IsObserved h
-  pub is_timeline : IsTimeline h timeline
-  pub reached : IsReached h None timeline.returns.items node
-  pub past : node.past < length timeline.returns.items
 
 -- an order completes what the node stands for, in so many moves: returns and calls that take effect
 pub record Hope (h : ObservedHistory) (returns : List ℕ) (node : Node) (n : ℕ) : Type 0 where
@@ -125,10 +121,20 @@ IsLed h node (Some i) = IsLedBy h node i
 abbrev pub Suffice : ObservedHistory → List ℕ → Node → List Next → Type 0
 Suffice h returns node nexts = (n : ℕ) → Hope h returns node n → GoesOn h returns nexts n
 
--- and each of them follows from it
-pub record Expands (h : ObservedHistory) (returns : List ℕ) (node : Node) (nexts : List Next) : Type 0 where
-  pub each : (w : Next) → Contains nexts w → ComesNext h None returns node w
-  pub whole : Suffice h returns node nexts
+-- each of them follows from it, and of no aim something is lost
+pub record Expands (h : ObservedHistory) (asked : Option ℕ) (returns : List ℕ) (node : Node) (replies : List Reply)
+    (nexts : List Next) : Type 0 where
+  pub each : (w : Next) → Contains nexts w → ComesNext h asked returns node w
+  pub whole : (g : ObservedHistory) → IsAim h asked replies g → Suffice g returns node nexts
+
+-- a node that a search reached, with a return to come of a call that is not in effect
+pub record MayGoOn (h : ObservedHistory) (asked : Option ℕ) (timeline : Timeline) (node : Node) : Type 0 where
+  pub observed : IsObserved h
+  pub is_timeline : IsTimeline h timeline
+  pub returned : (i : ℕ) → asked ≡ Some i → IsReturnAt h.entries i
+  pub reached : IsReached h asked timeline.returns.items node
+  pub past : node.past < length timeline.returns.items
+  pub settled : IsSettled h timeline.returns.items node
 
 -- in nothing that the node stands for a call may take effect at once
 pub record NoneIsAtOnceAt (h : ObservedHistory) (asked : Option ℕ) (returns : List ℕ) (node : Node) : Type 0 where
@@ -159,10 +165,21 @@ pub record IsTakeOf (h : ObservedHistory) (returns : List ℕ) (node : Node) (i 
   pub takes : (a : Observation) (s : LockState) (taken : List ℕ) → IsAwaitedAt h returns node.past a →
       StandsFor h returns node s taken → Takes h returns node a i s taken found
 
--- an open call is no choice: it is not of the awaited one's object, is a question that is under way, comes after one
--- that is alike, or can't take effect
+-- the call that is asked, if one is, can't take effect here
+abbrev pub AskedStays : ObservedHistory → Option ℕ → List ℕ → Node → Type 0
+AskedStays h asked returns node = (i : ℕ) → asked ≡ Some i → IsTakeOf h returns node i None
+
+-- it is asked: for no aim that is left it can take effect
+pub record IsAskedAt (h : ObservedHistory) (asked : Option ℕ) (returns : List ℕ) (node : Node)
+    (old new : List Reply) : Type 0 where
+  pub gets : GetsMore h asked old new
+  pub stays : (g : ObservedHistory) → IsAim h asked new g → AskedStays g asked returns node
+
+-- an open call is no choice: it is asked, is not of the awaited one's object, is a question that is under way, comes
+-- after one that is alike, or can't take effect
 pub data IsNoChoice (h : ObservedHistory) (asked : Option ℕ) (returns : List ℕ) (node : Node) (calls : List ℕ)
     (awaited i : ℕ) : Type 0 where
+  is_asked : asked ≡ Some i → IsNoChoice h asked returns node calls awaited i
   of_other : ((a e : Observation) → slice_get h.entries awaited ≡ Some a → slice_get h.entries i ≡ Some e →
       ¬ AreOfOneObject a e) → IsNoChoice h asked returns node calls awaited i
   questions : is_question_under_way_at h.entries i ≡ true → IsNoChoice h asked returns node calls awaited i
@@ -172,6 +189,7 @@ pub data IsNoChoice (h : ObservedHistory) (asked : Option ℕ) (returns : List �
 -- or it is one, and leads to this node
 pub record IsChoiceOf (h : ObservedHistory) (asked : Option ℕ) (returns : List ℕ) (node : Node) (calls : List ℕ)
     (awaited i : ℕ) (w : Next) : Type 0 where
+  pub other : asked ≢ Some i
   pub object : (a e : Observation) → slice_get h.entries awaited ≡ Some a → slice_get h.entries i ≡ Some e →
       AreOfOneObject a e
   pub no_question : is_question_under_way_at h.entries i ≡ false
@@ -188,19 +206,24 @@ IsFoundOr Gave_up h (Linearization order) = IsLinearizationOf h order.items
 IsFoundOr Gave_up h NoOrder = ¬ IsExplained h
 IsFoundOr Gave_up h GaveUp = Gave_up
 
--- by one search, which looks at so many configurations before it gives up
+-- a search gives up that looks at so many configurations before
+abbrev pub HasGivenUp : ObservedHistory → Option ℕ → ℕ → Type 0
+HasGivenUp h None most = GivesUp h most
+HasGivenUp h (Some i) most = ReachesMoreBeside h i (most + 1)
+
+-- what it finds, with the replies of the call that is asked: an order, if none is; or that there is none
+abbrev pub IsSearchedFor : ObservedHistory → Option ℕ → ℕ → List Reply → SearchEnd → Type 0
+IsSearchedFor h asked most replies (Linearization order) = (asked ≡ None) × IsLinearizationOf h order.items
+IsSearchedFor h asked most replies NoOrder = AreReplies h asked replies
+IsSearchedFor h asked most replies GaveUp = HasGivenUp h asked most
+
+-- by one search for an order
 abbrev pub IsSearched : ObservedHistory → ℕ → SearchEnd → Type 0
 IsSearched h most end = IsFoundOr (GivesUp h most) h end
 
 -- where lock and record are searched apart
 abbrev pub IsFoundApart : ObservedHistory → ℕ → SearchEnd → Type 0
 IsFoundApart h most end = IsFoundOr (GivesUpApart h most) h end
-
-abbrev pub nodes_of : List Next → List Node
-nodes_of nexts = map (λ (w : Next). w.node) nexts
-
-abbrev pub origins_of : ℕ → List Next → List Origin
-origins_of from nexts = map (λ (w : Next). record { from = from; took = w.took }) nexts
 
 -- these nodes wait, each with the index of the node from which it comes
 abbrev pub waiting_from : ℕ → List Next → List Waiting
@@ -219,27 +242,6 @@ pub record LooksAtLast (old new : Store) (waited waiting : List Waiting) : Type 
 abbrev pub LooksAt : Store → Store → List Waiting → List Waiting → Bool → Type 0
 LooksAt old new waited waiting true = LooksAtLast old new waited waiting
 LooksAt old new waited waiting false = All (λ (w : Waiting). Contains old.nodes.items w.node) waited
-
--- one of these indices is that of the node
-pub record IsIndexed (nodes : List Node) (indices : List ℕ) (v : Node) : Type 0 where
-  pub index : ℕ
-  pub among : Contains indices index
-  pub is_node : slice_get nodes index ≡ Some v
-
--- nodes that come from the one of this index and were not visited are added to those visited, and their indices to
--- those that wait
-pub record AddsNew (old new : Store) (from : ℕ) (waited waiting : List ℕ) (nexts : List Next) : Type 0 where
-  pub keeps : Keeps new
-  pub added : List Next
-  pub nodes : new.nodes.items ≡ old.nodes.items ++ nodes_of added
-  pub origins : new.origins.items ≡ old.origins.items ++ origins_of from added
-  pub indices : List ℕ
-  pub to_do : waiting ≡ waited ++ indices
-  pub many : length indices ≡ length added
-  pub indexed : (v : Node) → Contains (nodes_of added) v → IsIndexed new.nodes.items indices v
-  pub inside : All (λ (p : ℕ). p < length new.nodes.items) indices
-  pub each : (w : Next) → Contains nexts w → Contains new.nodes.items w.node
-  pub among : All (Contains nexts) added
 
 -- how the node of this index was come by, from one that is reached
 pub record IsLinkedAt (h : ObservedHistory) (returns : List ℕ) (store : Store) (k : ℕ) (v : Node) : Type 0 where

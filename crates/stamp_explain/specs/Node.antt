@@ -11,7 +11,7 @@ use Rattle.stamp_core.specs.declared.reply.Reply.{Reply}
 use Rattle.stamp_explain.specs.declared.observed.Observation.{Observation}
 use Rattle.stamp_explain.specs.declared.node.Node.{Node}
 use Rattle.stamp_explain.specs.declared.node.CallTransition.{CallTransition}
-use Rattle.stamp_explain.specs.Observed.{ObservedHistory, IsBefore, AllowsReply}
+use Rattle.stamp_explain.specs.Observed.{ObservedHistory, IsBefore}
 use Rattle.stamp_explain.specs.Search.{LockState, StateTransition, first_state, after_call}
 use Rattle.stamp_explain.specs.Configuration.{Reaches, put_after}
 
@@ -72,21 +72,17 @@ pub record IsFirstNode (h : ObservedHistory) (node : Node) : Type 0 where
   pub threads : node.threads ≡ 0
   pub at : IsStateBy h node.bits node.put (first_state h.width)
 
--- what the call of this entry does in a state, with the words of this put in the record, which its observation
--- allows: the state afterwards and the reply
+-- what the call of this entry does in a state, with the words of this put in the record: the state afterwards and the
+-- reply
 pub record Does (h : ObservedHistory) (i : ℕ) (e : Observation) (put : Option ℕ) (s : LockState)
     (transition : CallTransition) : Type 0 where
-  pub may : AllowsReply e transition.reply
   pub goes : StateTransition h.limits s (e.call, transition.reply) (after_call h.limits s (e.call, transition.reply))
   pub at : IsStateBy h transition.bits transition.put (after_call h.limits s (e.call, transition.reply))
   pub leaves : transition.put ≡ put_after put i e.call transition.reply
 
--- what was found of a call in the state: what it does, or that no reply that its observation allows is given
+-- what was found of a call in the state: what it does, or that it is given no reply
 abbrev pub IsTransitionOf : ObservedHistory → ℕ → Observation → Option ℕ → LockState → Option CallTransition → Type 0
-IsTransitionOf h i e put s None = (reply : Reply) (t : LockState) → AllowsReply e reply → ¬ StateTransition h.limits s (
-  e.call,
-  reply,
-) t
+IsTransitionOf h i e put s None = (reply : Reply) (t : LockState) → ¬ StateTransition h.limits s (e.call, reply) t
 IsTransitionOf h i e put s (Some transition) = Does h i e put s transition
 
 -- the node stands for what a way through the search reaches, with the words of its put in the record

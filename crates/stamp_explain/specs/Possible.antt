@@ -1,5 +1,5 @@
 -- Which replies a call of an observed history could have had.
-use Rattle.std.specs.Prelude.{ℕ, ◌≡◌, ◌≢◌, ◌↔◌, ◌+◌, ◌⊎◌, List, ◌∷◌, slice_get, slice_set, Some, None, codes}
+use Rattle.std.specs.Prelude.{ℕ, ◌≡◌, ◌≢◌, ◌↔◌, ◌+◌, ◌⊎◌, List, ◌∷◌, slice_get, slice_set, Some, codes}
 use Rattle.std.specs.List.{All, AllPairs, Contains}
 use Rattle.stamp_core.specs.declared.reply.Reply.{Reply}
 use Rattle.stamp_explain.specs.declared.observed.Observation.{Observation}
@@ -19,10 +19,6 @@ returned_with e r reply = record e { returned = Some (record r { reply = reply }
 -- the history with this reply of the call of this entry
 abbrev pub with_reply : ℕ → Observation → Returned → Reply → ObservedHistory → ObservedHistory
 with_reply i e r reply h = record h { entries = slice_set h.entries i (returned_with e r reply) }
-
--- the history with the call of this entry under way
-abbrev pub without_return : ℕ → Observation → ObservedHistory → ObservedHistory
-without_return i e h = record h { entries = slice_set h.entries i (record e { returned = None }) }
 
 -- with this reply instead of its own, the cut with the return of this entry is explained
 pub record IsPossible (h : ObservedHistory) (i : ℕ) (reply : Reply) : Type 0 where
@@ -64,7 +60,6 @@ pub record GetsBeside (h : ObservedHistory) (i : ℕ) (e : Observation) (reply :
   pub are : AreReturns h.entries returns
   pub once : AllPairs (λ (i j : ℕ). i ≢ j) returns
   pub reached : Configuration h (Some i) returns
-  pub still : ¬ Contains reached.taken i
   pub awaits : AwaitsNotBefore h reached.to_come e
   pub next : LockState
   pub goes : StateTransition h.limits reached.state (e.call, reply) next

@@ -1,5 +1,5 @@
 -- What is kept of the configurations that were visited.
-use Rattle.std.specs.Prelude.{ℕ, ◌≡◌, ◌≢◌, ◌++◌, ◌∷◌, [], Bool, Option, length}
+use Rattle.std.specs.Prelude.{ℕ, ◌≡◌, ◌≢◌, ◌++◌, ◌∷◌, [], Bool, Option, None, length}
 use Rattle.std.specs.List.{AllPairs, Contains}
 use Rattle.std.specs.Bool.{MatchBool}
 use Rattle.stamp_explain.specs.declared.node.Node.{Node}
@@ -28,7 +28,8 @@ pub record IsStored (old new : Store) (node : Node) (origin : Origin) (added : B
   pub origins : MatchBool added (new.origins.items ≡ old.origins.items ++ origin ∷ [])
       (new.origins.items ≡ old.origins.items)
 
--- this node alone
+-- this node alone, which comes from none
 pub record BeginsWith (store : Store) (node : Node) : Type 0 where
   pub keeps : Keeps store
   pub nodes : store.nodes.items ≡ node ∷ []
+  pub origins : store.origins.items ≡ record { from = 0; took = None } ∷ []

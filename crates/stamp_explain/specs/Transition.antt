@@ -8,9 +8,9 @@ use Rattle.stamp_core.specs.declared.lock_decision.LockReply.{LockReply}
 use Rattle.stamp_core.specs.Content.{RecordReplies}
 use Rattle.stamp_core.specs.Transition.{transition}
 use Rattle.stamp_core.specs.History.{Replies, appended_by}
+use Rattle.stamp_core.specs.declared.call.Call.{Call}
 use Rattle.stamp_core.specs.declared.reply.Reply.{Reply}
 use Rattle.stamp_explain.specs.declared.observed.Observation.{Observation}
-use Rattle.stamp_explain.specs.Observed.{AllowsReply}
 use Rattle.stamp_explain.specs.Configuration.{put_after}
 use Rattle.stamp_explain.specs.Node.{content_by}
 
@@ -19,22 +19,19 @@ abbrev pub transition_as : Option (LockWord × LockReply) → Option (LockWord �
 transition_as None = None
 transition_as (Some x) = Some (x.0, reply_as x.1)
 
--- after these events the lock gives no reply that the observation allows; or this one, and the word represents
--- what it leaves
-abbrev pub LockGoesAfter : Bounds → List LockEvent → Observation → Option (ℕ × Reply) → Type 0
-LockGoesAfter limits events e None = (reply : Reply) → AllowsReply e reply →
-    ¬ Replies (transition limits events e.call) reply
-LockGoesAfter limits events e (Some x) = AllowsReply e x.1 × (Replies (transition limits events e.call) x.1 ×
-    Represents limits (word_at limits x.0) (events ++ appended_by (transition limits events e.call)))
+-- after these events the lock gives the call no reply; or this one, and the word represents what it leaves
+abbrev pub LockGoesAfter : Bounds → List LockEvent → Call → Option (ℕ × Reply) → Type 0
+LockGoesAfter limits events call None = (reply : Reply) → ¬ Replies (transition limits events call) reply
+LockGoesAfter limits events call (Some x) = Replies (transition limits events call) x.1 ×
+    Represents limits (word_at limits x.0) (events ++ appended_by (transition limits events call))
 
-pub record LockGoes (limits : Bounds) (bits : ℕ) (e : Observation) (found : Option (ℕ × Reply)) : Type 0 where
+pub record LockGoes (limits : Bounds) (bits : ℕ) (call : Call) (found : Option (ℕ × Reply)) : Type 0 where
   pub after : (events : List LockEvent) → Represents limits (word_at limits bits) events →
-      LockGoesAfter limits events e found
+      LockGoesAfter limits events call found
 
--- with the words of this put the record gives no reply that the observation allows; or this one, and holds the words
--- of the put found afterwards
-abbrev pub RecordGoes : ℕ → List Observation → Option ℕ → ℕ → Observation → Option (Option ℕ × Reply) → Type 0
-RecordGoes width entries put i e None =
-    (reply : Reply) → AllowsReply e reply → ¬ RecordReplies (content_by width entries put) e.call reply
-RecordGoes width entries put i e (Some x) = AllowsReply e x.1 ×
-    (RecordReplies (content_by width entries put) e.call x.1 × (x.0 ≡ put_after put i e.call x.1))
+-- with the words of this put the record gives the call no reply; or this one, and holds the words of the put found
+-- afterwards
+abbrev pub RecordGoes : ℕ → List Observation → Option ℕ → ℕ → Call → Option (Option ℕ × Reply) → Type 0
+RecordGoes width entries put i call None = (reply : Reply) → ¬ RecordReplies (content_by width entries put) call reply
+RecordGoes width entries put i call (Some x) = RecordReplies (content_by width entries put) call x.1 ×
+    (x.0 ≡ put_after put i call x.1)

@@ -3,6 +3,7 @@ ghost use Rattle.std.specs.Prelude.{◌≡◌, ◌↔◌, IsTrue};
 ghost use Rattle.stamp_explain.specs.Observed.{IsObserved};
 ghost use Rattle.stamp_explain.specs.Ahead.{IsAhead, GoesAhead, GivesWay};
 
+use crate::asking::is_asked;
 use crate::node::{Node, has_thread};
 use crate::observed::{Observation, Observed};
 use stamp_core::Call;
@@ -76,7 +77,7 @@ pub(crate) fn gives_way(
     ensures { IsTrue result ↔ GivesWay observed.now asked node.now calls.now i }
 {
     for first in calls {
-        if asked != Some(*first) && goes_ahead(observed, node, *first, i) {
+        if !is_asked(asked, *first) && goes_ahead(observed, node, *first, i) {
             return true;
         }
     }

@@ -27,7 +27,8 @@ fn find_alone(alloc: Global, observed: &Observed, most: u64) -> Result<SearchEnd
     ensures { IfOk result (λ found. IsSearched observed.now most found) }
 {
     let timeline = timeline_of(alloc, observed)?;
-    search(alloc, observed, &timeline, most)
+    let (end, _) = search(alloc, observed, &timeline, None, most)?;
+    Ok(end)
 }
 
 /// Looks for an order that explains the history. Lock and record are searched apart, and each search gives

@@ -1,12 +1,16 @@
 //! The replies that a call of an observed history could have had.
-ghost use Rattle.std.specs.Prelude.{◌≡◌, ◌↔◌, ◌++◌, ◌∷◌, [], IsTrue, IfOk, OnOk, Err, Some, slice_get};
+ghost use Rattle.std.specs.Prelude.{◌≡◌, ◌↔◌, ◌<◌, ◌++◌, ◌∷◌, [], IsTrue, IfOk, IfSome, OnOk, Err, Some, length, slice_get};
+ghost use Rattle.std.specs.Option.{IfNone};
 ghost use Rattle.stamp_explain.specs.Observed.{IsObserved, IsReturnAt};
-ghost use Rattle.stamp_explain.specs.Possible.{AreAllPossible, ArePossible, IsPossible, IsUndecidedAtAny, IsUndecidedAtReply, IsUndecidedAtSome, with_reply};
+ghost use Rattle.stamp_explain.specs.Possible.{AreAllPossible, ArePossible, IsPossible, IsUndecidedAtAny, IsUndecidedAtReply, IsUndecidedAtSome, IsUndecidedWithout, with_reply};
+ghost use Rattle.stamp_explain.specs.Asking.{AreRepliesAt};
+ghost use Rattle.stamp_explain.specs.Cut.{index_then};
 
-use crate::asking::{asking_of, replies_of};
 use crate::cut::seen_at;
 use crate::found::{SearchEnd, find};
 use crate::observed::{Observation, Observed, Returned};
+use crate::search::search;
+use crate::timeline::timeline_of;
 use stamp_core::Reply;
 use std::alloc::{AllocError, Global};
 use std::error::Error;
@@ -152,6 +156,51 @@ pub fn possible_among(
     Ok(found)
 }
 
+/// How many of the calls that are listed before this one had begun by this position.
+fn index_then(entries: &[Observation], entry: usize, last: u64) -> usize
+    requires { entry < length entries.now }
+    ensures { result ≡ index_then last entry entries.now }
+{
+    let mut index = 0;
+    for other in &entries[..entry] {
+        if other.first <= last {
+            index += 1;
+        }
+    }
+    index
+}
+
+/// The replies that the call of this entry gets, whatever the others do before it, each once. Nothing, where
+/// the search for them reaches more than `most` configurations.
+fn replies_at(
+    alloc: Global,
+    observed: &Observed,
+    entry: usize,
+    most: u64,
+) -> Result<Option<Vec<Reply>>, AllocError>
+    requires observed { IsObserved observed.now }
+    requires returned { IsReturnAt observed.now.entries entry }
+    ensures some { IfOk result (λ found. IfSome found (λ replies. AreRepliesAt observed.now entry replies.items)) }
+    ensures none { IfOk result (λ found. IfNone found (IsUndecidedWithout observed.now entry most)) }
+{
+    let observation = &observed.entries()[entry];
+    let Some(returned) = &observation.returned else {
+        unreachable!();
+    };
+    let index = index_then(observed.entries(), entry, returned.last);
+    let seen = seen_at(alloc, observed, returned.last, entry + 1)?;
+    let timeline = timeline_of(alloc, &seen)?;
+    if most == 0 {
+        return Ok(None);
+    }
+    let (end, replies) = search(alloc, &seen, &timeline, Some(index), most - 1)?;
+    match end {
+        SearchEnd::Linearization(_) => unreachable!(),
+        SearchEnd::NoOrder => Ok(Some(replies)),
+        SearchEnd::GaveUp => Ok(None),
+    }
+}
+
 /// All replies that the call of this entry could have had, each once, in no promised order. With
 /// such a one instead of its own, and with no other, the cut with its return is explained. There is
 /// none where it would have waited, or where the cut before its return is not explained. There is a
@@ -169,12 +218,7 @@ pub fn possible_at(
     ensures possible { IfOk result (λ found. AreAllPossible observed.now entry found.items) }
     ensures undecided { result ≡ Err PossibleError.Undecided → IsUndecidedAtAny observed.now entry most }
 {
-    let observation = &observed.entries()[entry];
-    let Some(returned) = &observation.returned else {
-        unreachable!();
-    };
-    let asking = asking_of(alloc, observed, entry, *observation, *returned)?;
-    let Some(replies) = replies_of(alloc, &asking, most)? else {
+    let Some(replies) = replies_at(alloc, observed, entry, most)? else {
         return Err(PossibleError::Undecided);
     };
     possible_among(alloc, observed, entry, replies.as_slice(), most)

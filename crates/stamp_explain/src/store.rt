@@ -1,5 +1,5 @@
 //! The configurations that a search has visited.
-ghost use Rattle.std.specs.Prelude.{◌≡◌, [], IfOk};
+ghost use Rattle.std.specs.Prelude.{◌≡◌, IfOk};
 ghost use Rattle.stamp_explain.specs.Store.{BeginsWith, Keeps, IsStored, key_of};
 
 use crate::node::{Node, Origin};
@@ -21,18 +21,6 @@ fn key(node: Node) -> (usize, u64, Option<usize>, u64)
 }
 
 impl Store {
-    pub(crate) fn new(alloc: Global) -> Store
-        ensures nodes { result.nodes.items ≡ [] }
-        ensures origins { result.origins.items ≡ [] }
-        ensures keeps { Keeps result }
-    {
-        Store {
-            nodes: Vec::new(alloc),
-            origins: Vec::new(alloc),
-            known: HashSet::new(alloc),
-        }
-    }
-
     /// With the node at which a search begins, and room for so many.
     pub(crate) fn beginning(alloc: Global, node: Node, room: usize) -> Result<Store, AllocError>
         ensures { IfOk result (λ store. BeginsWith store node) }

@@ -14,7 +14,7 @@ use stamp_core::{Call, Limits, LockDecision, LockReply, Reply, Word, Words, deci
 
 /// Whether the observation allows this reply.
 #[inline(always)]
-fn allows_reply(entry: &Observation, reply: &Reply) -> bool
+pub(crate) fn allows_reply(entry: &Observation, reply: &Reply) -> bool
     ensures { IsTrue result ↔ AllowsReply entry.now reply.now }
 {
     match &entry.returned {
@@ -38,20 +38,15 @@ fn small_transition(limits: Limits, word: Word, call: &Call) -> Option<(Word, Lo
     }
 }
 
-/// The number of the word after a call of the lock, and the reply, where the observation allows it.
+/// The number of the word after a call of the lock, and the reply.
 #[inline(always)]
-fn lock_transition(limits: Limits, bits: u64, entry: &Observation) -> Option<(u64, Reply)>
+fn lock_transition(limits: Limits, bits: u64, call: &Call) -> Option<(u64, Reply)>
     requires admitted { IsAdmitted limits (word_at limits bits) }
-    requires lock_call { IsTrue (is_lock_call entry.now.call) }
-    ensures { LockGoes limits bits entry.now result }
+    requires lock_call { IsTrue (is_lock_call call.now) }
+    ensures { LockGoes limits bits call.now result }
 {
-    let (next, found) = small_transition(limits, limits.word(bits), &entry.call)?;
-    let reply = found.as_reply();
-    if allows_reply(entry, &reply) {
-        Some((next.bits(), reply))
-    } else {
-        None
-    }
+    let (next, found) = small_transition(limits, limits.word(bits), call)?;
+    Some((next.bits(), found.as_reply()))
 }
 
 /// The words that the record holds after the put of this entry; zeros after none.
@@ -73,38 +68,33 @@ fn content_of(observed: &Observed, put: Option<usize>) -> Words
     }
 }
 
-/// Whose words the record holds after a call of it, and the reply, where the observation allows it.
+/// Whose words the record holds after a call of it, and the reply.
 #[inline(never)]
 fn record_transition(
     observed: &Observed,
     put: Option<usize>,
     i: usize,
-    entry: &Observation,
+    call: &Call,
 ) -> Option<(Option<usize>, Reply)>
     requires { 0 < observed.now.width }
-    ensures { RecordGoes observed.now.width observed.now.entries put i entry.now result }
+    ensures { RecordGoes observed.now.width observed.now.entries put i call.now result }
 {
     let content = content_of(observed, put);
-    let (next, reply) = match entry.call {
-        Call::Get => (put, Reply::Content(content)),
-        Call::Put(_) => (Some(i), Reply::Done),
+    match *call {
+        Call::Get => Some((put, Reply::Content(content))),
+        Call::Put(_) => Some((Some(i), Reply::Done)),
         Call::PutIf(expected, _) => {
             if content.is_same(&expected) {
-                (Some(i), Reply::Yes)
+                Some((Some(i), Reply::Yes))
             } else {
-                (put, Reply::No)
+                Some((put, Reply::No))
             }
         }
-        _ => return None,
-    };
-    if allows_reply(entry, &reply) {
-        Some((next, reply))
-    } else {
-        None
+        _ => None,
     }
 }
 
-/// The transition of the call of entry `i`, where the observation allows its reply.
+/// The transition of the call of entry `i`, whatever was observed of its reply; nothing where it waits.
 #[inline(always)]
 pub(crate) fn transition_of(
     observed: &Observed,
@@ -121,7 +111,7 @@ pub(crate) fn transition_of(
 {
     let entry = &observed.entries()[i];
     if entry.call.is_lock_call() {
-        match lock_transition(observed.limits(), bits, entry) {
+        match lock_transition(observed.limits(), bits, &entry.call) {
             Some((next, reply)) => Some(CallTransition {
                 bits: next,
                 put,
@@ -130,7 +120,7 @@ pub(crate) fn transition_of(
             None => None,
         }
     } else {
-        match record_transition(observed, put, i, entry) {
+        match record_transition(observed, put, i, &entry.call) {
             Some((next, reply)) => Some(CallTransition {
                 bits,
                 put: next,

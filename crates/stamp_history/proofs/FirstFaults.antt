@@ -11,12 +11,12 @@ use Rattle.std.proofs.lemmas.List.Sums.{position_or_len_is}
 use Rattle.std.proofs.lemmas.Bool.{leb-true, le-leb, le-ltb, lt-ltb}
 use Rattle.std.proofs.Math.Bool.{and-false}
 use Rattle.stamp_core.specs.Limits.{Bounds}
-use Rattle.stamp_core.specs.declared.script_error.ScriptError.{ScriptError}
-use Rattle.stamp_core.specs.declared.script_error.ScriptError.TheVariants.{TooManyThreads}
-use Rattle.stamp_core.specs.declared.script_error.ScriptError.TheVariants.{TooManyCalls}
-use Rattle.stamp_core.specs.declared.script_error.ScriptError.TheVariants.{TooManySteps}
-use Rattle.stamp_core.specs.declared.script_error.ScriptError.TheVariants.{NoSuchThread}
-use Rattle.stamp_core.specs.declared.script_error.ScriptError.TheVariants.{RecordWidth}
+use Rattle.stamp_machines.specs.declared.script_error.ScriptError.{ScriptError}
+use Rattle.stamp_machines.specs.declared.script_error.ScriptError.TheVariants.{TooManyThreads}
+use Rattle.stamp_machines.specs.declared.script_error.ScriptError.TheVariants.{TooManyCalls}
+use Rattle.stamp_machines.specs.declared.script_error.ScriptError.TheVariants.{TooManySteps}
+use Rattle.stamp_machines.specs.declared.script_error.ScriptError.TheVariants.{NoSuchThread}
+use Rattle.stamp_machines.specs.declared.script_error.ScriptError.TheVariants.{RecordWidth}
 use Rattle.stamp_machines.specs.Script.{Scripted, Suits}
 use Rattle.stamp_machines.specs.ScriptFault.{thread_calls, AreShort, AreOfWidth, AreOfThreads}
 use Rattle.stamp_machines.specs.ScriptFault.{IsFirstUnknown, IsFirstFault, IsGood}

@@ -12,8 +12,8 @@ use Rattle.serde_json.specs.Data.{Data, Items, no_items, item}
 use Rattle.serde_json.specs.Find as find
 use Rattle.stamp_core.specs.Layout.{units_of}
 use Rattle.stamp_core.specs.Limits.{AreInRange}
-use Rattle.stamp_core.specs.declared.script_error.ScriptError.{ScriptError}
-use Rattle.stamp_core.specs.declared.script_error.ScriptError.TheVariants.{NoSuchThread, RecordWidth}
+use Rattle.stamp_machines.specs.declared.script_error.ScriptError.{ScriptError}
+use Rattle.stamp_machines.specs.declared.script_error.ScriptError.TheVariants.{NoSuchThread, RecordWidth}
 use Rattle.stamp_machines.specs.Script.{Scripted, Suits, IsSound}
 use Rattle.stamp_machines.specs.declared.script.Arg.{Arg}
 use Rattle.stamp_machines.specs.declared.script.Arg.TheVariants.{Number, Of}

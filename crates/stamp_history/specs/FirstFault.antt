@@ -3,12 +3,12 @@ use Rattle.std.specs.Prelude.{ℕ, ◌==◌, ◌&&◌, not, nat_le, nat_lt, List
 use Rattle.std.specs.Prelude.{true, Option, Some, None, if◌then◌else◌}
 use Rattle.std.specs.List.{list_all}
 use Rattle.std.specs.Option.{option_map_or}
-use Rattle.stamp_core.specs.declared.script_error.ScriptError.{ScriptError}
-use Rattle.stamp_core.specs.declared.script_error.ScriptError.TheVariants.{TooManyThreads}
-use Rattle.stamp_core.specs.declared.script_error.ScriptError.TheVariants.{TooManyCalls}
-use Rattle.stamp_core.specs.declared.script_error.ScriptError.TheVariants.{TooManySteps}
-use Rattle.stamp_core.specs.declared.script_error.ScriptError.TheVariants.{NoSuchThread}
-use Rattle.stamp_core.specs.declared.script_error.ScriptError.TheVariants.{RecordWidth}
+use Rattle.stamp_machines.specs.declared.script_error.ScriptError.{ScriptError}
+use Rattle.stamp_machines.specs.declared.script_error.ScriptError.TheVariants.{TooManyThreads}
+use Rattle.stamp_machines.specs.declared.script_error.ScriptError.TheVariants.{TooManyCalls}
+use Rattle.stamp_machines.specs.declared.script_error.ScriptError.TheVariants.{TooManySteps}
+use Rattle.stamp_machines.specs.declared.script_error.ScriptError.TheVariants.{NoSuchThread}
+use Rattle.stamp_machines.specs.declared.script_error.ScriptError.TheVariants.{RecordWidth}
 use Rattle.stamp_machines.specs.Script.{Scripted}
 use Rattle.stamp_machines.specs.declared.script.ScriptCall.{ScriptCall}
 use Rattle.stamp_machines.specs.declared.script.ScriptCall.TheVariants.{Get, Put, PutIf}

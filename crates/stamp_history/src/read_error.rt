@@ -4,7 +4,7 @@ ghost use Rattle.std.specs.Prelude.{◌≡◌};
 ghost use Rattle.stamp_history.specs.declared.read_error.ReadError.TheVariants.{Memory};
 
 use crate::field::Field;
-use stamp_core::ScriptError;
+use stamp_machines::ScriptError;
 use std::alloc::{AllocError, AllocFailed};
 use thiserror::Error;
 

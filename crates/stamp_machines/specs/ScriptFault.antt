@@ -3,12 +3,12 @@ use Rattle.std.specs.Prelude.{◌⊎◌, ℕ, ◌<◌, ◌≤◌, List, length, 
 use Rattle.std.specs.Global.{Global}
 use Rattle.stamp_machines.specs.Script.{Suits}
 use Rattle.stamp_machines.specs.declared.script.ScriptCall.{ScriptCall}
-use Rattle.stamp_core.specs.declared.script_error.ScriptError.{ScriptError}
-use Rattle.stamp_core.specs.declared.script_error.ScriptError.TheVariants.{TooManyThreads}
-use Rattle.stamp_core.specs.declared.script_error.ScriptError.TheVariants.{TooManyCalls}
-use Rattle.stamp_core.specs.declared.script_error.ScriptError.TheVariants.{TooManySteps}
-use Rattle.stamp_core.specs.declared.script_error.ScriptError.TheVariants.{NoSuchThread}
-use Rattle.stamp_core.specs.declared.script_error.ScriptError.TheVariants.{RecordWidth}
+use Rattle.stamp_machines.specs.declared.script_error.ScriptError.{ScriptError}
+use Rattle.stamp_machines.specs.declared.script_error.ScriptError.TheVariants.{TooManyThreads}
+use Rattle.stamp_machines.specs.declared.script_error.ScriptError.TheVariants.{TooManyCalls}
+use Rattle.stamp_machines.specs.declared.script_error.ScriptError.TheVariants.{TooManySteps}
+use Rattle.stamp_machines.specs.declared.script_error.ScriptError.TheVariants.{NoSuchThread}
+use Rattle.stamp_machines.specs.declared.script_error.ScriptError.TheVariants.{RecordWidth}
 
 -- the calls of a thread
 abbrev pub thread_calls : Vec ScriptCall Global → List ScriptCall

@@ -5,8 +5,9 @@ ghost use Rattle.std.specs.Prelude.{IfSome, IfNone, IfOk, IfErr, All};
 ghost use Rattle.stamp_machines.specs.Script.{Suits, IsSound, calls_of};
 
 use crate::running::MOST_STEPS;
+use crate::script_error::ScriptError;
 use crate::shape::Shape;
-use stamp_core::{Limits, MOST_THREADS, MOST_WORDS, ScriptError, Words};
+use stamp_core::{Limits, MOST_THREADS, MOST_WORDS, Words};
 use std::marker::Model;
 
 /// The most calls of a thread of a script.

@@ -12,7 +12,8 @@ use Rattle.stamp_picture.specs.declared.state.State.{State}
 use Rattle.stamp_picture.specs.declared.state.Moment.{Moment}
 use Rattle.stamp_picture.specs.Picture.{Drawn}
 use Rattle.stamp_picture.specs.Frames.{positions_of, is_bad, lanes_in}
-use Rattle.stamp_picture.specs.Labels.{call_text, reply_text, answered_text, brief_text, verdict_text}
+use Rattle.stamp_core.specs.Texts.{call_text, reply_text}
+use Rattle.stamp_picture.specs.Labels.{answered_text, brief_text, verdict_text}
 
 -- the positions at which the drawn part of a bar begins or ends, and the points that are shown: each of
 -- them once, in rising order

@@ -16,7 +16,8 @@ use Rattle.stamp_picture.specs.declared.sheet.LabelledBox.{LabelledBox}
 use Rattle.stamp_picture.specs.declared.sheet.Sheet.{Sheet}
 use Rattle.stamp_picture.specs.Frames.{positions_of, lanes_in, right_of, border, point_x, bar_frame, point_frame}
 use Rattle.stamp_picture.specs.Frames.{moment_frame, opening_frame, content_frame, lane_frame, foot_of}
-use Rattle.stamp_picture.specs.Labels.{call_text, reply_text, answered_text, state_text, short_mode_text, content_text}
+use Rattle.stamp_core.specs.Texts.{call_text, reply_text}
+use Rattle.stamp_picture.specs.Labels.{answered_text, state_text, short_mode_text, content_text}
 use Rattle.stamp_picture.specs.Labels.{verdict_text}
 
 -- where a box stands, and its label

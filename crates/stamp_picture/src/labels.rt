@@ -1,6 +1,6 @@
-//! The labels of a picture: calls, replies, states and verdicts as texts.
+//! The labels of a picture: states and verdicts as texts.
 ghost use Rattle.std.specs.Prelude.{Some};
-ghost use Rattle.stamp_picture.specs.Labels.{words_text, call_text, reply_text, answered_text, mode_text};
+ghost use Rattle.stamp_picture.specs.Labels.{answered_text, mode_text};
 ghost use Rattle.stamp_picture.specs.Labels.{short_mode_text, content_text, state_text};
 ghost use Rattle.stamp_picture.specs.Labels.{brief_text, callee_text, reason_text, due_text, verdict_text};
 
@@ -11,73 +11,6 @@ use stamp_check::Why;
 use stamp_core::{Call, Reply, Words};
 use std::fmt;
 
-/// The words of a record.
-#[derive(Drop)]
-struct WordsLabel(Words);
-
-impl fmt::Display for WordsLabel {
-    ghost output = { λ label. Some (words_text label.0) };
-
-    fn fmt<W: fmt::Write>(&self, f: &mut fmt::Formatter<W>) -> fmt::Result {
-        write!(f, "{:?}", self.0.as_slice())
-    }
-}
-
-/// Shows a call by `{}` as a picture has it, with what it takes.
-#[derive(Drop)]
-pub struct CallLabel(pub Call);
-
-impl fmt::Display for CallLabel {
-    ghost output = { λ label. Some (call_text label.0) };
-
-    fn fmt<W: fmt::Write>(&self, f: &mut fmt::Formatter<W>) -> fmt::Result {
-        match self.0 {
-            Call::TryWrite => write!(f, "try_write"),
-            Call::TryRead => write!(f, "try_read"),
-            Call::WriteLock => write!(f, "write_lock"),
-            Call::ReadLock => write!(f, "read_lock"),
-            Call::Optimistic => write!(f, "optimistic"),
-            Call::Validate(stamp) => write!(f, "validate {stamp}"),
-            Call::UnlockWrite(stamp) => write!(f, "unlock_write {stamp}"),
-            Call::UnlockRead(stamp) => write!(f, "unlock_read {stamp}"),
-            Call::Unlock(stamp) => write!(f, "unlock {stamp}"),
-            Call::ToWrite(stamp) => write!(f, "to_write {stamp}"),
-            Call::ToRead(stamp) => write!(f, "to_read {stamp}"),
-            Call::ToOptimistic(stamp) => write!(f, "to_optimistic {stamp}"),
-            Call::TryUnlockWrite => write!(f, "try_unlock_write"),
-            Call::TryUnlockRead => write!(f, "try_unlock_read"),
-            Call::IsWriteLocked => write!(f, "is_write_locked"),
-            Call::IsReadLocked => write!(f, "is_read_locked"),
-            Call::ReadCount => write!(f, "read_count"),
-            Call::Get => write!(f, "get"),
-            Call::Put(words) => write!(f, "put {}", WordsLabel(words)),
-            Call::PutIf(expected, words) => {
-                write!(f, "put_if {} {}", WordsLabel(expected), WordsLabel(words))
-            }
-        }
-    }
-}
-
-/// Shows a reply by `{}` as a picture has it.
-#[derive(Drop)]
-pub struct ReplyLabel(pub Reply);
-
-impl fmt::Display for ReplyLabel {
-    ghost output = { λ label. Some (reply_text label.0) };
-
-    fn fmt<W: fmt::Write>(&self, f: &mut fmt::Formatter<W>) -> fmt::Result {
-        match self.0 {
-            Reply::Stamp(stamp) => write!(f, "{stamp}"),
-            Reply::Yes => write!(f, "yes"),
-            Reply::No => write!(f, "no"),
-            Reply::Done => write!(f, "done"),
-            Reply::Mismatch => write!(f, "mismatch"),
-            Reply::Count(count) => write!(f, "count {count}"),
-            Reply::Content(words) => write!(f, "{}", WordsLabel(words)),
-        }
-    }
-}
-
 /// A call and its reply.
 #[derive(Drop)]
 pub(crate) struct AnsweredLabel(pub(crate) Bar);
@@ -86,12 +19,7 @@ impl fmt::Display for AnsweredLabel {
     ghost output = { λ label. Some (answered_text label.0) };
 
     fn fmt<W: fmt::Write>(&self, f: &mut fmt::Formatter<W>) -> fmt::Result {
-        write!(
-            f,
-            "{} = {}",
-            CallLabel(self.0.call),
-            ReplyLabel(self.0.reply)
-        )
+        write!(f, "{} = {}", self.0.call, self.0.reply)
     }
 }
 
@@ -138,7 +66,7 @@ impl fmt::Display for ContentLabel {
     fn fmt<W: fmt::Write>(&self, f: &mut fmt::Formatter<W>) -> fmt::Result {
         match self.0 {
             None => Ok(()),
-            Some(words) => write!(f, "{}", WordsLabel(words)),
+            Some(words) => write!(f, "{}", words),
         }
     }
 }
@@ -154,7 +82,7 @@ impl fmt::Display for StateLabel {
         let (mode, version) = (ModeLabel(self.0.mode), self.0.version);
         match self.0.content {
             None => write!(f, "{mode}, version {version}"),
-            Some(words) => write!(f, "{mode}, version {version}, record {}", WordsLabel(words)),
+            Some(words) => write!(f, "{mode}, version {version}, record {}", words),
         }
     }
 }
@@ -170,7 +98,7 @@ impl fmt::Display for BriefLabel {
         let (mode, version) = (ShortModeLabel(self.0.mode), self.0.version);
         match self.0.content {
             None => write!(f, "{mode} v {version}"),
-            Some(words) => write!(f, "{mode} v {version} {}", WordsLabel(words)),
+            Some(words) => write!(f, "{mode} v {version} {}", words),
         }
     }
 }
@@ -185,7 +113,7 @@ impl fmt::Display for DueLabel {
     fn fmt<W: fmt::Write>(&self, f: &mut fmt::Formatter<W>) -> fmt::Result {
         match self.0 {
             None => write!(f, "it would wait here"),
-            Some(reply) => write!(f, "due here: {}", ReplyLabel(reply)),
+            Some(reply) => write!(f, "due here: {}", reply),
         }
     }
 }

@@ -22,7 +22,6 @@ mod window;
 
 pub use bar::Bar;
 pub use frames::{Class, Frame};
-pub use labels::{CallLabel, ReplyLabel};
 pub use picture::{Fault, MOST_BARS, Picture, PictureError, picture_of};
 pub use rows::text_of;
 pub use sheet::{LabelledBox, Sheet, sheet_of};

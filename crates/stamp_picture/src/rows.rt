@@ -9,7 +9,7 @@ ghost use Rattle.stamp_picture.specs.Rows.{row_text, number_text, heading_text, 
 
 use crate::bar::Bar;
 use crate::frames::{is_bad, lanes_in, positions_of};
-use crate::labels::{AnsweredLabel, BriefLabel, CallLabel, ReplyLabel, VerdictLabel};
+use crate::labels::{AnsweredLabel, BriefLabel, VerdictLabel};
 use crate::markup::push_text;
 use crate::picture::{Fault, Picture};
 use crate::state::{Moment, State};
@@ -110,9 +110,9 @@ fn told_text(alloc: Global, bar: &Bar, position: u64) -> Result<String, AllocErr
     if bar.point == position {
         format!(in alloc; "  {lane}: {} (entry {entry})", AnsweredLabel(*bar))
     } else if bar.first == position {
-        format!(in alloc; "  {lane}: {}", CallLabel(bar.call))
+        format!(in alloc; "  {lane}: {}", bar.call)
     } else if bar.last == position {
-        format!(in alloc; "  {lane}: = {}", ReplyLabel(bar.reply))
+        format!(in alloc; "  {lane}: = {}", bar.reply)
     } else {
         Ok(String::new(alloc))
     }

@@ -13,9 +13,7 @@ use crate::frames::{
     BORDER, Class, Frame, bar_frame, class_of, content_frame, foot_of, lane_frame, lanes_in,
     moment_frame, opening_frame, point_frame, point_x, positions_of, right_of,
 };
-use crate::labels::{
-    AnsweredLabel, CallLabel, ContentLabel, ReplyLabel, ShortModeLabel, StateLabel, VerdictLabel,
-};
+use crate::labels::{AnsweredLabel, ContentLabel, ShortModeLabel, StateLabel, VerdictLabel};
 use crate::picture::{Fault, Picture};
 use crate::state::{Mode, Moment, State};
 use stamp_core::Words;
@@ -76,8 +74,8 @@ fn bar_box(
     Ok(LabelledBox {
         frame: bar_frame(verdict, positions, bar),
         title: bar_title(alloc, bar)?,
-        upper: CallLabel(bar.call).to_string(alloc)?,
-        lower: format!(in alloc; "= {}", ReplyLabel(bar.reply))?,
+        upper: bar.call.to_string(alloc)?,
+        lower: format!(in alloc; "= {}", bar.reply)?,
     })
 }
 

@@ -1,6 +1,6 @@
-use stamp_core::{Layout, ScriptError};
+use stamp_core::Layout;
 use stamp_history::{Field, ReadError, read_script, write_history, write_run};
-use stamp_machines::{Arg, ScriptCall, run};
+use stamp_machines::{Arg, ScriptCall, ScriptError, run};
 use std::test::Fail;
 
 /// The layout, readers, versions, width and number of threads that a text gives.

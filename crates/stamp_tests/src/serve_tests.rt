@@ -1,8 +1,9 @@
 use stamp_cli::{
     CommandFault, Order, ReadSource, ServeFault, Verdict, WriteSink, fault_line, order_of, serve,
 };
-use stamp_core::{Layout, ScriptError};
+use stamp_core::Layout;
 use stamp_history::{Field, ReadError};
+use stamp_machines::ScriptError;
 use std::alloc::Global;
 use std::io;
 use std::io::{Read, Write};

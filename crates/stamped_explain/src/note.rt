@@ -9,7 +9,6 @@ ghost use Rattle.stamped_explain.specs.Note.{IsNote, IsStuckNote, ArePossibleAt,
 use crate::finding::Finding;
 use stamp_core::{Call, Reply};
 use stamp_explain::{Observation, Observed, PossibleError, possible_at};
-use stamp_picture::{CallLabel, ReplyLabel};
 use std::alloc::{AllocError, Global};
 use std::fmt;
 
@@ -19,7 +18,7 @@ fn others_text(alloc: Global, replies: &[Reply]) -> Result<String, AllocError>
 {
     let mut text = String::new(alloc);
     for reply in replies {
-        let label = ReplyLabel(*reply).to_string(alloc)?;
+        let label = reply.to_string(alloc)?;
         text.push_str(", ")?;
         text.push_str(&label)?;
     }
@@ -34,7 +33,7 @@ fn replies_text(alloc: Global, replies: &[Reply]) -> Result<String, AllocError>
         return format!(in alloc; "; no reply was possible, it would have waited");
     };
     let others = others_text(alloc, &replies[1..])?;
-    format!(in alloc; "; possible: {}{others}", ReplyLabel(*first))
+    format!(in alloc; "; possible: {first}{others}")
 }
 
 /// What was possible, as a text: these replies, or that it is undecided.
@@ -67,7 +66,7 @@ impl fmt::Display for AnswerText {
     ghost output = { λ text. Some (answer_text text.0 text.1) };
 
     fn fmt<W: fmt::Write>(&self, f: &mut fmt::Formatter<W>) -> fmt::Result {
-        write!(f, ": {} answered {}", CallLabel(self.0), ReplyLabel(self.1))
+        write!(f, ": {} answered {}", self.0, self.1)
     }
 }
 

@@ -2,8 +2,8 @@
 ghost use Rattle.std.specs.Prelude.{◌≡◌, ◌<◌, ◌≤◌};
 
 use crate::words::all_of;
-use stamp_core::{Layout, Limits, ScriptError, Words};
-use stamp_machines::{Arg, Script, ScriptCall};
+use stamp_core::{Layout, Limits, Words};
+use stamp_machines::{Arg, Script, ScriptCall, ScriptError};
 use std::alloc::{AllocError, Global};
 
 /// Why there is no such script.

@@ -33,8 +33,8 @@ test_lt m n is passed = grind (arith, nat_tests)
 pub returns-then-is_same : goal.returns-then-is_same
 returns-then-is_same c = elim c.if-first-later.branch [
   | then-first-later w ↦ ahead_by_call c.args.a.now c.args.b.now c.in-Some.first c.in-Some-returned.later
-      c.is_same_call.result c.in-Some.is c.in-Some-returned.is
-      (w.is_same.ensures.0 (sym w.value-is ∙ c.if-is_same.true)) w.if-first-later.true c.is_same_call.ensures
+      c.is_same_call.result c.in-Some.is c.in-Some-returned.is (w.is_same.ensures.0
+      (sym w.value-is ∙ c.if-is_same.true)) w.if-first-later.true c.is_same_call.ensures
   | else-first-later w ↦
       let less : c.in-Some.first.last < c.in-Some-returned.later.last = test_lt c.in-Some.first.last
       c.in-Some-returned.later.last w.value-is c.if-is_same.true in

@@ -8,8 +8,7 @@ use Rattle.stamp_explain.proofs.asking.add.Goals as goal
 
 pub returns : goal.returns
 returns c = subst (Adds c.args.replies.now.items c.args.reply) (sym c.in_ok-push.ensures.items)
-    (adds_one c.args.replies.now.items c.args.reply (λ has. c.loop-other.invariant
-    (subst (λ (xs : List Reply). Contains xs c.args.reply)
+    (adds_one (λ has. c.loop-other.invariant (subst (λ (xs : List Reply). Contains xs c.args.reply)
     (sym (take_all c.loop-other.other-index c.as_slice-other-items.result.now
-    (omega (arith, c.loop-other-test.false))))
-    (subst (λ (xs : List Reply). Contains xs c.args.reply) (sym c.as_slice-other-items.ensures.value) has))))
+    (omega (arith, c.loop-other-test.false)))) (subst (λ (xs : List Reply). Contains xs c.args.reply)
+    (sym c.as_slice-other-items.ensures.value) has))))

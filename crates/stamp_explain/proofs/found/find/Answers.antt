@@ -8,23 +8,19 @@ use Rattle.stamp_explain.proofs.found.find.Goals as goal
 
 pub returns-then-width-eq0 : goal.returns-then-width-eq0
 returns-then-width-eq0 c = IfOk-weaker c.find_alone.result (λ found. IsSearched c.args.observed.now c.args.most found)
-    (λ found. IsFoundApart c.args.observed.now c.args.most found)
-    (λ found is. found_alone c.args.observed.now c.args.most found c.requires
-    (sym c.width.ensures.width ∙ c.if-width-eq0.true) is) c.find_alone.ensures
+    (λ found. IsFoundApart c.args.observed.now c.args.most found) (λ found is. found_alone c.args.observed.now
+    c.args.most found c.requires (sym c.width.ensures.width ∙ c.if-width-eq0.true) is) c.find_alone.ensures
 
 pub find_alone-requires-2 : goal.find_alone-requires-2
-find_alone-requires-2 c = subhistory_observed c.args.observed.now true c.in_ok-lock_calls.lock_calls c.requires
-    c.in_ok-lock_calls.ensures
+find_alone-requires-2 c = subhistory_observed c.requires c.in_ok-lock_calls.ensures
 
 pub find_alone-requires-3 : goal.find_alone-requires-3
-find_alone-requires-3 c = subhistory_observed c.args.observed.now false c.in_ok-record_calls.record_calls c.requires
-    c.in_ok-record_calls.ensures
+find_alone-requires-3 c = subhistory_observed c.requires c.in_ok-record_calls.ensures
 
 pub returns-in-NoOrder : goal.returns-in-NoOrder
 returns-in-NoOrder c = none_of_one c.args.observed.now true c.in_ok-lock_calls.lock_calls c.requires
-    c.in_ok-lock_calls.ensures
-    (subst (λ (f : SearchEnd). IsSearched c.in_ok-lock_calls.lock_calls.history c.args.most f) c.in-NoOrder.is
-    c.in_ok-lock_end.ensures)
+    c.in_ok-lock_calls.ensures (subst (λ (f : SearchEnd). IsSearched c.in_ok-lock_calls.lock_calls.history c.args.most
+    f) c.in-NoOrder.is c.in_ok-lock_end.ensures)
 
 pub returns-in-NoOrder-record_end : goal.returns-in-NoOrder-record_end
 returns-in-NoOrder-record_end c = none_of_one c.args.observed.now false c.in_ok-record_calls.record_calls c.requires

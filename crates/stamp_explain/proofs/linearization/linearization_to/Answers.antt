@@ -23,36 +23,36 @@ index-node-requires c = subst (λ (n : ℕ). c.index-origin.result.now.from < n)
 pub ordered_call_at-requires-clause-led : goal.ordered_call_at-requires-clause-led
 ordered_call_at-requires-clause-led c =
     let read : Reads c.args.observed.now c.args.timeline.now.returns.items c.args.store.now c.loop-at.at
-    c.index-origin.result.now c.index-node.result.now c.loop-at.invariant.node =
-    reads_there c.args.observed.now c.args.timeline.now.returns.items c.args.store.now c.loop-at.at
-    c.loop-at.order.items c.index-origin.result.now c.index-node.result.now c.requires.linked c.loop-at-test.true
-    c.loop-at.invariant c.index-origin.ensures c.index-node.ensures in read.led
+    c.index-origin.result.now c.index-node.result.now c.loop-at.invariant.node = reads_there c.args.observed.now
+    c.args.timeline.now.returns.items c.args.store.now c.loop-at.at c.loop-at.order.items c.index-origin.result.now
+    c.index-node.result.now c.requires.linked c.loop-at-test.true c.loop-at.invariant c.index-origin.ensures
+    c.index-node.ensures in read.led
 
 pub loop-at-smaller-in_ok-push : goal.loop-at-smaller-in_ok-push
 loop-at-smaller-in_ok-push c =
     let read : Reads c.args.observed.now c.args.timeline.now.returns.items c.args.store.now c.loop-at.at
-    c.index-origin.result.now c.index-node.result.now c.loop-at.invariant.node =
-    reads_there c.args.observed.now c.args.timeline.now.returns.items c.args.store.now c.loop-at.at
-    c.loop-at.order.items c.index-origin.result.now c.index-node.result.now c.requires.linked c.loop-at-test.true
-    c.loop-at.invariant c.index-origin.ensures c.index-node.ensures in read.sooner
+    c.index-origin.result.now c.index-node.result.now c.loop-at.invariant.node = reads_there c.args.observed.now
+    c.args.timeline.now.returns.items c.args.store.now c.loop-at.at c.loop-at.order.items c.index-origin.result.now
+    c.index-node.result.now c.requires.linked c.loop-at-test.true c.loop-at.invariant c.index-origin.ensures
+    c.index-node.ensures in read.sooner
 
 pub loop-at-preserved-in_ok-push : goal.loop-at-preserved-in_ok-push
 loop-at-preserved-in_ok-push c =
     subst (GoesBack c.args.observed.now c.args.timeline.now.returns.items c.args.store.now
-    c.index-origin.result.now.from) (sym c.in_ok-push.ensures.items)
-    (back_call c.args.observed.now c.args.timeline.now.returns.items c.args.store.now c.loop-at.at
-    c.index-origin.result.now c.index-node.result.now c.loop-at.order.items c.in-Some.call c.loop-at.invariant
-    (reads_there c.args.observed.now c.args.timeline.now.returns.items c.args.store.now c.loop-at.at
-    c.loop-at.order.items c.index-origin.result.now c.index-node.result.now c.requires.linked c.loop-at-test.true
-    c.loop-at.invariant c.index-origin.ensures c.index-node.ensures) c.in-Some.ensures)
+    c.index-origin.result.now.from) (sym c.in_ok-push.ensures.items) (back_call c.args.observed.now
+    c.args.timeline.now.returns.items c.args.store.now c.loop-at.at c.index-origin.result.now c.index-node.result.now
+    c.loop-at.order.items c.in-Some.call c.loop-at.invariant (reads_there c.args.observed.now
+    c.args.timeline.now.returns.items c.args.store.now c.loop-at.at c.loop-at.order.items c.index-origin.result.now
+    c.index-node.result.now c.requires.linked c.loop-at-test.true c.loop-at.invariant c.index-origin.ensures
+    c.index-node.ensures) c.in-Some.ensures)
 
 pub loop-at-smaller : goal.loop-at-smaller
 loop-at-smaller c =
     let read : Reads c.args.observed.now c.args.timeline.now.returns.items c.args.store.now c.loop-at.at
-    c.index-origin.result.now c.index-node.result.now c.loop-at.invariant.node =
-    reads_there c.args.observed.now c.args.timeline.now.returns.items c.args.store.now c.loop-at.at
-    c.loop-at.order.items c.index-origin.result.now c.index-node.result.now c.requires.linked c.loop-at-test.true
-    c.loop-at.invariant c.index-origin.ensures c.index-node.ensures in read.sooner
+    c.index-origin.result.now c.index-node.result.now c.loop-at.invariant.node = reads_there c.args.observed.now
+    c.args.timeline.now.returns.items c.args.store.now c.loop-at.at c.loop-at.order.items c.index-origin.result.now
+    c.index-node.result.now c.requires.linked c.loop-at-test.true c.loop-at.invariant c.index-origin.ensures
+    c.index-node.ensures in read.sooner
 
 pub loop-at-preserved : goal.loop-at-preserved
 loop-at-preserved c =

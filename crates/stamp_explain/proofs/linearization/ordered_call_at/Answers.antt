@@ -12,9 +12,9 @@ returns-in-Some-returned c =
     let call : OrderedCall = record { index = c.in-Some.i; reply = c.in-Some-returned.returned.reply } in
     subst (λ (o : Option ℕ). IsOrderedCallAt c.args.observed.now c.args.node.now o (Some call)) (sym c.in-Some.is) (
       refl,
-      replied_read c.args.observed.now c.args.node.now c.in-Some.i c.entries.result.now c.index-entries-i.result
-          c.in-Some-returned.returned (subst AreInRange c.limits.ensures c.layout.ensures.in_range)
-          (subst (IsLed c.args.observed.now c.args.node.now) c.in-Some.is c.requires.led)
-          c.entries.ensures.entries c.index-entries-i.is
+      replied_read c.entries.result.now c.index-entries-i.result c.in-Some-returned.returned
+          (subst AreInRange c.limits.ensures c.layout.ensures.in_range) (subst
+          (IsLed c.args.observed.now c.args.node.now) c.in-Some.is c.requires.led) c.entries.ensures.entries
+          c.index-entries-i.is
           (ap (λ (o : Observation). o.returned) c.index-entries-i.is ∙ c.in-Some-returned.is),
     )

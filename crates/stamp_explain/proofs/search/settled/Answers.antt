@@ -15,12 +15,9 @@ loop-node-init c = passes_none
 pub loop-node-preserved : goal.loop-node-preserved
 loop-node-preserved c =
     let on : ComesByOneMove c.args.observed.now None c.args.timeline.now.returns.items c.loop-node.node
-    (past_of c.loop-node.node c.without_thread.result) = leads_past c.args.observed.now None c.args.timeline.now
-    c.loop-node.node
-    (get_or c.entries.result.now c.index.result.now c.index-entries-index.result) c.without_thread.result
-    (awaits_of c.args.observed.now c.args.timeline.now c.loop-node.node c.index.result.now c.entries.result.now
-    c.index-entries-index.result c.requires.observed c.requires.timeline
-    (omega (arith, c.loop-node-test.true, c.len.ensures)) c.index.ensures c.entries.ensures.entries)
+    (past_of c.loop-node.node c.without_thread.result) = leads_past (awaits_of c.index.result.now c.entries.result.now
+    c.index-entries-index.result c.requires.observed c.requires.timeline (omega
+    (arith, c.loop-node-test.true, c.len.ensures)) c.index.ensures c.entries.ensures.entries)
     (c.has_thread.ensures.0 c.if-not-has_thread.false) c.without_thread.ensures in
     passes_more c.loop-node.invariant (record { inside = on.inside; leads = on.leads })
 
@@ -35,10 +32,9 @@ returns-clause-settled c = elim c.loop-node-test.branch [
   | then-loop-node-test+then-not-has_thread w ↦ record {
     awaited = λ a it bit.
         let is : Awaits c.args.observed.now c.args.timeline.now c.loop-node.node
-        (get_or w.entries.result.now w.index.result.now w.index-entries-index.result) =
-        awaits_of c.args.observed.now c.args.timeline.now c.loop-node.node w.index.result.now w.entries.result.now
-        w.index-entries-index.result c.requires.observed c.requires.timeline it.inside w.index.ensures
-        w.entries.ensures.entries in
+        (get_or w.entries.result.now w.index.result.now w.index-entries-index.result) = awaits_of w.index.result.now
+        w.entries.result.now w.index-entries-index.result c.requires.observed c.requires.timeline it.inside
+        w.index.ensures w.entries.ensures.entries in
         let same : get_or w.entries.result.now w.index.result.now w.index-entries-index.result ≡ a =
         same_Some (get_or w.entries.result.now w.index.result.now w.index-entries-index.result) a
         (sym is.at ∙ it.is_entry) in

@@ -16,7 +16,7 @@ returns-then-not-branch c =
     let old = c.args.self.now.known.keys in
     let was : false ≡ not (list_any (same_key c.key.result) old) =
     sym c.if-not-branch.true ∙ c.in_ok-insert.ensures.added in
-    not_stored c.args.self.now _ c.args.node c.args.origin c.requires refl refl
+    not_stored c.requires refl refl
     (subst (Left old c.insert.new.self.keys c.key.result) c.if-not-branch.true c.in_ok-insert.ensures.keys)
     (subst (λ (k : Key). Contains old k) c.key.ensures (found_again old c.key.result was))
 
@@ -27,7 +27,7 @@ returns c =
     sym c.if-not-branch.false ∙ c.in_ok-insert.ensures.added in
     let moved : IsPermutation (c.key.result ∷ old) c.insert.new.self.keys =
     subst (Left old c.insert.new.self.keys c.key.result) c.if-not-branch.false c.in_ok-insert.ensures.keys in
-    stored c.args.self.now _ c.args.node c.args.origin c.requires c.in_ok-push.ensures.items
+    stored c.requires c.in_ok-push.ensures.items
     c.in_ok-push-2.ensures.items
     (subst (λ (k : Key). IsPermutation (k ∷ old) c.insert.new.self.keys) c.key.ensures moved)
     (subst (λ (k : Key). ¬ Contains old k) c.key.ensures (found_not old c.key.result was))

@@ -3,8 +3,7 @@
 use std::error::Error;
 use std::fmt;
 
-/// What is wrong with a script of calls and steps: the first that holds, in this order. It stands
-/// here since the readings of texts answer it too.
+/// What is wrong with a script of calls and steps: the first that holds, in this order.
 #[derive(Clone, Copy, Debug, PartialEq, Eq)]
 pub enum ScriptError {
     /// 1: more than 64 threads.

@@ -1,8 +1,8 @@
 use Rattle.std.proofs.Common.{◌≡◌, ℕ, Some, Option, List, [], ◌∷◌, codes, refl, ap}
 use Rattle.std.specs.Prelude.{decimal}
 use Rattle.std.specs.Fmt.{debug_items, ◌++?◌}
-use Rattle.stamp_picture.specs.Labels.{numbers_text}
-use Rattle.stamp_picture.proofs.labels.WordsLabelDisplay.fmt.Goals as goal
+use Rattle.stamp_core.specs.Texts.{numbers_text}
+use Rattle.stamp_core.proofs.words.WordsDisplay.fmt.Goals as goal
 
 items_shown : (lead ns : List ℕ) → debug_items (λ (n : ℕ). Some (decimal n)) lead ns ≡ Some (numbers_text lead ns)
 items_shown lead [] = refl
