@@ -15,7 +15,7 @@ returns c = IfOk-weaker c.stuck_text.result
       at = record {
         entry = c.index-entries-entry.result;
         return = c.in-Some.returned;
-        is_entry = read_at c.args.observed.now c.args.entry c.index-entries-entry.result c.entries.result.now
+        is_entry = read_at c.args.observed.now c.index-entries-entry.result c.entries.result.now
             c.requires.returned c.index-entries-entry.is c.entries.ensures.entries;
         returned = c.in-Some.is;
       };
