@@ -23,8 +23,11 @@ PROMISES = [
     ("The sequential lock", [("stamp_core", "decide"), ("stamp_core", "transition")]),
     ("Locks that threads share", [("stamp_threads", "RunningLock::once"), ("stamp_threads", "RunningLock::call")]),
     ("No torn read", [("stamp_threads", "WideRecord::get_into"), ("stamp_threads", "RuledRecord::get_once"),
-                      ("stamped_lock", "RecordHandle::get")]),
-    ("No update is lost", [("stamped_lock", "RecordHandle::update"), ("stamped_lock", "RecordHandle::put_if")]),
+                      ("stamped_lock", "RecordHandle::get"), ("stamped_lock", "WideHandle::get_into"),
+                      ("stamped_lock", "CellHandle::get")]),
+    ("No update is lost", [("stamped_lock", "RecordHandle::update"), ("stamped_lock", "RecordHandle::try_update"),
+                           ("stamped_lock", "RecordHandle::update_once"), ("stamped_lock", "RecordHandle::put_if"),
+                           ("stamped_lock", "WideHandle::update_in"), ("stamped_lock", "CellHandle::update")]),
     ("The judge of recorded histories", [("stamp_check", "check")]),
     ("The judge of observed histories", [("stamp_explain", "explain")]),
 ]
