@@ -1,0 +1,4 @@
+pub mod Run
+pub mod Ahead
+pub mod Watching
+pub mod WatchLaws
