@@ -1,6 +1,6 @@
 -- A call that begins later.
-use Rattle.std.proofs.Common.{◌≡◌, ◌≢◌, ◌⊎◌, ◌≤◌, ◌<◌, ◌+◌, ℕ, List, [], ◌∷◌, ◌++◌, refl, sym, ◌∙◌, ap, subst, inl, inr}
-use Rattle.std.proofs.Common.{arith}
+use Rattle.std.proofs.Common.{◌≡◌, ◌≢◌, ◌⊎◌, ◌≤◌, ◌<◌, ◌+◌, ℕ, List, [], ◌∷◌, ◌++◌, refl, sym, ◌∙◌, ap, subst}
+use Rattle.std.proofs.Common.{inl, inr, arith}
 use Rattle.std.specs.Prelude.{cond}
 use Rattle.std.proofs.lemmas.List.Sums.{sum_by-append}
 use Rattle.std.proofs.lemmas.Bool.{cases_eq}
@@ -18,9 +18,10 @@ use Rattle.stamp_watch.specs.Run.Survives.{at_end, takes_effect, begins, returns
 use Rattle.stamp_watch.specs.Ahead.{EndsNever, Spares, Tells}
 use Rattle.stamp_watch.specs.Ahead.Spares.{spares_beginning, spares_return, spares_withdrawal}
 use Rattle.stamp_watch.specs.WatchLaws.{BeginsLate, BeginsSooner}
-use Rattle.stamp_watch.proofs.Surviving.{idle_or_asks, idle_or_gets, asks_or_gets, one_call, set_of, sets_of, sets_swapped}
-use Rattle.stamp_watch.proofs.Surviving.{begins_first, gotten_is_told, tells_past_beginning, tells_return, never_past_beginning}
-use Rattle.stamp_watch.proofs.Surviving.{never_past_return, never_past_withdrawal, tells_past_withdrawal}
+use Rattle.stamp_watch.proofs.Surviving.{idle_or_asks, idle_or_gets, asks_or_gets, one_call, set_of, sets_of}
+use Rattle.stamp_watch.proofs.Surviving.{sets_swapped, begins_first, gotten_is_told, tells_past_beginning}
+use Rattle.stamp_watch.proofs.Surviving.{tells_return, tells_past_withdrawal, never_past_beginning, never_past_return}
+use Rattle.stamp_watch.proofs.Surviving.{never_past_withdrawal}
 use Rattle.stamp_watch.proofs.StandingFor.{no_empty, first_same, rest_same}
 
 writes-append : (xs ys : List LockEvent) → write_count (xs ++ ys) ≡ write_count xs + write_count ys
@@ -30,7 +31,11 @@ writes-append xs ys = sum_by-append (λ (x : LockEvent). cond (is_write_acquired
 version_stays : (limits : Bounds) (s next : List LockEvent) (call : Call) (reply : Reply) →
     LockStep limits s call reply next → write_count s ≤ write_count next
 version_stays limits s next call reply step =
-    omega (arith, writes-append s (appended_by (transition limits s call)), ap (λ (events : List LockEvent). write_count events) step.appends)
+    omega (
+      arith,
+      writes-append s (appended_by (transition limits s call)),
+      ap (λ (events : List LockEvent). write_count events) step.appends,
+    )
 
 -- what goes on after some events only from an older version does so before them
 older : (limits : Bounds) (version : ℕ) (between rest events : List Event) (s : List LockEvent) (lanes : Lanes) →
@@ -48,8 +53,8 @@ older limits version (e ∷ between) rest events s lanes old same (begins {event
     way) = older limits version between rest more s after old (rest_same same) way
 older limits version (e ∷ between) rest events s lanes old same (returns {events = more} {after = after} u r gets sets
     way) = older limits version between rest more s after old (rest_same same) way
-older limits version (e ∷ between) rest events s lanes old same (withdraws {events = more} {after = after} u c asks sets
-    way) = older limits version between rest more s after old (rest_same same) way
+older limits version (e ∷ between) rest events s lanes old same (withdraws {events = more} {after = after} u c asks
+    sets way) = older limits version between rest more s after old (rest_same same) way
 
 late : (limits : Bounds) (t : ℕ) (call : Call) (reply : Reply) (version : ℕ) (between rest events : List Event)
     (s : List LockEvent) (lanes begun : Lanes) → events ≡ between ++ rest → lanes t ≡ Idle →

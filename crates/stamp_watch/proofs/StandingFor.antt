@@ -1,42 +1,30 @@
 -- A set of configurations that an online judge keeps, event by event.
-use Rattle.std.proofs.Common.{◌≡◌, ℕ, ◌+◌, ◌<◌, List, [], ◌∷◌, ◌++◌, length, refl, sym, ◌∙◌, ap, subst, arith, append_assoc, append-nil}
+use Rattle.std.proofs.Common.{◌≡◌, ℕ, List, [], ◌∷◌, ◌++◌, refl, sym, ◌∙◌, subst, arith}
+use Rattle.std.proofs.Common.{append_assoc, append-nil}
 use Rattle.std.proofs.Math.Seq.{take-append_seam, take-append-add}
-use Rattle.stamp_watch.specs.WatchLaws.{ShorterStayExplained, SetsTell, StuckIsExact, OpeningStands, SetsGoOn}
-use Rattle.std.specs.Prelude.{take}
-use Rattle.std.specs.List.{All, Contains}
+use Rattle.std.specs.List.{Contains}
 use Rattle.std.proofs.lemmas.List.Elements.{All-nil, All-cons, All-head, All-contains, Contains-push}
 use Rattle.stamp_core.specs.LockEvent.{LockEvent}
 use Rattle.stamp_core.specs.Limits.{Bounds}
 use Rattle.stamp_watch.specs.declared.event.Event.{Event}
-use Rattle.stamp_watch.specs.Run.{Configuration, opening, all_idle, Lanes, Leads, Survives, IsPossibleAfter}
-use Rattle.stamp_watch.specs.Run.{AreExplained, AreStuckAt}
+use Rattle.stamp_watch.specs.Run.{Configuration, opening, Lanes, Leads, Survives, IsPossibleAfter}
+use Rattle.stamp_watch.specs.Run.{AreExplained}
 use Rattle.stamp_watch.specs.Run.Leads.{leads_nowhere, by_effect, by_beginning, by_return, by_withdrawal}
 use Rattle.stamp_watch.specs.Run.Survives.{at_end, takes_effect, begins, returns, withdraws}
-use Rattle.stamp_watch.specs.Watching.{OneSurvives, StandFor, ComesFrom, Fits, GoesOn, Told}
+use Rattle.stamp_watch.specs.Watching.{StandFor, ComesFrom, Fits, GoesOn, Told}
+use Rattle.stamp_watch.specs.WatchLaws.{ShorterStayExplained, SetsTell, StuckIsExact, OpeningStands}
 
 none_in_empty : {X : Type 0} (x : X) → ¬ Contains [] x
 none_in_empty x (k, lt, e) = absurd (omega arith)
 
-abbrev first_of : Event → List Event → Event
-first_of default [] = default
-first_of default (e ∷ es) = e
-
-abbrev rest_of : List Event → List Event
-rest_of [] = []
-rest_of (e ∷ es) = es
-
-abbrev IsEmpty : List Event → Type 0
-IsEmpty [] = Unit {0}
-IsEmpty (e ∷ es) = ⊥
-
 pub no_empty : {e : Event} {es : List Event} → [] ≡ e ∷ es → ⊥
-no_empty same = subst IsEmpty same tt
+no_empty same = cc
 
 pub first_same : {d e : Event} {ds es : List Event} → d ∷ ds ≡ e ∷ es → d ≡ e
-first_same {d} same = ap (first_of d) same
+first_same same = cc
 
 pub rest_same : {d e : Event} {ds es : List Event} → d ∷ ds ≡ e ∷ es → ds ≡ es
-rest_same same = ap rest_of same
+rest_same same = cc
 
 -- one way after another
 pub leads_on : {limits : Bounds} {past more : List Event} {s t u : List LockEvent} {a b c : Lanes} →

@@ -14,59 +14,39 @@ use Rattle.stamp_watch.specs.Ahead.{EndsNever, IsWithdrawn, ReturnsSooner, Tells
 use Rattle.stamp_watch.specs.Ahead.Tells.{tells_next, past_beginning, past_return, past_withdrawal}
 use Rattle.stamp_watch.specs.Ahead.IsWithdrawn.{withdrawn_next, withdrawn_past_beginning, withdrawn_past_return}
 use Rattle.stamp_watch.specs.Ahead.IsWithdrawn.{withdrawn_past_withdrawal}
-use Rattle.stamp_watch.specs.Ahead.EndsNever.{never_more, not_beginning, not_returning, not_withdrawing}
+use Rattle.stamp_watch.specs.Ahead.EndsNever.{not_beginning, not_returning, not_withdrawing}
 use Rattle.stamp_watch.specs.Ahead.ReturnsSooner.{sooner_next, sooner_past_beginning, sooner_past_return}
 use Rattle.stamp_watch.specs.Ahead.ReturnsSooner.{sooner_past_withdrawal}
-use Rattle.stamp_watch.specs.WatchLaws.{BeginsAtOnce, BeginsFirst, ReturnsAtOnce, ReturnsFirst, TakesEffectNext}
+use Rattle.stamp_watch.specs.WatchLaws.{BeginsAtOnce, BeginsFirst, ReturnsAtOnce, ReturnsFirst}
 use Rattle.stamp_watch.specs.WatchLaws.{TakesEffectFirst, AtOnceLosesNothing, UnchangingNeverNeeded, SoonerAlikeFirst}
 use Rattle.stamp_watch.specs.WatchLaws.{WithdrawsAtOnce, WithdrawsFirst, WithdrawnTakesNoEffect}
 
 -- phases are told apart
-abbrev IsIdle : Phase → Type 0
-IsIdle Idle = Unit {0}
-IsIdle (Asks call) = ⊥
-IsIdle (Gets reply) = ⊥
-
-abbrev IsAsking : Phase → Type 0
-IsAsking Idle = ⊥
-IsAsking (Asks call) = Unit {0}
-IsAsking (Gets reply) = ⊥
-
 pub idle_or_asks : {p : Phase} {call : Call} → p ≡ Idle → p ≡ Asks call → ⊥
-idle_or_asks idle asks = subst IsIdle (sym idle ∙ asks) tt
+idle_or_asks idle asks = cc
 
 pub idle_or_gets : {p : Phase} {reply : Reply} → p ≡ Idle → p ≡ Gets reply → ⊥
-idle_or_gets idle gets = subst IsIdle (sym idle ∙ gets) tt
+idle_or_gets idle gets = cc
 
 pub asks_or_gets : {p : Phase} {call : Call} {reply : Reply} → p ≡ Asks call → p ≡ Gets reply → ⊥
-asks_or_gets asks gets = subst IsAsking (sym asks ∙ gets) tt
-
-abbrev reply_in : Reply → Phase → Reply
-reply_in default Idle = default
-reply_in default (Asks call) = default
-reply_in default (Gets reply) = reply
+asks_or_gets asks gets = cc
 
 pub one_reply : {p : Phase} {a b : Reply} → p ≡ Gets a → p ≡ Gets b → a ≡ b
-one_reply {p} {a} {b} is other = ap (reply_in a) (sym is ∙ other)
-
-abbrev call_in : Call → Phase → Call
-call_in default Idle = default
-call_in default (Asks call) = call
-call_in default (Gets reply) = default
+one_reply is other = cc
 
 pub one_call : {p : Phase} {a b : Call} → p ≡ Asks a → p ≡ Asks b → a ≡ b
-one_call {p} {a} {b} is other = ap (call_in a) (sym is ∙ other)
+one_call is other = cc
 
 -- one lane's phase set
-abbrev pick : {A : Type 0} → A ⊎ (¬ A) → Phase → Phase → Phase
+abbrev pub pick : {A X : Type 0} → A ⊎ (¬ A) → X → X → X
 pick (inl is) x y = x
 pick (inr not) x y = y
 
-picks_first : {A : Type 0} (d : A ⊎ (¬ A)) (x y : Phase) → A → pick d x y ≡ x
+pub picks_first : {A X : Type 0} (d : A ⊎ (¬ A)) (x y : X) → A → pick d x y ≡ x
 picks_first (inl is) x y a = refl
 picks_first (inr not) x y a = absurd (not a)
 
-picks_second : {A : Type 0} (d : A ⊎ (¬ A)) (x y : Phase) → (¬ A) → pick d x y ≡ y
+pub picks_second : {A X : Type 0} (d : A ⊎ (¬ A)) (x y : X) → (¬ A) → pick d x y ≡ y
 picks_second (inl is) x y not = absurd (not is)
 picks_second (inr other) x y not = refl
 
@@ -240,8 +220,8 @@ gotten_is_told limits t gotten reply events s lanes gets tells (returns {events 
         gotten ≡ reply
     by (inl here) more = one_reply gets (subst (λ (v : ℕ). lanes v ≡ Gets r) here.0 is) ∙ here.1
     by (inr later_on) more = more later_on.0 later_on.1
-gotten_is_told limits t gotten reply events s lanes gets tells (withdraws {events = later} {after = after} u c asks sets
-    rest) = gotten_is_told limits t gotten reply later s after
+gotten_is_told limits t gotten reply events s lanes gets tells (withdraws {events = later} {after = after} u c asks
+    sets rest) = gotten_is_told limits t gotten reply later s after
     (sets.others t (λ e. (tells_past_withdrawal tells).0 (sym e)) ∙ gets) (tells_past_withdrawal tells).1 rest
 
 withdrawn_none : {t : ℕ} → IsWithdrawn t [] → ⊥
@@ -264,19 +244,19 @@ withdrawn_withdrawal (withdrawn_past_withdrawal u apart withdrawn) = inr withdra
 -- a call that is withdrawn is not in effect
 pub withdrawn_takes_no_effect : WithdrawnTakesNoEffect
 withdrawn_takes_no_effect limits t reply events s lanes gets withdrawn at_end = withdrawn_none withdrawn
-withdrawn_takes_no_effect limits t reply events s lanes gets withdrawn (takes_effect {next = next} {after = after} u c r
-    asks step sets rest) = withdrawn_takes_no_effect limits t reply events next after
+withdrawn_takes_no_effect limits t reply events s lanes gets withdrawn (takes_effect {next = next} {after = after} u c
+    r asks step sets rest) = withdrawn_takes_no_effect limits t reply events next after
     (sets.others t (λ e. asks_or_gets asks (subst (λ (v : ℕ). lanes v ≡ Gets reply) e gets)) ∙ gets) withdrawn rest
-withdrawn_takes_no_effect limits t reply events s lanes gets withdrawn (begins {events = later} {after = after} u c idle
-    sets rest) = withdrawn_takes_no_effect limits t reply later s after
+withdrawn_takes_no_effect limits t reply events s lanes gets withdrawn (begins {events = later} {after = after} u c
+    idle sets rest) = withdrawn_takes_no_effect limits t reply later s after
     (sets.others t (λ e. idle_or_gets idle (subst (λ (v : ℕ). lanes v ≡ Gets reply) e gets)) ∙ gets)
     (withdrawn_beginning withdrawn) rest
 withdrawn_takes_no_effect limits t reply events s lanes gets withdrawn (returns {events = later} {after = after} u r is
     sets rest) = withdrawn_takes_no_effect limits t reply later s after
     (sets.others t (λ e. (withdrawn_return withdrawn).0 (sym e)) ∙ gets) (withdrawn_return withdrawn).1 rest
 withdrawn_takes_no_effect limits t reply events s lanes gets withdrawn (withdraws {events = later} {after = after} u c
-    asks sets rest) = by (withdrawn_withdrawal withdrawn) (λ more. withdrawn_takes_no_effect limits t reply later s after
-    (sets.others t (λ e. apart (sym e)) ∙ gets) more rest)
+    asks sets rest) = by (withdrawn_withdrawal withdrawn) (λ more.
+    withdrawn_takes_no_effect limits t reply later s after (sets.others t (λ e. apart (sym e)) ∙ gets) more rest)
   where
     apart : u ≢ t
     apart e = asks_or_gets (subst (λ (v : ℕ). lanes v ≡ Asks c) e asks) gets

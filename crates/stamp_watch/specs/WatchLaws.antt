@@ -1,15 +1,18 @@
 -- The laws of runs, over the definitions alone.
-use Rattle.std.specs.Prelude.{ℕ, ◌≡◌, ◌≢◌, ◌≤◌, ◌<◌, ◌++◌, List, [], ◌∷◌, length}
+use Rattle.std.specs.Prelude.{ℕ, ◌≡◌, ◌≢◌, ◌≤◌, ◌<◌, ◌↔◌, ◌++◌, List, [], ◌∷◌, length}
 use Rattle.stamp_core.specs.LockEvent.{LockEvent, write_count}
 use Rattle.stamp_core.specs.Limits.{Bounds}
 use Rattle.stamp_core.specs.declared.call.Call.{Call}
 use Rattle.stamp_core.specs.declared.reply.Reply.{Reply}
+use Rattle.stamp_explain.specs.Explained.{IsExplained}
 use Rattle.stamp_watch.specs.declared.event.Event.{Event}
 use Rattle.stamp_watch.specs.declared.event.Event.TheVariants.{Begins, Returns, Withdraws}
 use Rattle.stamp_watch.specs.Run.{AreExplained, AreStuckAt, Configuration, opening, Lanes, LockStep, Sets, Survives}
 use Rattle.stamp_watch.specs.Run.Phase.{Idle, Asks, Gets}
 use Rattle.stamp_watch.specs.Ahead.{Tells, IsWithdrawn, EndsNever, ReturnsSooner, Spares}
+use Rattle.stamp_watch.specs.Form.{AreInForm}
 use Rattle.stamp_watch.specs.Watching.{Fits, GoesOn, StandFor, Told}
+use Rattle.stamp_watch.specs.AsObserved.{observed_of, IsStuckAtPosition, NoneIsWithdrawnLater}
 
 -- the lane is idle, and nothing is lost if its call begins at once
 pub record BeginsAtOnce (limits : Bounds) (lane : ℕ) (call : Call) (events : List Event) (s : List LockEvent)
@@ -150,3 +153,16 @@ BeginsSooner =
     (limits : Bounds) (lane : ℕ) (call : Call) (between rest : List Event) (s : List LockEvent)
     (lanes begun : Lanes) → Sets lanes begun lane (Asks call) → Spares lane between →
     Survives limits (between ++ Begins lane call ∷ rest) s lanes → Survives limits (between ++ rest) s begun
+
+-- A run is explained exactly where it is as an observed history.
+abbrev pub ExplainedAsObserved : Type 0
+ExplainedAsObserved =
+    (limits : Bounds) (events : List Event) → AreInForm events →
+    AreExplained limits events ↔ IsExplained (observed_of limits events)
+
+-- And it is stuck at an event exactly where that history is stuck there, if none of the calls that are open then is
+-- withdrawn later: the history does not tell of those.
+abbrev pub StuckAsObserved : Type 0
+StuckAsObserved =
+    (limits : Bounds) (events : List Event) (k : ℕ) → AreInForm events → NoneIsWithdrawnLater k events →
+    AreStuckAt limits events k ↔ IsStuckAtPosition (observed_of limits events) k

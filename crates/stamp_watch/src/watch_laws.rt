@@ -1,5 +1,5 @@
 //! Laws of runs. Each function does nothing; its contract is the law, over the definitions alone.
-ghost use Rattle.stamp_watch.specs.WatchLaws.{AtOnceLosesNothing, BeginsFirst, BeginsLate, BeginsSooner, OpeningStands, ReturnsFirst, SetsGoOn, SetsTell, ShorterStayExplained, SoonerAlikeFirst, StuckIsExact, TakesEffectFirst, UnchangingNeverNeeded, WithdrawnTakesNoEffect, WithdrawsFirst};
+ghost use Rattle.stamp_watch.specs.WatchLaws.{AtOnceLosesNothing, BeginsFirst, BeginsLate, BeginsSooner, ExplainedAsObserved, OpeningStands, ReturnsFirst, SetsGoOn, SetsTell, ShorterStayExplained, SoonerAlikeFirst, StuckIsExact, TakesEffectFirst, UnchangingNeverNeeded, WithdrawnTakesNoEffect, WithdrawsFirst};
 
 /// Where a call begins next, nothing is lost if it begins before other calls take effect.
 pub fn begins_first()
@@ -75,4 +75,10 @@ pub fn begins_late()
 /// A way on which a call begins later is one on which it begins sooner.
 pub fn begins_sooner()
     ensures { BeginsSooner }
+{}
+
+/// A run in form is explained exactly where it is as an observed history, whose positions are the numbers of the
+/// events.
+pub fn explained_as_observed()
+    ensures { ExplainedAsObserved }
 {}
