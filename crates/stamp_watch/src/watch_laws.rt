@@ -1,5 +1,5 @@
 //! Laws of runs. Each function does nothing; its contract is the law, over the definitions alone.
-ghost use Rattle.stamp_watch.specs.WatchLaws.{AtOnceLosesNothing, BeginsFirst, BeginsLate, BeginsSooner, ExplainedAsObserved, OpeningStands, ReturnsFirst, SetsGoOn, SetsTell, ShorterStayExplained, SoonerAlikeFirst, StuckIsExact, TakesEffectFirst, UnchangingNeverNeeded, WithdrawnTakesNoEffect, WithdrawsFirst};
+ghost use Rattle.stamp_watch.specs.WatchLaws.{AtOnceLosesNothing, BeginsFirst, BeginsLate, BeginsSooner, ExplainedAsObserved, OpeningStands, ReturnsFirst, SetsGoOn, SetsTell, ShorterStayExplained, SoonerAlikeFirst, StuckAsObserved, StuckIsExact, TakesEffectFirst, UnchangingNeverNeeded, WithdrawnTakesNoEffect, WithdrawsFirst};
 
 /// Where a call begins next, nothing is lost if it begins before other calls take effect.
 pub fn begins_first()
@@ -81,4 +81,10 @@ pub fn begins_sooner()
 /// events.
 pub fn explained_as_observed()
     ensures { ExplainedAsObserved }
+{}
+
+/// A run in form is stuck at an event exactly where its observed history is stuck at the entry that returned there,
+/// if no call that is open then is withdrawn later.
+pub fn stuck_as_observed()
+    ensures { StuckAsObserved }
 {}

@@ -1,0 +1,541 @@
+-- A run is stuck at an event exactly where it is as an observed history.
+use Rattle.std.proofs.Common.{◌≡◌, ◌≢◌, ◌⊎◌, ℕ, suc, zero, ◌+◌, ◌==◌, Bool, true, false, List, [], ◌∷◌, ◌++◌}
+use Rattle.std.proofs.Common.{refl, sym, ◌∙◌, ap, subst, inl, inr, arith, add-one, eq-eqb, ne_eqb, Option, Some, None}
+use Rattle.std.specs.Prelude.{slice_get, map, take, drop, nat_lt, not, ◌&&◌, ◌||◌, if◌then◌else◌}
+use Rattle.std.specs.List.{Contains, fold}
+use Rattle.std.proofs.lemmas.Bool.{cases_eq, false≢true}
+use Rattle.std.proofs.lemmas.Bool.Decides.{nat_tests}
+use Rattle.std.proofs.lemmas.Option.{none-some, same_Some, slice_get-get_or}
+use Rattle.stamp_core.specs.LockEvent.{LockEvent}
+use Rattle.stamp_core.specs.Limits.{Bounds}
+use Rattle.stamp_core.specs.declared.call.Call.{Call}
+use Rattle.stamp_core.specs.declared.reply.Reply.{Reply}
+use Rattle.stamp_explain.specs.declared.observed.Observation.{Observation}
+use Rattle.stamp_explain.specs.declared.observed.Returned.{Returned}
+use Rattle.stamp_explain.specs.Observed.{observed_as, IsReturnAt}
+use Rattle.stamp_explain.specs.Explained.{IsExplained}
+use Rattle.stamp_explain.specs.Cut.{returned_by, cut_entries}
+use Rattle.stamp_explain.proofs.Lists.{none_in_empty}
+use Rattle.stamp_watch.specs.declared.event.Event.{Event}
+use Rattle.stamp_watch.specs.declared.event.Event.TheVariants.{Begins, Returns, Withdraws}
+use Rattle.stamp_watch.specs.Ahead.{IsWithdrawn}
+use Rattle.stamp_watch.specs.Ahead.IsWithdrawn.{withdrawn_next, withdrawn_past_return}
+use Rattle.stamp_watch.specs.AsObserved.{Ending, ending_of, with_entry, entries_from, observed_of}
+use Rattle.stamp_watch.specs.AsObserved.{IsStuckAtPosition, NoneIsWithdrawnLater}
+use Rattle.stamp_watch.specs.AsObserved.Ending.{StaysOpen, EndsBy, EndsWithdrawn}
+use Rattle.stamp_watch.specs.Form.{is_busy_then, MayCome, AreInFormFrom, AreInForm}
+use Rattle.stamp_watch.specs.Run.{AreExplained, AreStuckAt, Lanes, Survives, all_idle}
+use Rattle.stamp_watch.specs.Run.Phase.{Asks}
+use Rattle.stamp_watch.specs.Run.Survives.{at_end, takes_effect, begins, returns, withdraws}
+use Rattle.stamp_watch.specs.WatchLaws.{StuckAsObserved}
+use Rattle.stamp_watch.proofs.Surviving.{sets_of}
+use Rattle.stamp_watch.proofs.Numbered.{IsEntryOf, entry_returned, in_with_entry, with_entry_has, ended_by_return}
+use Rattle.stamp_watch.proofs.Numbered.{ended_past_withdrawal, ending_last, last_from, open_or_ended, return_ends}
+use Rattle.stamp_watch.proofs.Numbered.{return_spares, withdrawal_spares, contains_at}
+use Rattle.stamp_watch.proofs.Following.{has_call, free_idle, busy_begins, busy_returns, busy_withdraws, busy_takes}
+use Rattle.stamp_watch.proofs.AsObserved.{AreOfRun, run_explained, explained_run}
+use Rattle.stamp_watch.proofs.Shortening.{returned_below, shortened, AreKept, shortened_run}
+
+-- two lanes' calls do not end by one return
+ends_apart : (a b n : ℕ) (events : List Event) (q r : Returned) → ending_of a n events ≡ EndsBy q →
+    ending_of b n events ≡ EndsBy r → q.last ≡ r.last → a ≡ b
+ends_apart a b n [] q r ends other same = absurd (open_or_ended ends)
+ends_apart a b n (Begins lane call ∷ events) q r ends other same = ends_apart a b (n + 1) events q r ends other same
+ends_apart a b n (Returns lane reply ∷ events) q r ends other same = by (ended_by_return a lane n reply events q ends)
+    (ended_by_return b lane n reply events r other)
+    (λ late later. ends_apart a b (n + 1) events q r late later same)
+  where
+    here : {x : Returned} → x ≡ record { last = n; reply = reply } → x.last ≡ n
+    here is = ap (λ (o : Returned). o.last) is
+
+    by : ((lane ≡ a) × (q ≡ record { last = n; reply = reply })) ⊎
+        ((lane ≢ a) × (ending_of a (n + 1) events ≡ EndsBy q)) →
+        ((lane ≡ b) × (r ≡ record { last = n; reply = reply })) ⊎
+        ((lane ≢ b) × (ending_of b (n + 1) events ≡ EndsBy r)) →
+        (ending_of a (n + 1) events ≡ EndsBy q → ending_of b (n + 1) events ≡ EndsBy r → a ≡ b) → a ≡ b
+    by (inl first) (inl second) more = sym first.0 ∙ second.0
+    by (inl first) (inr second) more =
+        let at = here first.1 in let low = ending_last b (n + 1) events r second.1 in absurd (omega arith)
+    by (inr first) (inl second) more =
+        let at = here second.1 in let low = ending_last a (n + 1) events q first.1 in absurd (omega arith)
+    by (inr first) (inr second) more = more first.1 second.1
+ends_apart a b n (Withdraws lane ∷ events) q r ends other same = ends_apart a b (n + 1) events q r
+    (ended_past_withdrawal a lane n events q ends).1 (ended_past_withdrawal b lane n events r other).1 same
+
+-- the return that ends the call of a busy lane ends none that begins later
+ends_none_later : (busy : ℕ → Bool) (lane n : ℕ) (events : List Event) (e : Observation) (q r : Returned) →
+    AreInFormFrom busy events → busy lane ≡ true → ending_of lane n events ≡ EndsBy q →
+    Contains (entries_from n events) e → e.returned ≡ Some r → q.last ≡ r.last → ⊥
+ends_none_later busy lane n [] e q r form is ends has back same = none_in_empty e has
+ends_none_later busy lane n (Begins other call ∷ events) e q r form is ends has back same = by (in_with_entry other call
+    n (ending_of other (n + 1) events) (entries_from (n + 1) events) e has) (λ later. ends_none_later
+    (λ (v : ℕ). is_busy_then v (busy v) (Begins other call)) lane (n + 1) events e q r form.1
+    (ap (λ (b : Bool). b || busy lane) (ne_eqb other lane apart) ∙ is) ends later back same)
+  where
+    apart : other ≢ lane
+    apart e = false≢true (sym form.0.0 ∙ ap busy e ∙ is)
+
+    by : IsEntryOf other call n (ending_of other (n + 1) events) e ⊎ Contains (entries_from (n + 1) events) e →
+        (Contains (entries_from (n + 1) events) e → ⊥) → ⊥
+    by (inl its) _ = apart (sym (ends_apart lane other (n + 1) events q r ends
+        (entry_returned other call n (ending_of other (n + 1) events) e r its back) same))
+    by (inr later) more = more later
+ends_none_later busy lane n (Returns other reply ∷ events) e q r form is ends has back same =
+    by (ended_by_return lane other n reply events q ends) (λ apart more. ends_none_later
+    (λ (v : ℕ). is_busy_then v (busy v) (Returns other reply)) lane (n + 1) events e q r form.1
+    (ap (λ (b : Bool). not b && busy lane) (ne_eqb other lane apart) ∙ is) more has back same)
+  where
+    by : ((other ≡ lane) × (q ≡ record { last = n; reply = reply })) ⊎
+        ((other ≢ lane) × (ending_of lane (n + 1) events ≡ EndsBy q)) →
+        (other ≢ lane → ending_of lane (n + 1) events ≡ EndsBy q → ⊥) → ⊥
+    by (inl here) _ =
+        let at : q.last ≡ n = ap (λ (o : Returned). o.last) here.1 in
+        let low = last_from (n + 1) events e r has back in omega arith
+    by (inr past) more = more past.0 past.1
+ends_none_later busy lane n (Withdraws other ∷ events) e q r form is ends has back same =
+    let past = ended_past_withdrawal lane other n events q ends in ends_none_later
+    (λ (v : ℕ). is_busy_then v (busy v) (Withdraws other)) lane (n + 1) events e q r form.1
+    (ap (λ (b : Bool). not b && busy lane) (ne_eqb other lane past.0) ∙ is) past.1 has back same
+
+-- no two entries return at one position
+HaveOwnLasts : List Observation → Type 0
+HaveOwnLasts entries = (i j : ℕ) (e f : Observation) (q r : Returned) → slice_get entries i ≡ Some e →
+    slice_get entries j ≡ Some f → e.returned ≡ Some q → f.returned ≡ Some r → q.last ≡ r.last → i ≡ j
+
+own_lasts_more : (x : Observation) (entries : List Observation) →
+    ((e : Observation) (q r : Returned) → Contains entries e → x.returned ≡ Some q → e.returned ≡ Some r →
+    q.last ≢ r.last) → HaveOwnLasts entries → HaveOwnLasts (x ∷ entries)
+unfolding HaveOwnLasts
+own_lasts_more x entries others own zero zero e f q r at_e at_f back_e back_f same = refl
+own_lasts_more x entries others own zero (suc j) e f q r at_e at_f back_e back_f same =
+    absurd (others f q r (contains_at entries j f at_f)
+    (ap (λ (o : Observation). o.returned) (same_Some x e at_e) ∙ back_e) back_f same)
+own_lasts_more x entries others own (suc i) zero e f q r at_e at_f back_e back_f same =
+    absurd (others e r q (contains_at entries i e at_e)
+    (ap (λ (o : Observation). o.returned) (same_Some x f at_f) ∙ back_f) back_e (sym same))
+own_lasts_more x entries others own (suc i) (suc j) e f q r at_e at_f back_e back_f same =
+    ap suc (own i j e f q r at_e at_f back_e back_f same)
+
+own_lasts_with : (lane : ℕ) (call : Call) (n : ℕ) (ending : Ending) (entries : List Observation) →
+    ((e : Observation) (q r : Returned) → Contains entries e → ending ≡ EndsBy q → e.returned ≡ Some r →
+    q.last ≢ r.last) → HaveOwnLasts entries → HaveOwnLasts (with_entry lane call n ending entries)
+own_lasts_with lane call n StaysOpen entries others own = own_lasts_more
+    (record { thread = lane; call = call; first = n; returned = None }) entries
+    (λ e q r has is back. absurd (none-some q is)) own
+own_lasts_with lane call n (EndsBy o) entries others own = own_lasts_more
+    (record { thread = lane; call = call; first = n; returned = Some o }) entries
+    (λ e q r has is back. others e q r has (ap EndsBy (same_Some o q is)) back) own
+own_lasts_with lane call n EndsWithdrawn entries others own = own
+
+own_lasts : (busy : ℕ → Bool) (n : ℕ) (events : List Event) → AreInFormFrom busy events →
+    HaveOwnLasts (entries_from n events)
+unfolding HaveOwnLasts
+own_lasts busy n [] form = λ i j e f q r at_e at_f back_e back_f same. absurd (none-some e at_e)
+own_lasts busy n (Begins lane call ∷ events) form = own_lasts_with lane call n (ending_of lane (n + 1) events)
+    (entries_from (n + 1) events)
+    (λ e q r has ends back same. ends_none_later (λ (v : ℕ). is_busy_then v (busy v) (Begins lane call)) lane (n + 1)
+    events e q r form.1 (ap (λ (b : Bool). b || busy lane) (eq-eqb lane lane refl)) ends has back same)
+    (own_lasts (λ (v : ℕ). is_busy_then v (busy v) (Begins lane call)) (n + 1) events form.1)
+own_lasts busy n (Returns lane reply ∷ events) form =
+    own_lasts (λ (v : ℕ). is_busy_then v (busy v) (Returns lane reply)) (n + 1) events form.1
+own_lasts busy n (Withdraws lane ∷ events) form =
+    own_lasts (λ (v : ℕ). is_busy_then v (busy v) (Withdraws lane)) (n + 1) events form.1
+
+-- so a cut at a return is the run up to there
+cut_is_short : (last bound i end : ℕ) (entries : List Observation) →
+    ((j k : ℕ) (e : Observation) → k ≡ i + j → slice_get entries j ≡ Some e →
+    returned_by last bound k e.returned ≡ returned_below end e.returned) →
+    cut_entries last bound i entries ≡ map (shortened end) entries
+cut_is_short last bound i end [] each = refl
+cut_is_short last bound i end (e ∷ entries) each =
+    ap (λ (b : Bool). (if b then e else record e { returned = None }) ∷ cut_entries last bound (i + 1) entries)
+    (each 0 i e (omega arith) refl) ∙ ap (λ (es : List Observation). shortened end e ∷ es)
+    (cut_is_short last bound (i + 1) end entries (λ j k f at is. each (suc j) k f (omega arith) is))
+
+module _ (events : List Event) (form : AreInForm events) (i : ℕ) (e : Observation) (r : Returned)
+    (is_entry : slice_get (entries_from 0 events) i ≡ Some e) (returned : e.returned ≡ Some r)
+  where
+    own : (j : ℕ) (f : Observation) (q : Returned) → slice_get (entries_from 0 events) j ≡ Some f →
+        f.returned ≡ Some q → q.last ≡ r.last → j ≡ i
+    unfolding HaveOwnLasts
+    own j f q at back same = own_lasts (λ (lane : ℕ). false) 0 events form j i f e q r at is_entry back returned same
+
+    pub cut_before_it : cut_entries r.last i 0 (entries_from 0 events) ≡
+        map (shortened r.last) (entries_from 0 events)
+    cut_before_it = cut_is_short r.last i 0 r.last (entries_from 0 events)
+        (λ j k f at is. by j k f.returned at (λ q back. own j f q is back))
+      where
+        by : (j k : ℕ) (o : Option Returned) → k ≡ 0 + j → ((q : Returned) → o ≡ Some q → q.last ≡ r.last → j ≡ i) →
+            returned_by r.last i k o ≡ returned_below r.last o
+        by j k None at one = refl
+        by j k (Some q) at one = test q.last (one q refl)
+          where
+            test : (n : ℕ) → (n ≡ r.last → j ≡ i) → (nat_lt n r.last || ((n == r.last) && nat_lt k i)) ≡ nat_lt n r.last
+            test n here = grind (arith, nat_tests)
+
+    pub cut_after_it : cut_entries r.last (i + 1) 0 (entries_from 0 events) ≡
+        map (shortened (suc r.last)) (entries_from 0 events)
+    cut_after_it = cut_is_short r.last (i + 1) 0 (suc r.last) (entries_from 0 events)
+        (λ j k f at is. by j k f.returned at (λ q back. own j f q is back))
+      where
+        by : (j k : ℕ) (o : Option Returned) → k ≡ 0 + j → ((q : Returned) → o ≡ Some q → q.last ≡ r.last → j ≡ i) →
+            returned_by r.last (i + 1) k o ≡ returned_below (suc r.last) o
+        by j k None at one = refl
+        by j k (Some q) at one = test q.last (one q refl)
+          where
+            test : (n : ℕ) → (n ≡ r.last → j ≡ i) →
+                (nat_lt n r.last || ((n == r.last) && nat_lt k (i + 1))) ≡ nat_lt n (suc r.last)
+            test n here = grind (arith, nat_tests)
+
+-- the event at k, and the events up to it
+take_none : (k : ℕ) (events : List Event) → slice_get events k ≡ None → take (suc k) events ≡ take k events
+take_none zero [] none = refl
+take_none (suc k) [] none = refl
+take_none zero (x ∷ events) none = absurd (none-some x (sym none))
+take_none (suc k) (x ∷ events) none = ap (λ (es : List Event). x ∷ es) (take_none k events none)
+
+take_one : (k : ℕ) (events : List Event) (event : Event) → slice_get events k ≡ Some event →
+    take (suc k) events ≡ take k events ++ event ∷ []
+take_one zero [] event is = absurd (none-some event is)
+take_one (suc k) [] event is = absurd (none-some event is)
+take_one zero (x ∷ events) event is = ap (λ (e : Event). e ∷ []) (same_Some x event is)
+take_one (suc k) (x ∷ events) event is = ap (λ (es : List Event). x ∷ es) (take_one k events event is)
+
+form_up_to : (k : ℕ) (busy : ℕ → Bool) (events : List Event) → AreInFormFrom busy events →
+    AreInFormFrom busy (take k events)
+form_up_to zero busy events form = tt
+form_up_to (suc k) busy [] form = tt
+form_up_to (suc k) busy (event ∷ events) form =
+    (form.0, form_up_to k (λ (lane : ℕ). is_busy_then lane (busy lane) event) events form.1)
+
+may_come_at : (k : ℕ) (busy : ℕ → Bool) (events : List Event) (event : Event) → AreInFormFrom busy events →
+    slice_get events k ≡ Some event →
+    MayCome (λ (lane : ℕ). fold (is_busy_then lane) (busy lane) (take k events)) event
+may_come_at zero busy [] event form is = absurd (none-some event is)
+may_come_at (suc k) busy [] event form is = absurd (none-some event is)
+may_come_at zero busy (x ∷ events) event form is = subst (λ (e : Event). MayCome busy e) (same_Some x event is) form.0
+may_come_at (suc k) busy (x ∷ events) event form is =
+    may_come_at k (λ (lane : ℕ). is_busy_then lane (busy lane) x) events event form.1 is
+
+withdrawn_at : (k lane : ℕ) (events : List Event) → slice_get events k ≡ Some (Withdraws lane) →
+    IsWithdrawn lane (drop k events)
+withdrawn_at zero lane [] is = absurd (none-some (Withdraws lane) is)
+withdrawn_at (suc k) lane [] is = absurd (none-some (Withdraws lane) is)
+withdrawn_at zero lane (x ∷ events) is = subst (λ (e : Event). IsWithdrawn lane (e ∷ events))
+    (sym (same_Some x (Withdraws lane) is)) withdrawn_next
+withdrawn_at (suc k) lane (x ∷ events) is = withdrawn_at k lane events is
+
+-- what is kept at a return is kept behind it
+kept_past_return : (k : ℕ) (busy : ℕ → Bool) (events : List Event) (u : ℕ) (reply : Reply) →
+    slice_get events k ≡ Some (Returns u reply) → AreKept busy k events → AreKept busy (suc k) events
+kept_past_return zero busy [] u reply is kept = absurd (none-some (Returns u reply) is)
+kept_past_return (suc k) busy [] u reply is kept = absurd (none-some (Returns u reply) is)
+kept_past_return zero busy (x ∷ events) u reply is kept = λ lane still withdrawn.
+    by lane (cases_eq u lane) (subst (λ (e : Event). is_busy_then lane (busy lane) e ≡ true) first still) withdrawn
+  where
+    first : x ≡ Returns u reply
+    first = same_Some x (Returns u reply) is
+
+    second : (a b : Bool) → (a && b) ≡ true → b ≡ true
+    second true b both = both
+    second false b both = absurd (false≢true both)
+
+    by : (lane : ℕ) → (u ≡ lane) ⊎ (u ≢ lane) → (not (u == lane) && busy lane) ≡ true → IsWithdrawn lane events → ⊥
+    by lane (inl same) still withdrawn =
+        false≢true (sym (ap (λ (b : Bool). not b && busy lane) (eq-eqb u lane same)) ∙ still)
+    by lane (inr apart) still withdrawn = kept lane (second (not (u == lane)) (busy lane) still)
+        (subst (λ (e : Event). IsWithdrawn lane (e ∷ events)) (sym first)
+        (withdrawn_past_return u reply apart withdrawn))
+kept_past_return (suc k) busy (x ∷ events) u reply is kept =
+    kept_past_return k (λ (lane : ℕ). is_busy_then lane (busy lane) x) events u reply is kept
+
+-- a call may begin on each way in a lane that is free
+begins_next : (limits : Bounds) (lane : ℕ) (call : Call) (events : List Event) (s : List LockEvent) (lanes : Lanes)
+    (busy : Bool) → busy ≡ has_call (lanes lane) → fold (is_busy_then lane) busy events ≡ false →
+    Survives limits events s lanes → Survives limits (events ++ Begins lane call ∷ []) s lanes
+begins_next limits lane call events s lanes busy has free at_end = begins lane call
+    (free_idle (lanes lane) (sym has ∙ free)) (sets_of lanes lane (Asks call)) at_end
+begins_next limits lane call events s lanes busy has free (takes_effect {next = next} {after = after} u c r asks step
+    sets rest) = takes_effect u c r asks step sets (begins_next limits lane call events next after busy
+    (busy_takes lanes after u lane c r busy asks sets has) free rest)
+begins_next limits lane call events s lanes busy has free (begins {events = more} {after = after} u c idle sets rest) =
+    begins u c idle sets (begins_next limits lane call more s after (is_busy_then lane busy (Begins u c))
+    (busy_begins lanes after u lane c busy sets has) free rest)
+begins_next limits lane call events s lanes busy has free (returns {events = more} {after = after} u r gets sets rest) =
+    returns u r gets sets (begins_next limits lane call more s after (is_busy_then lane busy (Returns u r))
+    (busy_returns lanes after u lane r busy sets has) free rest)
+begins_next limits lane call events s lanes busy has free (withdraws {events = more} {after = after} u c asks sets
+    rest) = withdraws u c asks sets (begins_next limits lane call more s after (is_busy_then lane busy (Withdraws u))
+    (busy_withdraws lanes after u lane busy sets has) free rest)
+
+-- each return is that of an entry
+record HasReturnAt (entries : List Observation) (r : Returned) : Type 0 where
+  entry : Observation
+  has : Contains entries entry
+  back : entry.returned ≡ Some r
+
+entry_of_return : (busy : ℕ → Bool) (n k at : ℕ) (events : List Event) (lane : ℕ) (reply : Reply) → at ≡ n + k →
+    AreInFormFrom busy events → slice_get events k ≡ Some (Returns lane reply) →
+    ((busy lane ≡ true) × (ending_of lane n events ≡ EndsBy (record { last = at; reply = reply }))) ⊎
+    HasReturnAt (entries_from n events) (record { last = at; reply = reply })
+entry_of_return busy n zero at [] lane reply same form is = absurd (none-some (Returns lane reply) is)
+entry_of_return busy n (suc k) at [] lane reply same form is = absurd (none-some (Returns lane reply) is)
+entry_of_return busy n zero at (x ∷ events) lane reply same form is = inl (
+  may,
+  subst
+      (λ (e : Event). ending_of lane n (e ∷ events) ≡ EndsBy (record { last = at; reply = reply })) (sym first)
+      (return_ends lane lane n reply events refl ∙ ap (λ (m : ℕ). EndsBy (record { last = m; reply = reply }))
+      (omega arith)),
+)
+  where
+    first : x ≡ Returns lane reply
+    first = same_Some x (Returns lane reply) is
+
+    may : busy lane ≡ true
+    may = subst (λ (e : Event). MayCome busy e) first form.0
+entry_of_return busy n (suc k) at (Begins other call ∷ events) lane reply same form is = by (entry_of_return
+    (λ (v : ℕ). is_busy_then v (busy v) (Begins other call)) (n + 1) k at events lane reply (omega arith) form.1 is)
+  where
+    here : (other ≡ lane) ⊎ (other ≢ lane) → ((other == lane) || busy lane) ≡ true →
+        ending_of lane (n + 1) events ≡ EndsBy (record { last = at; reply = reply }) →
+        ((busy lane ≡ true) × (ending_of lane (n + 1) events ≡ EndsBy (record { last = at; reply = reply }))) ⊎
+        HasReturnAt (entries_from n (Begins other call ∷ events)) (record { last = at; reply = reply })
+    here (inl its) may ends = inr (record {
+      entry = record {
+        thread = other;
+        call = call;
+        first = n;
+        returned = Some (record { last = at; reply = reply });
+      };
+      has = with_entry_has other call n (ending_of other (n + 1) events) (entries_from (n + 1) events)
+          (record { thread = other; call = call; first = n; returned = Some (record { last = at; reply = reply }) })
+          (inl (subst (λ (x : Ending). IsEntryOf other call n x (record {
+            thread = other;
+            call = call;
+            first = n;
+            returned = Some (record { last = at; reply = reply });
+          })) (sym (ap (λ (v : ℕ). ending_of v (n + 1) events) its ∙ ends)) refl));
+      back = refl;
+    })
+    here (inr apart) may ends = inl (sym (ap (λ (b : Bool). b || busy lane) (ne_eqb other lane apart)) ∙ may, ends)
+
+    by : ((((other == lane) || busy lane) ≡ true) ×
+        (ending_of lane (n + 1) events ≡ EndsBy (record { last = at; reply = reply }))) ⊎
+        HasReturnAt (entries_from (n + 1) events) (record { last = at; reply = reply }) →
+        ((busy lane ≡ true) × (ending_of lane (n + 1) events ≡ EndsBy (record { last = at; reply = reply }))) ⊎
+        HasReturnAt (entries_from n (Begins other call ∷ events)) (record { last = at; reply = reply })
+    by (inl open_now) = here (cases_eq other lane) open_now.0 open_now.1
+    by (inr found) = inr (record {
+      entry = found.entry;
+      has = with_entry_has other call n (ending_of other (n + 1) events) (entries_from (n + 1) events) found.entry
+          (inr found.has);
+      back = found.back;
+    })
+entry_of_return busy n (suc k) at (Returns other answer ∷ events) lane reply same form is = by (entry_of_return
+    (λ (v : ℕ). is_busy_then v (busy v) (Returns other answer)) (n + 1) k at events lane reply (omega arith) form.1 is)
+    (cases_eq other lane)
+  where
+    by : (((not (other == lane) && busy lane) ≡ true) ×
+        (ending_of lane (n + 1) events ≡ EndsBy (record { last = at; reply = reply }))) ⊎
+        HasReturnAt (entries_from (n + 1) events) (record { last = at; reply = reply }) →
+        (other ≡ lane) ⊎ (other ≢ lane) →
+        ((busy lane ≡ true) ×
+        (ending_of lane n (Returns other answer ∷ events) ≡ EndsBy (record { last = at; reply = reply }))) ⊎
+        HasReturnAt (entries_from (n + 1) events) (record { last = at; reply = reply })
+    by (inr found) _ = inr found
+    by (inl open_now) (inl its) = absurd (false≢true
+        (sym (ap (λ (b : Bool). not b && busy lane) (eq-eqb other lane its)) ∙ open_now.0))
+    by (inl open_now) (inr apart) = inl (
+      sym (ap (λ (b : Bool). not b && busy lane) (ne_eqb other lane apart)) ∙
+          open_now.0,
+      return_spares lane other n answer events apart ∙ open_now.1,
+    )
+entry_of_return busy n (suc k) at (Withdraws other ∷ events) lane reply same form is = by (entry_of_return
+    (λ (v : ℕ). is_busy_then v (busy v) (Withdraws other)) (n + 1) k at events lane reply (omega arith) form.1 is)
+    (cases_eq other lane)
+  where
+    by : (((not (other == lane) && busy lane) ≡ true) ×
+        (ending_of lane (n + 1) events ≡ EndsBy (record { last = at; reply = reply }))) ⊎
+        HasReturnAt (entries_from (n + 1) events) (record { last = at; reply = reply }) →
+        (other ≡ lane) ⊎ (other ≢ lane) →
+        ((busy lane ≡ true) ×
+        (ending_of lane n (Withdraws other ∷ events) ≡ EndsBy (record { last = at; reply = reply }))) ⊎
+        HasReturnAt (entries_from (n + 1) events) (record { last = at; reply = reply })
+    by (inr found) _ = inr found
+    by (inl open_now) (inl its) = absurd (false≢true
+        (sym (ap (λ (b : Bool). not b && busy lane) (eq-eqb other lane its)) ∙ open_now.0))
+    by (inl open_now) (inr apart) = inl (
+      sym (ap (λ (b : Bool). not b && busy lane) (ne_eqb other lane apart)) ∙
+          open_now.0,
+      withdrawal_spares lane other n events apart ∙ open_now.1,
+    )
+
+-- and an entry that returned has its return among the events
+record IsReturnThere (k : ℕ) (events : List Event) : Type 0 where
+  lane : ℕ
+  reply : Reply
+  is : slice_get events k ≡ Some (Returns lane reply)
+
+return_of_ending : (lane n k : ℕ) (events : List Event) (r : Returned) → ending_of lane n events ≡ EndsBy r →
+    r.last ≡ n + k → IsReturnThere k events
+return_of_ending lane n k [] r ends at = absurd (open_or_ended ends)
+return_of_ending lane n zero (Begins other call ∷ events) r ends at =
+    let low = ending_last lane (n + 1) events r ends in absurd (omega arith)
+return_of_ending lane n (suc k) (Begins other call ∷ events) r ends at =
+    let found = return_of_ending lane (n + 1) k events r ends (omega arith) in
+    record { lane = found.lane; reply = found.reply; is = found.is }
+return_of_ending lane n zero (Returns other reply ∷ events) r ends at =
+    record { lane = other; reply = reply; is = refl }
+return_of_ending lane n (suc k) (Returns other reply ∷ events) r ends at =
+    by (ended_by_return lane other n reply events r ends)
+    (λ more. return_of_ending lane (n + 1) k events r more (omega arith))
+  where
+    by : ((other ≡ lane) × (r ≡ record { last = n; reply = reply })) ⊎
+        ((other ≢ lane) × (ending_of lane (n + 1) events ≡ EndsBy r)) →
+        (ending_of lane (n + 1) events ≡ EndsBy r → IsReturnThere k events) →
+        IsReturnThere (suc k) (Returns other reply ∷ events)
+    by (inl here) _ = let last : r.last ≡ n = ap (λ (o : Returned). o.last) here.1 in absurd (omega arith)
+    by (inr past) more = let found = more past.1 in
+        record { lane = found.lane; reply = found.reply; is = found.is }
+return_of_ending lane n zero (Withdraws other ∷ events) r ends at =
+    let low = ending_last lane (n + 1) events r (ended_past_withdrawal lane other n events r ends).1 in
+    absurd (omega arith)
+return_of_ending lane n (suc k) (Withdraws other ∷ events) r ends at =
+    let found = return_of_ending lane (n + 1) k events r (ended_past_withdrawal lane other n events r ends).1
+    (omega arith) in
+    record { lane = found.lane; reply = found.reply; is = found.is }
+
+return_of_entry : (n k : ℕ) (events : List Event) (e : Observation) (r : Returned) →
+    Contains (entries_from n events) e → e.returned ≡ Some r → r.last ≡ n + k → IsReturnThere k events
+return_of_entry n k [] e r has back at = absurd (none_in_empty e has)
+return_of_entry n zero events e r has back at = let low = last_from n events e r has back in absurd (omega arith)
+return_of_entry n (suc k) (Begins lane call ∷ events) e r has back at = by (in_with_entry lane call n
+    (ending_of lane (n + 1) events) (entries_from (n + 1) events) e has)
+    (λ later. return_of_entry (n + 1) k events e r later back (omega arith))
+  where
+    by : IsEntryOf lane call n (ending_of lane (n + 1) events) e ⊎ Contains (entries_from (n + 1) events) e →
+        (Contains (entries_from (n + 1) events) e → IsReturnThere k events) →
+        IsReturnThere (suc k) (Begins lane call ∷ events)
+    by (inl is) _ =
+        let found = return_of_ending lane (n + 1) k events r
+        (entry_returned lane call n (ending_of lane (n + 1) events) e r is back) (omega arith) in
+        record { lane = found.lane; reply = found.reply; is = found.is }
+    by (inr later) more = let found = more later in
+        record { lane = found.lane; reply = found.reply; is = found.is }
+return_of_entry n (suc k) (Returns lane reply ∷ events) e r has back at =
+    let found = return_of_entry (n + 1) k events e r has back (omega arith) in
+    record { lane = found.lane; reply = found.reply; is = found.is }
+return_of_entry n (suc k) (Withdraws lane ∷ events) e r has back at =
+    let found = return_of_entry (n + 1) k events e r has back (omega arith) in
+    record { lane = found.lane; reply = found.reply; is = found.is }
+
+-- at the return of an entry, with the events up to it
+module _ (limits : Bounds) (events : List Event) (form : AreInForm events) (i : ℕ) (e : Observation) (r : Returned)
+    (is_entry : slice_get (entries_from 0 events) i ≡ Some e) (returned : e.returned ≡ Some r)
+    (kept : AreKept (λ (lane : ℕ). false) r.last events)
+  where
+    before : AreOfRun (map (shortened r.last) (entries_from 0 events)) (take r.last events)
+    before = shortened_run r.last events form kept
+
+    there : IsReturnThere r.last events
+    there = return_of_entry 0 r.last events e r (contains_at (entries_from 0 events) i e is_entry) returned (omega arith)
+
+    after : AreOfRun (map (shortened (suc r.last)) (entries_from 0 events)) (take (suc r.last) events)
+    after = shortened_run (suc r.last) events form (kept_past_return r.last (λ (lane : ℕ). false) events there.lane
+        there.reply there.is kept)
+
+    pub explained_before : AreExplained limits (take r.last events) →
+        IsExplained (observed_as limits 0 (cut_entries r.last i 0 (entries_from 0 events)))
+    explained_before explained = subst (λ (es : List Observation). IsExplained (observed_as limits 0 es))
+        (sym (cut_before_it events form i e r is_entry returned))
+        (run_explained limits (map (shortened r.last) (entries_from 0 events)) (take r.last events) before explained)
+
+    pub before_explained : IsExplained (observed_as limits 0 (cut_entries r.last i 0 (entries_from 0 events))) →
+        AreExplained limits (take r.last events)
+    before_explained explained = explained_run limits (map (shortened r.last) (entries_from 0 events))
+        (take r.last events) (form_up_to r.last (λ (lane : ℕ). false) events form) before
+        (subst (λ (es : List Observation). IsExplained (observed_as limits 0 es))
+        (cut_before_it events form i e r is_entry returned) explained)
+
+    pub explained_after : AreExplained limits (take (suc r.last) events) →
+        IsExplained (observed_as limits 0 (cut_entries r.last (i + 1) 0 (entries_from 0 events)))
+    explained_after explained = subst (λ (es : List Observation). IsExplained (observed_as limits 0 es))
+        (sym (cut_after_it events form i e r is_entry returned))
+        (run_explained limits (map (shortened (suc r.last)) (entries_from 0 events)) (take (suc r.last) events) after
+        explained)
+
+    pub after_explained : IsExplained (observed_as limits 0 (cut_entries r.last (i + 1) 0 (entries_from 0 events))) →
+        AreExplained limits (take (suc r.last) events)
+    after_explained explained = explained_run limits (map (shortened (suc r.last)) (entries_from 0 events))
+        (take (suc r.last) events) (form_up_to (suc r.last) (λ (lane : ℕ). false) events form) after
+        (subst (λ (es : List Observation). IsExplained (observed_as limits 0 es))
+        (cut_after_it events form i e r is_entry returned) explained)
+
+stuck_there : (limits : Bounds) (events : List Event) (k : ℕ) → AreInForm events → NoneIsWithdrawnLater k events →
+    AreStuckAt limits events k → IsStuckAtPosition (observed_of limits events) k
+stuck_there limits events k form kept are = at (slice_get events k) refl
+  where
+    stuck : ¬ AreExplained limits (take (suc k) events)
+    stuck explained = are.stuck (subst (λ (n : ℕ). AreExplained limits (take n events)) (sym (add-one k)) explained)
+
+    here : (reply : Reply) → HasReturnAt (entries_from 0 events) (record { last = k; reply = reply }) →
+        IsStuckAtPosition (observed_of limits events) k
+    here reply found = record {
+      entry = found.has.0;
+      stuck = record {
+        at = record {
+          entry = found.entry;
+          return = record { last = k; reply = reply };
+          is_entry = place;
+          returned = found.back;
+        };
+        explained = explained_before limits events form found.has.0 found.entry (record { last = k; reply = reply })
+            place found.back kept are.explained;
+        stuck = λ explained. stuck (after_explained limits events form found.has.0 found.entry
+            (record { last = k; reply = reply }) place found.back kept explained);
+      };
+      here = refl;
+    }
+      where
+        place : slice_get (entries_from 0 events) found.has.0 ≡ Some found.entry
+        place = slice_get-get_or (entries_from 0 events) found.has.0 found.entry found.has.1 ∙
+            ap (λ (o : Observation). Some o) found.has.2
+
+    returned : (lane : ℕ) (reply : Reply) → ((false ≡ true) × (ending_of lane 0 events ≡
+        EndsBy (record { last = k; reply = reply }))) ⊎
+        HasReturnAt (entries_from 0 events) (record { last = k; reply = reply }) →
+        IsStuckAtPosition (observed_of limits events) k
+    returned lane reply (inl never) = absurd (false≢true never.0)
+    returned lane reply (inr found) = here reply found
+
+    by : (event : Event) → slice_get events k ≡ Some event → IsStuckAtPosition (observed_of limits events) k
+    by (Begins lane call) is = absurd (stuck (subst (AreExplained limits)
+        (sym (take_one k events (Begins lane call) is)) (begins_next limits lane call (take k events) [] all_idle false
+        refl (may_come_at k (λ (other : ℕ). false) events (Begins lane call) form is).0 are.explained)))
+    by (Returns lane reply) is = returned lane reply (entry_of_return (λ (other : ℕ). false) 0 k k events lane reply
+        (omega arith) form is)
+    by (Withdraws lane) is = absurd (kept lane (may_come_at k (λ (other : ℕ). false) events (Withdraws lane) form is)
+        (withdrawn_at k lane events is))
+
+    at : (o : Option Event) → slice_get events k ≡ o → IsStuckAtPosition (observed_of limits events) k
+    at None is = absurd (stuck (subst (AreExplained limits) (sym (take_none k events is)) are.explained))
+    at (Some event) is = by event is
+
+there_stuck : (limits : Bounds) (events : List Event) (k : ℕ) → AreInForm events → NoneIsWithdrawnLater k events →
+    IsStuckAtPosition (observed_of limits events) k → AreStuckAt limits events k
+there_stuck limits events k form kept found = subst (AreStuckAt limits events) found.here (record {
+  explained = before_explained limits events form found.entry at.entry at.return at.is_entry at.returned now
+      found.stuck.explained;
+  stuck = λ explained. found.stuck.stuck (explained_after limits events form found.entry at.entry at.return at.is_entry
+      at.returned now (subst (λ (n : ℕ). AreExplained limits (take n events)) (add-one at.return.last) explained));
+})
+  where
+    at : IsReturnAt (entries_from 0 events) found.entry
+    at = found.stuck.at
+
+    now : AreKept (λ (lane : ℕ). false) found.stuck.at.return.last events
+    now = subst (λ (n : ℕ). AreKept (λ (lane : ℕ). false) n events) (sym found.here) kept
+
+pub stuck_as_observed : StuckAsObserved
+stuck_as_observed limits events k form kept =
+    ((λ are. stuck_there limits events k form kept are), (λ found. there_stuck limits events k form kept found))
