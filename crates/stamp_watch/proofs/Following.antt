@@ -23,11 +23,11 @@ use Rattle.stamp_watch.specs.Run.Survives.{at_end, takes_effect, begins, returns
 use Rattle.stamp_watch.proofs.Surviving.{idle_or_asks, idle_or_gets, asks_or_gets, one_reply, set_of, sets_of}
 use Rattle.stamp_watch.proofs.Numbered.{IsEntryOf, IsReplyOf, entry_tells, entry_replies, one_entry, first_from}
 use Rattle.stamp_watch.proofs.Numbered.{return_ends, withdrawal_ends}
-use Rattle.stamp_watch.proofs.Remaining.{IsAhead, begun_at, begins_there, begins_back, EndsOne, ends_there, ends_back}
-use Rattle.stamp_watch.proofs.Remaining.{takes_there, takes_back, takes_apart}
+use Rattle.stamp_watch.proofs.Remaining.{IsAhead, begun_at, takes_there, takes_back, takes_apart, HaveBegun}
+use Rattle.stamp_watch.proofs.Remaining.{have_begun_still, HaveGot, MovesOn, begins_moves, returns_moves}
+use Rattle.stamp_watch.proofs.Remaining.{withdraws_moves}
 use Rattle.stamp_watch.proofs.Remaining.IsAhead.{of_open, of_later}
-use Rattle.stamp_watch.proofs.Planning.{entries_of, IsLate, IsPlan, same_plan, HaveBegun, have_begun, have_begun_still}
-use Rattle.stamp_watch.proofs.Planning.{return_is_end, withdrawal_is_end}
+use Rattle.stamp_watch.proofs.Planning.{entries_of, IsLate, IsPlan, same_plan}
 
 abbrev pub has_call : Phase → Bool
 has_call Idle = false
@@ -82,7 +82,7 @@ free_idle (Gets reply) free = absurd (false≢true (sym free))
 pub record Stands (busy : ℕ → Bool) (lanes : Lanes) (begun : ℕ → ℕ) (n : ℕ) (events : List Event) : Type 0 where
   pub has : (lane : ℕ) → busy lane ≡ has_call (lanes lane)
   pub low : HaveBegun lanes begun n
-  pub gets : (lane : ℕ) (reply : Reply) → lanes lane ≡ Gets reply → IsReplyOf reply (ending_of lane n events)
+  pub gets : HaveGot lanes n events
 
 abbrev pub PlanAt : Bounds → List Observation → Lanes → (ℕ → ℕ) → ℕ → List Event → List LockEvent → List Effect →
     Type 0
@@ -95,12 +95,34 @@ GoesAlong limits entries busy begun n events = (s : List LockEvent) (lanes : Lan
     Stands busy lanes begun n events → PlanAt limits entries lanes begun n events s order →
     Survives limits events s lanes
 
+-- and so past one event
+stands_past : (busy : ℕ → Bool) (lanes after : Lanes) (begun then_begun : ℕ → ℕ) (n : ℕ) (event : Event)
+    (events : List Event) → MovesOn lanes after begun then_begun n event events →
+    ((other : ℕ) → busy other ≡ has_call (lanes other) →
+    is_busy_then other (busy other) event ≡ has_call (after other)) →
+    Stands busy lanes begun n (event ∷ events) →
+    Stands (λ (other : ℕ). is_busy_then other (busy other) event) after then_begun (n + 1) events
+stands_past busy lanes after begun then_begun n event events moves still stands = record {
+  has = λ other. still other (stands.has other);
+  low = moves.low stands.low;
+  gets = moves.gets_there stands.gets;
+}
+
+plan_past : (limits : Bounds) (entries : List Observation) (lanes after : Lanes) (begun then_begun : ℕ → ℕ) (n : ℕ)
+    (event : Event) (events : List Event) (s : List LockEvent) (order : List Effect) →
+    MovesOn lanes after begun then_begun n event events →
+    PlanAt limits entries lanes begun n (event ∷ events) s order →
+    PlanAt limits entries after then_begun (n + 1) events s order
+plan_past limits entries lanes after begun then_begun n event events s order moves plan = same_plan limits entries
+    (IsAhead lanes begun n (event ∷ events)) (IsAhead after then_begun (n + 1) events) (n + length (event ∷ events))
+    (n + 1 + length events) s order (omega arith) moves.there moves.back plan
+
 abbrev pub AreSingle : List Observation → Type 0
 AreSingle entries = (i j : ℕ) (e : Observation) → slice_get entries i ≡ Some e → slice_get entries j ≡ Some e → i ≡ j
 
 -- the first of an order is an open call
-record IsOpenCall (limits : Bounds) (lanes : Lanes) (begun : ℕ → ℕ) (n : ℕ) (events : List Event) (s : List LockEvent)
-    (x : Effect) : Type 0 where
+record IsOpenCall (lanes : Lanes) (begun : ℕ → ℕ) (n : ℕ) (events : List Event) (x : Effect) : Type 0
+  where
   lane : ℕ
   call : Call
   asks : lanes lane ≡ Asks call
@@ -116,37 +138,22 @@ module _ (limits : Bounds) (entries : List Observation) (single : AreSingle entr
         lanes lane ≡ Gets gotten → Stands busy lanes begun n (Returns lane reply ∷ events) →
         PlanAt limits entries lanes begun n (Returns lane reply ∷ events) s order →
         Survives limits (Returns lane reply ∷ events) s lanes
-    now_returns gotten s lanes order gets stands plan = returns lane reply (gets ∙ ap Gets same) sets
-        (go s (set_of lanes lane Idle) order (record {
-          has = λ other. busy_returns lanes (set_of lanes lane Idle) lane other reply (busy other) sets
-              (stands.has other);
-          low = have_begun_still lanes (set_of lanes lane Idle) begun lane n (n + 1) (omega arith)
-              (λ c asks. idle_or_asks sets.here asks) sets.others stands.low;
-          gets = got;
-        }) (same_plan limits entries (IsAhead lanes begun n (Returns lane reply ∷ events))
-        (IsAhead (set_of lanes lane Idle) begun (n + 1) events) (n + length (Returns lane reply ∷ events))
-        (n + 1 + length events) s order (omega arith)
-        (λ e is. ends_there lanes (set_of lanes lane Idle) begun lane n (Returns lane reply) events e sets ends is)
-        (λ e is. ends_back lanes (set_of lanes lane Idle) begun lane n (Returns lane reply) events e sets ends is)
-        plan))
+    now_returns gotten s lanes order gets stands plan = returns lane reply is sets
+        (go s (set_of lanes lane Idle) order
+        (stands_past busy lanes (set_of lanes lane Idle) begun begun n (Returns lane reply) events moves
+        (λ other has. busy_returns lanes (set_of lanes lane Idle) lane other reply (busy other) sets has) stands)
+        (plan_past limits entries lanes (set_of lanes lane Idle) begun begun n (Returns lane reply) events s order
+        moves plan))
       where
         sets : Sets lanes (set_of lanes lane Idle) lane Idle
         sets = sets_of lanes lane Idle
 
-        same : gotten ≡ reply
-        same = sym (subst (λ (x : Ending). IsReplyOf gotten x) (return_ends lane lane n reply events refl)
-            (stands.gets lane gotten gets))
+        is : lanes lane ≡ Gets reply
+        is = gets ∙ ap Gets (sym (subst (λ (x : Ending). IsReplyOf gotten x)
+            (return_ends lane lane n reply events refl) (stands.gets lane gotten gets)))
 
-        ends : EndsOne lanes begun lane n (Returns lane reply) events
-        ends = return_is_end lanes begun lane n reply gotten events gets
-
-        got : (other : ℕ) (r : Reply) → set_of lanes lane Idle other ≡ Gets r → IsReplyOf r
-            (ending_of other (n + 1) events)
-        got other r is = subst (λ (x : Ending). IsReplyOf r x) (ends.spares other apart)
-            (stands.gets other r (sym (sets.others other apart) ∙ is))
-          where
-            apart : other ≢ lane
-            apart e = idle_or_gets sets.here (subst (λ (v : ℕ). set_of lanes lane Idle v ≡ Gets r) e is)
+        moves : MovesOn lanes (set_of lanes lane Idle) begun begun n (Returns lane reply) events
+        moves = returns_moves lanes (set_of lanes lane Idle) begun lane n reply events is sets
 
     -- the entry of the awaited call
     awaited : Call → Observation
@@ -173,7 +180,7 @@ module _ (limits : Bounds) (entries : List Observation) (single : AreSingle entr
     first_open : (call : Call) (s : List LockEvent) (lanes : Lanes) (x : Effect) (order : List Effect) →
         lanes lane ≡ Asks call → Stands busy lanes begun n (Returns lane reply ∷ events) →
         PlanAt limits entries lanes begun n (Returns lane reply ∷ events) s (x ∷ order) →
-        IsOpenCall limits lanes begun n (Returns lane reply ∷ events) s x
+        IsOpenCall lanes begun n (Returns lane reply ∷ events) x
     unfolding awaited
     first_open call s lanes x order asks stands plan = by (All-head
         (λ (y : Effect). IsAhead lanes begun n (Returns lane reply ∷ events) y.entry ⊎
@@ -193,7 +200,7 @@ module _ (limits : Bounds) (entries : List Observation) (single : AreSingle entr
 
         by : IsAhead lanes begun n (Returns lane reply ∷ events) x.entry ⊎
             IsLate (n + length (Returns lane reply ∷ events)) x.entry →
-            IsOpenCall limits lanes begun n (Returns lane reply ∷ events) s x
+            IsOpenCall lanes begun n (Returns lane reply ∷ events) x
         by (inl (of_open other c asks_other is)) = record { lane = other; call = c; asks = asks_other; is = is }
         by (inl (of_later has)) = let from = first_from (n + 1) events x.entry has in absurd (no_later (omega arith))
         by (inr late) = let from = late.begins in absurd (no_later (omega arith))
@@ -202,7 +209,7 @@ module _ (limits : Bounds) (entries : List Observation) (single : AreSingle entr
     module _ (s : List LockEvent) (lanes : Lanes) (x : Effect) (order : List Effect)
         (stands : Stands busy lanes begun n (Returns lane reply ∷ events))
         (plan : PlanAt limits entries lanes begun n (Returns lane reply ∷ events) s (x ∷ order))
-        (head : IsOpenCall limits lanes begun n (Returns lane reply ∷ events) s x)
+        (head : IsOpenCall lanes begun n (Returns lane reply ∷ events) x)
       where
         after : Lanes
         after = set_of lanes head.lane (Gets x.reply)
@@ -295,7 +302,7 @@ module _ (limits : Bounds) (entries : List Observation) (single : AreSingle entr
         (awaits order plan.runs.0 (after s lanes x order stands plan head)
         (then_stands s lanes x order stands plan head) (then_plan s lanes x order stands plan head)))
       where
-        by : (p : Phase) → lanes lane ≡ p → (IsOpenCall limits lanes begun n (Returns lane reply ∷ events) s x →
+        by : (p : Phase) → lanes lane ≡ p → (IsOpenCall lanes begun n (Returns lane reply ∷ events) x →
             Survives limits (Returns lane reply ∷ events) s lanes) →
             Survives limits (Returns lane reply ∷ events) s lanes
         by Idle is more = absurd (false≢true (sym (ap has_call is) ∙ sym (stands.has lane) ∙ may))
@@ -321,40 +328,30 @@ follows limits entries single [] busy begun n form s lanes order stands plan = a
 follows limits entries single (Begins lane call ∷ events) busy begun n form s lanes order stands plan =
     begins lane call idle sets (follows limits entries single events
     (λ (other : ℕ). is_busy_then other (busy other) (Begins lane call)) (begun_at begun lane n) (n + 1) form.1 s
-    (set_of lanes lane (Asks call)) order (record {
-      has = λ other. busy_begins lanes (set_of lanes lane (Asks call)) lane other call (busy other) sets
-          (stands.has other);
-      low = have_begun lanes (set_of lanes lane (Asks call)) begun lane n call sets stands.low;
-      gets = λ other r is. stands.gets other r (sym (sets.others other (λ same. asks_or_gets sets.here
-          (subst (λ (v : ℕ). set_of lanes lane (Asks call) v ≡ Gets r) same is))) ∙ is);
-    }) (same_plan limits entries (IsAhead lanes begun n (Begins lane call ∷ events))
-    (IsAhead (set_of lanes lane (Asks call)) (begun_at begun lane n) (n + 1) events)
-    (n + length (Begins lane call ∷ events)) (n + 1 + length events) s order (omega arith)
-    (λ e is. begins_there lanes (set_of lanes lane (Asks call)) begun lane n call events e idle sets is)
-    (λ e is. begins_back lanes (set_of lanes lane (Asks call)) begun lane n call events e sets is) plan))
+    (set_of lanes lane (Asks call)) order
+    (stands_past busy lanes (set_of lanes lane (Asks call)) begun (begun_at begun lane n) n (Begins lane call) events
+    moves (λ other has. busy_begins lanes (set_of lanes lane (Asks call)) lane other call (busy other) sets has) stands)
+    (plan_past limits entries lanes (set_of lanes lane (Asks call)) begun (begun_at begun lane n) n (Begins lane call)
+    events s order moves plan))
   where
     idle : lanes lane ≡ Idle
     idle = free_idle (lanes lane) (sym (stands.has lane) ∙ form.0.0)
 
     sets : Sets lanes (set_of lanes lane (Asks call)) lane (Asks call)
     sets = sets_of lanes lane (Asks call)
+
+    moves : MovesOn lanes (set_of lanes lane (Asks call)) begun (begun_at begun lane n) n (Begins lane call) events
+    moves = begins_moves lanes (set_of lanes lane (Asks call)) begun lane n call events idle sets
 follows limits entries single (Returns lane reply ∷ events) busy begun n form s lanes order stands plan =
     awaits limits entries single busy begun n lane reply events form.0 (λ t then_lanes rest then_stands then_plan.
     follows limits entries single events (λ (other : ℕ). is_busy_then other (busy other) (Returns lane reply)) begun
     (n + 1) form.1 t then_lanes rest then_stands then_plan) order s lanes stands plan
 follows limits entries single (Withdraws lane ∷ events) busy begun n form s lanes order stands plan =
     withdraws lane its.0 its.1 sets (follows limits entries single events
-    (λ (other : ℕ). is_busy_then other (busy other) (Withdraws lane)) begun (n + 1) form.1 s
-    (set_of lanes lane Idle) order (record {
-      has = λ other. busy_withdraws lanes (set_of lanes lane Idle) lane other (busy other) sets (stands.has other);
-      low = have_begun_still lanes (set_of lanes lane Idle) begun lane n (n + 1) (omega arith)
-          (λ c asks. idle_or_asks sets.here asks) sets.others stands.low;
-      gets = got;
-    }) (same_plan limits entries (IsAhead lanes begun n (Withdraws lane ∷ events))
-    (IsAhead (set_of lanes lane Idle) begun (n + 1) events) (n + length (Withdraws lane ∷ events))
-    (n + 1 + length events) s order (omega arith)
-    (λ e is. ends_there lanes (set_of lanes lane Idle) begun lane n (Withdraws lane) events e sets ends is)
-    (λ e is. ends_back lanes (set_of lanes lane Idle) begun lane n (Withdraws lane) events e sets ends is) plan))
+    (λ (other : ℕ). is_busy_then other (busy other) (Withdraws lane)) begun (n + 1) form.1 s (set_of lanes lane Idle)
+    order (stands_past busy lanes (set_of lanes lane Idle) begun begun n (Withdraws lane) events moves
+    (λ other has. busy_withdraws lanes (set_of lanes lane Idle) lane other (busy other) sets has) stands)
+    (plan_past limits entries lanes (set_of lanes lane Idle) begun begun n (Withdraws lane) events s order moves plan))
   where
     its : (call : Call) × (lanes lane ≡ Asks call)
     its = withdrawn_asks busy lanes begun n lane events form.0 stands
@@ -362,13 +359,5 @@ follows limits entries single (Withdraws lane ∷ events) busy begun n form s la
     sets : Sets lanes (set_of lanes lane Idle) lane Idle
     sets = sets_of lanes lane Idle
 
-    ends : EndsOne lanes begun lane n (Withdraws lane) events
-    ends = withdrawal_is_end lanes begun lane n events
-
-    got : (other : ℕ) (r : Reply) → set_of lanes lane Idle other ≡ Gets r →
-        IsReplyOf r (ending_of other (n + 1) events)
-    got other r is = subst (λ (x : Ending). IsReplyOf r x) (ends.spares other apart)
-        (stands.gets other r (sym (sets.others other apart) ∙ is))
-      where
-        apart : other ≢ lane
-        apart e = idle_or_gets sets.here (subst (λ (v : ℕ). set_of lanes lane Idle v ≡ Gets r) e is)
+    moves : MovesOn lanes (set_of lanes lane Idle) begun begun n (Withdraws lane) events
+    moves = withdraws_moves lanes (set_of lanes lane Idle) begun lane n its.0 events its.1 sets

@@ -32,9 +32,9 @@ use Rattle.stamp_watch.proofs.Surviving.{idle_or_asks, idle_or_gets, asks_or_get
 use Rattle.stamp_watch.proofs.Numbered.{IsEntryOf, IsReplyOf, HasEntry, entry_tells, entry_of_reply, entry_returned}
 use Rattle.stamp_watch.proofs.Numbered.{one_entry, open_or_ended, return_ends, return_spares, withdrawal_ends}
 use Rattle.stamp_watch.proofs.Numbered.{withdrawal_spares}
-use Rattle.stamp_watch.proofs.Remaining.{IsAhead, begun_at, begun_here, begun_there, begins_there, begins_back}
-use Rattle.stamp_watch.proofs.Remaining.{EndsOne, ends_there, ends_back, takes_there, takes_back, takes_apart}
-use Rattle.stamp_watch.proofs.Remaining.{ahead_last}
+use Rattle.stamp_watch.proofs.Remaining.{IsAhead, begun_at, takes_there, takes_back, takes_apart, ahead_last}
+use Rattle.stamp_watch.proofs.Remaining.{HaveBegun, have_begun_still, HaveGot, MovesOn, begins_moves, returns_moves}
+use Rattle.stamp_watch.proofs.Remaining.{withdraws_moves}
 use Rattle.stamp_watch.proofs.Remaining.IsAhead.{of_open, of_later}
 
 abbrev pub entries_of : List Effect → List Observation
@@ -107,48 +107,7 @@ pub record IsPlanned (limits : Bounds) (entries : List Observation) (events : Li
     (s : List LockEvent) (lanes : Lanes) (begun : ℕ → ℕ) : Type 0 where
   pub order : List Effect
   pub plan : IsPlan limits entries (IsAhead lanes begun n events) (n + length events) s order
-  pub gets : (lane : ℕ) (reply : Reply) → lanes lane ≡ Gets reply → IsReplyOf reply (ending_of lane n events)
-
--- the calls that are open began before this event
-abbrev pub HaveBegun : Lanes → (ℕ → ℕ) → ℕ → Type 0
-HaveBegun lanes begun n = (lane : ℕ) (call : Call) → lanes lane ≡ Asks call → begun lane < n
-
-pub have_begun : (lanes after : Lanes) (begun : ℕ → ℕ) (lane n : ℕ) (call : Call) → Sets lanes after lane (Asks call) →
-    HaveBegun lanes begun n → HaveBegun after (begun_at begun lane n) (n + 1)
-have_begun lanes after begun lane n call sets low other c asks = by (cases_eq other lane)
-  where
-    by : (other ≡ lane) ⊎ (other ≢ lane) → begun_at begun lane n other < n + 1
-    by (inl same) = let at : begun_at begun lane n other ≡ n =
-        ap (λ (v : ℕ). begun_at begun lane n v) same ∙ begun_here begun lane n in omega arith
-    by (inr apart) = let at = begun_there begun lane n other apart in
-        let less = low other c (sym (sets.others other apart) ∙ asks) in omega arith
-
-pub have_begun_still : (lanes after : Lanes) (begun : ℕ → ℕ) (lane n m : ℕ) → n ≤ m →
-    ((call : Call) → after lane ≢ Asks call) → ((other : ℕ) → other ≢ lane → after other ≡ lanes other) →
-    HaveBegun lanes begun n → HaveBegun after begun m
-have_begun_still lanes after begun lane n m le not others low other c asks = by (cases_eq other lane)
-  where
-    by : (other ≡ lane) ⊎ (other ≢ lane) → begun other < m
-    by (inl same) = absurd (not c (subst (λ (v : ℕ). after v ≡ Asks c) same asks))
-    by (inr apart) = let less = low other c (sym (others other apart) ∙ asks) in omega arith
-
--- a return ends the call of its lane, which is in effect
-pub return_is_end : (lanes : Lanes) (begun : ℕ → ℕ) (lane n : ℕ) (reply gotten : Reply) (events : List Event) →
-    lanes lane ≡ Gets gotten → EndsOne lanes begun lane n (Returns lane reply) events
-return_is_end lanes begun lane n reply gotten events gets = record {
-  spares = λ other apart. return_spares other lane n reply events (λ same. apart (sym same));
-  later = refl;
-  gone = λ call e asks is. asks_or_gets asks gets;
-}
-
-pub withdrawal_is_end : (lanes : Lanes) (begun : ℕ → ℕ) (lane n : ℕ) (events : List Event) →
-    EndsOne lanes begun lane n (Withdraws lane) events
-withdrawal_is_end lanes begun lane n events = record {
-  spares = λ other apart. withdrawal_spares other lane n events (λ same. apart (sym same));
-  later = refl;
-  gone = λ call e asks is. subst (λ (x : Ending). IsEntryOf lane call (begun lane) x e)
-      (withdrawal_ends lane lane n events refl) is;
-}
+  pub gets : HaveGot lanes n events
 
 -- one call more takes effect before others
 module _ (limits : Bounds) (entries : List Observation) (events : List Event) (n : ℕ) (s next : List LockEvent)
@@ -248,6 +207,20 @@ module _ (limits : Bounds) (entries : List Observation) (events : List Event) (n
         has e back (inr is) = contains_first its.entry (entries_of later.order) e
             (one_entry lane call (begun lane) (ending_of lane n events) its.entry e its.is is)
 
+-- an event comes before them
+planned_past : (limits : Bounds) (entries : List Observation) (event : Event) (events : List Event) (n : ℕ)
+    (s : List LockEvent) (lanes after : Lanes) (begun then_begun : ℕ → ℕ) →
+    MovesOn lanes after begun then_begun n event events →
+    IsPlanned limits entries events (n + 1) s after then_begun →
+    IsPlanned limits entries (event ∷ events) n s lanes begun
+planned_past limits entries event events n s lanes after begun then_begun moves later = record {
+  order = later.order;
+  plan = same_plan limits entries (IsAhead after then_begun (n + 1) events) (IsAhead lanes begun n (event ∷ events))
+      (n + 1 + length events) (n + length (event ∷ events)) s later.order (omega arith) moves.back moves.there
+      later.plan;
+  gets = moves.gets_back later.gets;
+}
+
 nothing_ahead : (lanes : Lanes) (begun : ℕ → ℕ) (n : ℕ) (e : Observation) → IsAhead lanes begun n [] e →
     ¬ HasReturned e
 nothing_ahead lanes begun n e (of_open lane call asks is) back = open_or_ended
@@ -279,69 +252,21 @@ planned limits entries events n s lanes begun low inside (takes_effect {next = n
     low)
     (λ e is. inside e (takes_back lanes after begun lane n reply events e sets is)) rest)
 planned limits entries events n s lanes begun low inside (begins {events = more} {after = after} lane call idle sets
-    rest) = by (planned limits entries more (n + 1) s after (begun_at begun lane n)
-    (have_begun lanes after begun lane n call sets low)
-    (λ e is. inside e (begins_back lanes after begun lane n call more e sets is)) rest)
+    rest) = planned_past limits entries (Begins lane call) more n s lanes after begun (begun_at begun lane n) moves
+    (planned limits entries more (n + 1) s after (begun_at begun lane n) (moves.low low)
+    (λ e is. inside e (moves.back e is)) rest)
   where
-    by : IsPlanned limits entries more (n + 1) s after (begun_at begun lane n) →
-        IsPlanned limits entries (Begins lane call ∷ more) n s lanes begun
-    by later = record {
-      order = later.order;
-      plan = same_plan limits entries (IsAhead after (begun_at begun lane n) (n + 1) more)
-          (IsAhead lanes begun n (Begins lane call ∷ more)) (n + 1 + length more)
-          (n + length (Begins lane call ∷ more)) s later.order (omega arith) (λ e is. begins_back lanes after begun lane n call more e sets is)
-          (λ e is. begins_there lanes after begun lane n call more e idle sets is) later.plan;
-      gets = λ other reply is. later.gets other reply (sets.others other (λ same. idle_or_gets idle
-          (subst (λ (v : ℕ). lanes v ≡ Gets reply) same is)) ∙ is);
-    }
+    moves : MovesOn lanes after begun (begun_at begun lane n) n (Begins lane call) more
+    moves = begins_moves lanes after begun lane n call more idle sets
 planned limits entries events n s lanes begun low inside (returns {events = more} {after = after} lane reply gets sets
-    rest) = by (planned limits entries more (n + 1) s after begun
-    (have_begun_still lanes after begun lane n (n + 1) (omega arith) (λ c asks. idle_or_asks sets.here asks)
-    sets.others low)
-    (λ e is. inside e (ends_back lanes after begun lane n (Returns lane reply) more e sets ends is)) rest)
+    rest) = planned_past limits entries (Returns lane reply) more n s lanes after begun begun moves
+    (planned limits entries more (n + 1) s after begun (moves.low low) (λ e is. inside e (moves.back e is)) rest)
   where
-    ends : EndsOne lanes begun lane n (Returns lane reply) more
-    ends = return_is_end lanes begun lane n reply reply more gets
-
-    by : IsPlanned limits entries more (n + 1) s after begun →
-        IsPlanned limits entries (Returns lane reply ∷ more) n s lanes begun
-    by later = record {
-      order = later.order;
-      plan = same_plan limits entries (IsAhead after begun (n + 1) more)
-          (IsAhead lanes begun n (Returns lane reply ∷ more)) (n + 1 + length more)
-          (n + length (Returns lane reply ∷ more)) s later.order (omega arith)
-          (λ e is. ends_back lanes after begun lane n (Returns lane reply) more e sets ends is)
-          (λ e is. ends_there lanes after begun lane n (Returns lane reply) more e sets ends is) later.plan;
-      gets = λ other gotten is. got other gotten is (cases_eq other lane);
-    }
-      where
-        got : (other : ℕ) (gotten : Reply) → lanes other ≡ Gets gotten → (other ≡ lane) ⊎ (other ≢ lane) →
-            IsReplyOf gotten (ending_of other n (Returns lane reply ∷ more))
-        got other gotten is (inl same) = subst (λ (x : Ending). IsReplyOf gotten x)
-            (sym (return_ends other lane n reply more (sym same)))
-            (one_reply gets (subst (λ (v : ℕ). lanes v ≡ Gets gotten) same is))
-        got other gotten is (inr apart) = subst (λ (x : Ending). IsReplyOf gotten x) (sym (ends.spares other apart))
-            (later.gets other gotten (sets.others other apart ∙ is))
+    moves : MovesOn lanes after begun begun n (Returns lane reply) more
+    moves = returns_moves lanes after begun lane n reply more gets sets
 planned limits entries events n s lanes begun low inside (withdraws {events = more} {after = after} lane call asks sets
-    rest) = by (planned limits entries more (n + 1) s after begun
-    (have_begun_still lanes after begun lane n (n + 1) (omega arith) (λ c asks_c. idle_or_asks sets.here asks_c)
-    sets.others low)
-    (λ e is. inside e (ends_back lanes after begun lane n (Withdraws lane) more e sets ends is)) rest)
+    rest) = planned_past limits entries (Withdraws lane) more n s lanes after begun begun moves
+    (planned limits entries more (n + 1) s after begun (moves.low low) (λ e is. inside e (moves.back e is)) rest)
   where
-    ends : EndsOne lanes begun lane n (Withdraws lane) more
-    ends = withdrawal_is_end lanes begun lane n more
-
-    by : IsPlanned limits entries more (n + 1) s after begun →
-        IsPlanned limits entries (Withdraws lane ∷ more) n s lanes begun
-    by later = record {
-      order = later.order;
-      plan = same_plan limits entries (IsAhead after begun (n + 1) more)
-          (IsAhead lanes begun n (Withdraws lane ∷ more)) (n + 1 + length more) (n + length (Withdraws lane ∷ more)) s later.order (omega arith)
-          (λ e is. ends_back lanes after begun lane n (Withdraws lane) more e sets ends is)
-          (λ e is. ends_there lanes after begun lane n (Withdraws lane) more e sets ends is) later.plan;
-      gets = λ other gotten is. subst (λ (x : Ending). IsReplyOf gotten x)
-          (sym (ends.spares other (apart other gotten is))) (later.gets other gotten (sets.others other (apart other gotten is) ∙ is));
-    }
-      where
-        apart : (other : ℕ) (gotten : Reply) → lanes other ≡ Gets gotten → other ≢ lane
-        apart other gotten is same = asks_or_gets asks (subst (λ (v : ℕ). lanes v ≡ Gets gotten) same is)
+    moves : MovesOn lanes after begun begun n (Withdraws lane) more
+    moves = withdraws_moves lanes after begun lane n call more asks sets

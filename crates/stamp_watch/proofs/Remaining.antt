@@ -1,6 +1,6 @@
 -- The calls that are still to take effect, event by event.
 use Rattle.std.proofs.Common.{◌≡◌, ◌≢◌, ◌⊎◌, ℕ, ◌+◌, ◌<◌, ◌≤◌, List, ◌∷◌, refl, sym, ◌∙◌, subst, inl, inr, arith}
-use Rattle.std.proofs.Common.{Some}
+use Rattle.std.proofs.Common.{Some, ap}
 use Rattle.std.specs.List.{Contains}
 use Rattle.std.proofs.lemmas.Bool.{cases_eq}
 use Rattle.stamp_core.specs.declared.call.Call.{Call}
@@ -8,14 +8,15 @@ use Rattle.stamp_core.specs.declared.reply.Reply.{Reply}
 use Rattle.stamp_explain.specs.declared.observed.Observation.{Observation}
 use Rattle.stamp_explain.specs.declared.observed.Returned.{Returned}
 use Rattle.stamp_watch.specs.declared.event.Event.{Event}
-use Rattle.stamp_watch.specs.declared.event.Event.TheVariants.{Begins}
+use Rattle.stamp_watch.specs.declared.event.Event.TheVariants.{Begins, Returns, Withdraws}
 use Rattle.stamp_watch.specs.AsObserved.{Ending, ending_of, entries_from}
 use Rattle.stamp_watch.specs.Run.{Lanes, Sets}
 use Rattle.stamp_watch.specs.Run.Phase.{Idle, Asks, Gets}
-use Rattle.stamp_watch.proofs.Surviving.{idle_or_asks, asks_or_gets, one_call, pick, picks_first}
-use Rattle.stamp_watch.proofs.Surviving.{picks_second}
-use Rattle.stamp_watch.proofs.Numbered.{IsEntryOf, entry_tells, entry_returned, in_with_entry, with_entry_has}
-use Rattle.stamp_watch.proofs.Numbered.{first_from, last_from, ending_last}
+use Rattle.stamp_watch.proofs.Surviving.{idle_or_asks, idle_or_gets, asks_or_gets, one_call, one_reply, pick}
+use Rattle.stamp_watch.proofs.Surviving.{picks_first, picks_second}
+use Rattle.stamp_watch.proofs.Numbered.{IsEntryOf, IsReplyOf, entry_tells, entry_returned, in_with_entry}
+use Rattle.stamp_watch.proofs.Numbered.{with_entry_has, first_from, last_from, ending_last, return_ends}
+use Rattle.stamp_watch.proofs.Numbered.{return_spares, withdrawal_ends, withdrawal_spares}
 
 -- at which event the open call of each lane began, once one more has
 abbrev pub begun_at : (ℕ → ℕ) → ℕ → ℕ → ℕ → ℕ
@@ -157,3 +158,111 @@ pub ahead_at_first : (lanes : Lanes) (begun : ℕ → ℕ) (events : List Event)
     ((lane : ℕ) → lanes lane ≡ Idle) → IsAhead lanes begun 0 events e → Contains (entries_from 0 events) e
 ahead_at_first lanes begun events e idle (of_open lane call asks is) = absurd (idle_or_asks (idle lane) asks)
 ahead_at_first lanes begun events e idle (of_later has) = has
+
+-- the calls that are open began before this event
+abbrev pub HaveBegun : Lanes → (ℕ → ℕ) → ℕ → Type 0
+HaveBegun lanes begun n = (lane : ℕ) (call : Call) → lanes lane ≡ Asks call → begun lane < n
+
+have_begun : (lanes after : Lanes) (begun : ℕ → ℕ) (lane n : ℕ) (call : Call) → Sets lanes after lane (Asks call) →
+    HaveBegun lanes begun n → HaveBegun after (begun_at begun lane n) (n + 1)
+have_begun lanes after begun lane n call sets low other c asks = by (cases_eq other lane)
+  where
+    by : (other ≡ lane) ⊎ (other ≢ lane) → begun_at begun lane n other < n + 1
+    by (inl same) = let at : begun_at begun lane n other ≡ n =
+        ap (λ (v : ℕ). begun_at begun lane n v) same ∙ begun_here begun lane n in omega arith
+    by (inr apart) = let at = begun_there begun lane n other apart in
+        let less = low other c (sym (sets.others other apart) ∙ asks) in omega arith
+
+pub have_begun_still : (lanes after : Lanes) (begun : ℕ → ℕ) (lane n m : ℕ) → n ≤ m →
+    ((call : Call) → after lane ≢ Asks call) → ((other : ℕ) → other ≢ lane → after other ≡ lanes other) →
+    HaveBegun lanes begun n → HaveBegun after begun m
+have_begun_still lanes after begun lane n m le not others low other c asks = by (cases_eq other lane)
+  where
+    by : (other ≡ lane) ⊎ (other ≢ lane) → begun other < m
+    by (inl same) = absurd (not c (subst (λ (v : ℕ). after v ≡ Asks c) same asks))
+    by (inr apart) = let less = low other c (sym (others other apart) ∙ asks) in omega arith
+
+-- a return ends the call of its lane, which is in effect
+return_is_end : (lanes : Lanes) (begun : ℕ → ℕ) (lane n : ℕ) (reply gotten : Reply) (events : List Event) →
+    lanes lane ≡ Gets gotten → EndsOne lanes begun lane n (Returns lane reply) events
+return_is_end lanes begun lane n reply gotten events gets = record {
+  spares = λ other apart. return_spares other lane n reply events (λ same. apart (sym same));
+  later = refl;
+  gone = λ call e asks is. asks_or_gets asks gets;
+}
+
+withdrawal_is_end : (lanes : Lanes) (begun : ℕ → ℕ) (lane n : ℕ) (events : List Event) →
+    EndsOne lanes begun lane n (Withdraws lane) events
+withdrawal_is_end lanes begun lane n events = record {
+  spares = λ other apart. withdrawal_spares other lane n events (λ same. apart (sym same));
+  later = refl;
+  gone = λ call e asks is. subst (λ (x : Ending). IsEntryOf lane call (begun lane) x e)
+      (withdrawal_ends lane lane n events refl) is;
+}
+
+-- what calls in effect have got is what they return
+abbrev pub HaveGot : Lanes → ℕ → List Event → Type 0
+HaveGot lanes n events =
+    (lane : ℕ) (reply : Reply) → lanes lane ≡ Gets reply → IsReplyOf reply (ending_of lane n events)
+
+-- past one event the same calls are ahead, and those in effect return the same
+pub record MovesOn (lanes after : Lanes) (begun then_begun : ℕ → ℕ) (n : ℕ) (event : Event) (events : List Event) :
+    Type 0 where
+  pub there : (e : Observation) → IsAhead lanes begun n (event ∷ events) e → IsAhead after then_begun (n + 1) events e
+  pub back : (e : Observation) → IsAhead after then_begun (n + 1) events e → IsAhead lanes begun n (event ∷ events) e
+  pub low : HaveBegun lanes begun n → HaveBegun after then_begun (n + 1)
+  pub gets_there : HaveGot lanes n (event ∷ events) → HaveGot after (n + 1) events
+  pub gets_back : HaveGot after (n + 1) events → HaveGot lanes n (event ∷ events)
+
+pub begins_moves : (lanes after : Lanes) (begun : ℕ → ℕ) (lane n : ℕ) (call : Call) (events : List Event) →
+    lanes lane ≡ Idle → Sets lanes after lane (Asks call) →
+    MovesOn lanes after begun (begun_at begun lane n) n (Begins lane call) events
+begins_moves lanes after begun lane n call events idle sets = record {
+  there = λ e is. begins_there lanes after begun lane n call events e idle sets is;
+  back = λ e is. begins_back lanes after begun lane n call events e sets is;
+  low = have_begun lanes after begun lane n call sets;
+  gets_there = λ got other reply is. got other reply (sym (sets.others other
+      (λ same. asks_or_gets sets.here (subst (λ (v : ℕ). after v ≡ Gets reply) same is))) ∙ is);
+  gets_back = λ got other reply is. got other reply (sets.others other
+      (λ same. idle_or_gets idle (subst (λ (v : ℕ). lanes v ≡ Gets reply) same is)) ∙ is);
+}
+
+ends_moves : (lanes after : Lanes) (begun : ℕ → ℕ) (lane n : ℕ) (event : Event) (events : List Event) →
+    Sets lanes after lane Idle → EndsOne lanes begun lane n event events →
+    ((reply : Reply) → lanes lane ≡ Gets reply → IsReplyOf reply (ending_of lane n (event ∷ events))) →
+    MovesOn lanes after begun begun n event events
+ends_moves lanes after begun lane n event events sets ends own = record {
+  there = λ e is. ends_there lanes after begun lane n event events e sets ends is;
+  back = λ e is. ends_back lanes after begun lane n event events e sets ends is;
+  low = have_begun_still lanes after begun lane n (n + 1) (omega arith) (λ c asks. idle_or_asks sets.here asks)
+      sets.others;
+  gets_there = there;
+  gets_back = λ got other reply is. by got other reply is (cases_eq other lane);
+}
+  where
+    there : HaveGot lanes n (event ∷ events) → HaveGot after (n + 1) events
+    there got other reply is = subst (λ (x : Ending). IsReplyOf reply x) (ends.spares other apart)
+        (got other reply (sym (sets.others other apart) ∙ is))
+      where
+        apart : other ≢ lane
+        apart same = idle_or_gets sets.here (subst (λ (v : ℕ). after v ≡ Gets reply) same is)
+
+    by : HaveGot after (n + 1) events → (other : ℕ) (reply : Reply) → lanes other ≡ Gets reply →
+        (other ≡ lane) ⊎ (other ≢ lane) → IsReplyOf reply (ending_of other n (event ∷ events))
+    by got other reply is (inl same) = subst (λ (v : ℕ). IsReplyOf reply (ending_of v n (event ∷ events))) (sym same)
+        (own reply (subst (λ (v : ℕ). lanes v ≡ Gets reply) same is))
+    by got other reply is (inr apart) = subst (λ (x : Ending). IsReplyOf reply x) (sym (ends.spares other apart))
+        (got other reply (sets.others other apart ∙ is))
+
+pub returns_moves : (lanes after : Lanes) (begun : ℕ → ℕ) (lane n : ℕ) (reply : Reply) (events : List Event) →
+    lanes lane ≡ Gets reply → Sets lanes after lane Idle →
+    MovesOn lanes after begun begun n (Returns lane reply) events
+returns_moves lanes after begun lane n reply events gets sets = ends_moves lanes after begun lane n
+    (Returns lane reply) events sets (return_is_end lanes begun lane n reply reply events gets)
+    (λ gotten is. subst (λ (x : Ending). IsReplyOf gotten x) (sym (return_ends lane lane n reply events refl))
+    (one_reply gets is))
+
+pub withdraws_moves : (lanes after : Lanes) (begun : ℕ → ℕ) (lane n : ℕ) (call : Call) (events : List Event) →
+    lanes lane ≡ Asks call → Sets lanes after lane Idle → MovesOn lanes after begun begun n (Withdraws lane) events
+withdraws_moves lanes after begun lane n call events asks sets = ends_moves lanes after begun lane n (Withdraws lane)
+    events sets (withdrawal_is_end lanes begun lane n events) (λ gotten is. absurd (asks_or_gets asks is))

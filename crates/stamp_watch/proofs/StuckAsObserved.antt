@@ -67,8 +67,8 @@ ends_none_later : (busy : ℕ → Bool) (lane n : ℕ) (events : List Event) (e 
     AreInFormFrom busy events → busy lane ≡ true → ending_of lane n events ≡ EndsBy q →
     Contains (entries_from n events) e → e.returned ≡ Some r → q.last ≡ r.last → ⊥
 ends_none_later busy lane n [] e q r form is ends has back same = none_in_empty e has
-ends_none_later busy lane n (Begins other call ∷ events) e q r form is ends has back same = by (in_with_entry other call
-    n (ending_of other (n + 1) events) (entries_from (n + 1) events) e has) (λ later. ends_none_later
+ends_none_later busy lane n (Begins other call ∷ events) e q r form is ends has back same = by (in_with_entry other
+    call n (ending_of other (n + 1) events) (entries_from (n + 1) events) e has) (λ later. ends_none_later
     (λ (v : ℕ). is_busy_then v (busy v) (Begins other call)) lane (n + 1) events e q r form.1
     (ap (λ (b : Bool). b || busy lane) (ne_eqb other lane apart) ∙ is) ends later back same)
   where
@@ -170,7 +170,8 @@ module _ (events : List Event) (form : AreInForm events) (i : ℕ) (e : Observat
         by j k None at one = refl
         by j k (Some q) at one = test q.last (one q refl)
           where
-            test : (n : ℕ) → (n ≡ r.last → j ≡ i) → (nat_lt n r.last || ((n == r.last) && nat_lt k i)) ≡ nat_lt n r.last
+            test : (n : ℕ) → (n ≡ r.last → j ≡ i) →
+                (nat_lt n r.last || ((n == r.last) && nat_lt k i)) ≡ nat_lt n r.last
             test n here = grind (arith, nat_tests)
 
     pub cut_after_it : cut_entries r.last (i + 1) 0 (entries_from 0 events) ≡
@@ -268,113 +269,89 @@ begins_next limits lane call events s lanes busy has free (withdraws {events = m
     rest) = withdraws u c asks sets (begins_next limits lane call more s after (is_busy_then lane busy (Withdraws u))
     (busy_withdraws lanes after u lane busy sets has) free rest)
 
--- each return is that of an entry
+-- an entry that returns so
 record HasReturnAt (entries : List Observation) (r : Returned) : Type 0 where
   entry : Observation
   has : Contains entries entry
   back : entry.returned ≡ Some r
 
-entry_of_return : (busy : ℕ → Bool) (n k at : ℕ) (events : List Event) (lane : ℕ) (reply : Reply) → at ≡ n + k →
-    AreInFormFrom busy events → slice_get events k ≡ Some (Returns lane reply) →
-    ((busy lane ≡ true) × (ending_of lane n events ≡ EndsBy (record { last = at; reply = reply }))) ⊎
-    HasReturnAt (entries_from n events) (record { last = at; reply = reply })
-entry_of_return busy n zero at [] lane reply same form is = absurd (none-some (Returns lane reply) is)
-entry_of_return busy n (suc k) at [] lane reply same form is = absurd (none-some (Returns lane reply) is)
-entry_of_return busy n zero at (x ∷ events) lane reply same form is = inl (
-  may,
-  subst
-      (λ (e : Event). ending_of lane n (e ∷ events) ≡ EndsBy (record { last = at; reply = reply })) (sym first)
-      (return_ends lane lane n reply events refl ∙ ap (λ (m : ℕ). EndsBy (record { last = m; reply = reply }))
-      (omega arith)),
-)
-  where
-    first : x ≡ Returns lane reply
-    first = same_Some x (Returns lane reply) is
+-- the call that returns so is open in this lane, or has its entry behind
+abbrev IsOfCall : Bool → Ending → List Observation → Returned → Type 0
+IsOfCall busy ending entries r = ((busy ≡ true) × (ending ≡ EndsBy r)) ⊎ HasReturnAt entries r
 
-    may : busy lane ≡ true
-    may = subst (λ (e : Event). MayCome busy e) first form.0
-entry_of_return busy n (suc k) at (Begins other call ∷ events) lane reply same form is = by (entry_of_return
-    (λ (v : ℕ). is_busy_then v (busy v) (Begins other call)) (n + 1) k at events lane reply (omega arith) form.1 is)
+call_past_end : (busy : Bool) (other lane : ℕ) (ending then_ending : Ending) (entries : List Observation)
+    (r : Returned) → (other ≢ lane → ending ≡ then_ending) →
+    IsOfCall (not (other == lane) && busy) then_ending entries r → IsOfCall busy ending entries r
+call_past_end busy other lane ending then_ending entries r spares (inr found) = inr found
+call_past_end busy other lane ending then_ending entries r spares (inl open_now) = by (cases_eq other lane)
   where
-    here : (other ≡ lane) ⊎ (other ≢ lane) → ((other == lane) || busy lane) ≡ true →
-        ending_of lane (n + 1) events ≡ EndsBy (record { last = at; reply = reply }) →
-        ((busy lane ≡ true) × (ending_of lane (n + 1) events ≡ EndsBy (record { last = at; reply = reply }))) ⊎
-        HasReturnAt (entries_from n (Begins other call ∷ events)) (record { last = at; reply = reply })
-    here (inl its) may ends = inr (record {
-      entry = record {
-        thread = other;
-        call = call;
-        first = n;
-        returned = Some (record { last = at; reply = reply });
-      };
+    by : (other ≡ lane) ⊎ (other ≢ lane) → IsOfCall busy ending entries r
+    by (inl its) = absurd (false≢true (sym (ap (λ (b : Bool). not b && busy) (eq-eqb other lane its)) ∙ open_now.0))
+    by (inr apart) = inl (
+      sym (ap (λ (b : Bool). not b && busy) (ne_eqb other lane apart)) ∙ open_now.0,
+      spares apart ∙ open_now.1,
+    )
+
+call_past_beginning : (busy : Bool) (other lane n : ℕ) (call : Call) (events : List Event) (r : Returned) →
+    IsOfCall ((other == lane) || busy) (ending_of lane (n + 1) events) (entries_from (n + 1) events) r →
+    IsOfCall busy (ending_of lane (n + 1) events) (entries_from n (Begins other call ∷ events)) r
+call_past_beginning busy other lane n call events r (inr found) = inr (record {
+  entry = found.entry;
+  has = with_entry_has other call n (ending_of other (n + 1) events) (entries_from (n + 1) events) found.entry
+      (inr found.has);
+  back = found.back;
+})
+call_past_beginning busy other lane n call events r (inl open_now) = by (cases_eq other lane)
+  where
+    is_its : other ≡ lane → IsEntryOf other call n (ending_of other (n + 1) events)
+        (record { thread = other; call = call; first = n; returned = Some r })
+    is_its same = subst
+        (λ (x : Ending). IsEntryOf other call n x (record { thread = other; call = call; first = n; returned = Some r }))
+        (sym (ap (λ (v : ℕ). ending_of v (n + 1) events) same ∙ open_now.1)) refl
+
+    by : (other ≡ lane) ⊎ (other ≢ lane) →
+        IsOfCall busy (ending_of lane (n + 1) events) (entries_from n (Begins other call ∷ events)) r
+    by (inl same) = inr (record {
+      entry = record { thread = other; call = call; first = n; returned = Some r };
       has = with_entry_has other call n (ending_of other (n + 1) events) (entries_from (n + 1) events)
-          (record { thread = other; call = call; first = n; returned = Some (record { last = at; reply = reply }) })
-          (inl (subst (λ (x : Ending). IsEntryOf other call n x (record {
-            thread = other;
-            call = call;
-            first = n;
-            returned = Some (record { last = at; reply = reply });
-          })) (sym (ap (λ (v : ℕ). ending_of v (n + 1) events) its ∙ ends)) refl));
+          (record { thread = other; call = call; first = n; returned = Some r }) (inl (is_its same));
       back = refl;
     })
-    here (inr apart) may ends = inl (sym (ap (λ (b : Bool). b || busy lane) (ne_eqb other lane apart)) ∙ may, ends)
+    by (inr apart) = inl (sym (ap (λ (b : Bool). b || busy) (ne_eqb other lane apart)) ∙ open_now.0, open_now.1)
 
-    by : ((((other == lane) || busy lane) ≡ true) ×
-        (ending_of lane (n + 1) events ≡ EndsBy (record { last = at; reply = reply }))) ⊎
-        HasReturnAt (entries_from (n + 1) events) (record { last = at; reply = reply }) →
-        ((busy lane ≡ true) × (ending_of lane (n + 1) events ≡ EndsBy (record { last = at; reply = reply }))) ⊎
-        HasReturnAt (entries_from n (Begins other call ∷ events)) (record { last = at; reply = reply })
-    by (inl open_now) = here (cases_eq other lane) open_now.0 open_now.1
-    by (inr found) = inr (record {
-      entry = found.entry;
-      has = with_entry_has other call n (ending_of other (n + 1) events) (entries_from (n + 1) events) found.entry
-          (inr found.has);
-      back = found.back;
-    })
-entry_of_return busy n (suc k) at (Returns other answer ∷ events) lane reply same form is = by (entry_of_return
-    (λ (v : ℕ). is_busy_then v (busy v) (Returns other answer)) (n + 1) k at events lane reply (omega arith) form.1 is)
-    (cases_eq other lane)
+-- each return is that of a call
+call_of_return : (busy : ℕ → Bool) (n k : ℕ) (events : List Event) (lane : ℕ) (r : Returned) → r.last ≡ n + k →
+    AreInFormFrom busy events → slice_get events k ≡ Some (Returns lane r.reply) →
+    IsOfCall (busy lane) (ending_of lane n events) (entries_from n events) r
+call_of_return busy n zero [] lane r at form is = absurd (none-some (Returns lane r.reply) is)
+call_of_return busy n (suc k) [] lane r at form is = absurd (none-some (Returns lane r.reply) is)
+call_of_return busy n zero (x ∷ events) lane r at form is = inl (
+  subst (λ (e : Event). MayCome busy e) first form.0,
+  subst (λ (e : Event). ending_of lane n (e ∷ events) ≡ EndsBy r) (sym first)
+      (return_ends lane lane n r.reply events refl ∙
+      ap (λ (m : ℕ). EndsBy (record { last = m; reply = r.reply })) (omega arith)),
+)
   where
-    by : (((not (other == lane) && busy lane) ≡ true) ×
-        (ending_of lane (n + 1) events ≡ EndsBy (record { last = at; reply = reply }))) ⊎
-        HasReturnAt (entries_from (n + 1) events) (record { last = at; reply = reply }) →
-        (other ≡ lane) ⊎ (other ≢ lane) →
-        ((busy lane ≡ true) ×
-        (ending_of lane n (Returns other answer ∷ events) ≡ EndsBy (record { last = at; reply = reply }))) ⊎
-        HasReturnAt (entries_from (n + 1) events) (record { last = at; reply = reply })
-    by (inr found) _ = inr found
-    by (inl open_now) (inl its) = absurd (false≢true
-        (sym (ap (λ (b : Bool). not b && busy lane) (eq-eqb other lane its)) ∙ open_now.0))
-    by (inl open_now) (inr apart) = inl (
-      sym (ap (λ (b : Bool). not b && busy lane) (ne_eqb other lane apart)) ∙
-          open_now.0,
-      return_spares lane other n answer events apart ∙ open_now.1,
-    )
-entry_of_return busy n (suc k) at (Withdraws other ∷ events) lane reply same form is = by (entry_of_return
-    (λ (v : ℕ). is_busy_then v (busy v) (Withdraws other)) (n + 1) k at events lane reply (omega arith) form.1 is)
-    (cases_eq other lane)
-  where
-    by : (((not (other == lane) && busy lane) ≡ true) ×
-        (ending_of lane (n + 1) events ≡ EndsBy (record { last = at; reply = reply }))) ⊎
-        HasReturnAt (entries_from (n + 1) events) (record { last = at; reply = reply }) →
-        (other ≡ lane) ⊎ (other ≢ lane) →
-        ((busy lane ≡ true) ×
-        (ending_of lane n (Withdraws other ∷ events) ≡ EndsBy (record { last = at; reply = reply }))) ⊎
-        HasReturnAt (entries_from (n + 1) events) (record { last = at; reply = reply })
-    by (inr found) _ = inr found
-    by (inl open_now) (inl its) = absurd (false≢true
-        (sym (ap (λ (b : Bool). not b && busy lane) (eq-eqb other lane its)) ∙ open_now.0))
-    by (inl open_now) (inr apart) = inl (
-      sym (ap (λ (b : Bool). not b && busy lane) (ne_eqb other lane apart)) ∙
-          open_now.0,
-      withdrawal_spares lane other n events apart ∙ open_now.1,
-    )
+    first : x ≡ Returns lane r.reply
+    first = same_Some x (Returns lane r.reply) is
+call_of_return busy n (suc k) (Begins other call ∷ events) lane r at form is =
+    call_past_beginning (busy lane) other lane n call events r
+    (call_of_return (λ (v : ℕ). is_busy_then v (busy v) (Begins other call)) (n + 1) k events lane r (omega arith)
+    form.1 is)
+call_of_return busy n (suc k) (Returns other reply ∷ events) lane r at form is = call_past_end (busy lane) other lane
+    (ending_of lane n (Returns other reply ∷ events)) (ending_of lane (n + 1) events) (entries_from (n + 1) events) r
+    (return_spares lane other n reply events)
+    (call_of_return (λ (v : ℕ). is_busy_then v (busy v) (Returns other reply)) (n + 1) k events lane r (omega arith)
+    form.1 is)
+call_of_return busy n (suc k) (Withdraws other ∷ events) lane r at form is = call_past_end (busy lane) other lane
+    (ending_of lane n (Withdraws other ∷ events)) (ending_of lane (n + 1) events) (entries_from (n + 1) events) r
+    (withdrawal_spares lane other n events)
+    (call_of_return (λ (v : ℕ). is_busy_then v (busy v) (Withdraws other)) (n + 1) k events lane r (omega arith)
+    form.1 is)
 
 -- and an entry that returned has its return among the events
-record IsReturnThere (k : ℕ) (events : List Event) : Type 0 where
-  lane : ℕ
-  reply : Reply
-  is : slice_get events k ≡ Some (Returns lane reply)
+abbrev IsReturnThere : ℕ → List Event → Type 0
+IsReturnThere k events = (lane : ℕ) × ((reply : Reply) × (slice_get events k ≡ Some (Returns lane reply)))
 
 return_of_ending : (lane n k : ℕ) (events : List Event) (r : Returned) → ending_of lane n events ≡ EndsBy r →
     r.last ≡ n + k → IsReturnThere k events
@@ -382,28 +359,22 @@ return_of_ending lane n k [] r ends at = absurd (open_or_ended ends)
 return_of_ending lane n zero (Begins other call ∷ events) r ends at =
     let low = ending_last lane (n + 1) events r ends in absurd (omega arith)
 return_of_ending lane n (suc k) (Begins other call ∷ events) r ends at =
-    let found = return_of_ending lane (n + 1) k events r ends (omega arith) in
-    record { lane = found.lane; reply = found.reply; is = found.is }
-return_of_ending lane n zero (Returns other reply ∷ events) r ends at =
-    record { lane = other; reply = reply; is = refl }
+    return_of_ending lane (n + 1) k events r ends (omega arith)
+return_of_ending lane n zero (Returns other reply ∷ events) r ends at = (other, (reply, refl))
 return_of_ending lane n (suc k) (Returns other reply ∷ events) r ends at =
     by (ended_by_return lane other n reply events r ends)
     (λ more. return_of_ending lane (n + 1) k events r more (omega arith))
   where
     by : ((other ≡ lane) × (r ≡ record { last = n; reply = reply })) ⊎
         ((other ≢ lane) × (ending_of lane (n + 1) events ≡ EndsBy r)) →
-        (ending_of lane (n + 1) events ≡ EndsBy r → IsReturnThere k events) →
-        IsReturnThere (suc k) (Returns other reply ∷ events)
+        (ending_of lane (n + 1) events ≡ EndsBy r → IsReturnThere k events) → IsReturnThere k events
     by (inl here) _ = let last : r.last ≡ n = ap (λ (o : Returned). o.last) here.1 in absurd (omega arith)
-    by (inr past) more = let found = more past.1 in
-        record { lane = found.lane; reply = found.reply; is = found.is }
+    by (inr past) more = more past.1
 return_of_ending lane n zero (Withdraws other ∷ events) r ends at =
     let low = ending_last lane (n + 1) events r (ended_past_withdrawal lane other n events r ends).1 in
     absurd (omega arith)
-return_of_ending lane n (suc k) (Withdraws other ∷ events) r ends at =
-    let found = return_of_ending lane (n + 1) k events r (ended_past_withdrawal lane other n events r ends).1
-    (omega arith) in
-    record { lane = found.lane; reply = found.reply; is = found.is }
+return_of_ending lane n (suc k) (Withdraws other ∷ events) r ends at = return_of_ending lane (n + 1) k events r
+    (ended_past_withdrawal lane other n events r ends).1 (omega arith)
 
 return_of_entry : (n k : ℕ) (events : List Event) (e : Observation) (r : Returned) →
     Contains (entries_from n events) e → e.returned ≡ Some r → r.last ≡ n + k → IsReturnThere k events
@@ -414,20 +385,14 @@ return_of_entry n (suc k) (Begins lane call ∷ events) e r has back at = by (in
     (λ later. return_of_entry (n + 1) k events e r later back (omega arith))
   where
     by : IsEntryOf lane call n (ending_of lane (n + 1) events) e ⊎ Contains (entries_from (n + 1) events) e →
-        (Contains (entries_from (n + 1) events) e → IsReturnThere k events) →
-        IsReturnThere (suc k) (Begins lane call ∷ events)
-    by (inl is) _ =
-        let found = return_of_ending lane (n + 1) k events r
-        (entry_returned lane call n (ending_of lane (n + 1) events) e r is back) (omega arith) in
-        record { lane = found.lane; reply = found.reply; is = found.is }
-    by (inr later) more = let found = more later in
-        record { lane = found.lane; reply = found.reply; is = found.is }
+        (Contains (entries_from (n + 1) events) e → IsReturnThere k events) → IsReturnThere k events
+    by (inl is) _ = return_of_ending lane (n + 1) k events r
+        (entry_returned lane call n (ending_of lane (n + 1) events) e r is back) (omega arith)
+    by (inr later) more = more later
 return_of_entry n (suc k) (Returns lane reply ∷ events) e r has back at =
-    let found = return_of_entry (n + 1) k events e r has back (omega arith) in
-    record { lane = found.lane; reply = found.reply; is = found.is }
+    return_of_entry (n + 1) k events e r has back (omega arith)
 return_of_entry n (suc k) (Withdraws lane ∷ events) e r has back at =
-    let found = return_of_entry (n + 1) k events e r has back (omega arith) in
-    record { lane = found.lane; reply = found.reply; is = found.is }
+    return_of_entry (n + 1) k events e r has back (omega arith)
 
 -- at the return of an entry, with the events up to it
 module _ (limits : Bounds) (events : List Event) (form : AreInForm events) (i : ℕ) (e : Observation) (r : Returned)
@@ -438,11 +403,12 @@ module _ (limits : Bounds) (events : List Event) (form : AreInForm events) (i : 
     before = shortened_run r.last events form kept
 
     there : IsReturnThere r.last events
-    there = return_of_entry 0 r.last events e r (contains_at (entries_from 0 events) i e is_entry) returned (omega arith)
+    there = return_of_entry 0 r.last events e r (contains_at (entries_from 0 events) i e is_entry) returned
+        (omega arith)
 
     after : AreOfRun (map (shortened (suc r.last)) (entries_from 0 events)) (take (suc r.last) events)
-    after = shortened_run (suc r.last) events form (kept_past_return r.last (λ (lane : ℕ). false) events there.lane
-        there.reply there.is kept)
+    after = shortened_run (suc r.last) events form (kept_past_return r.last (λ (lane : ℕ). false) events there.0
+        there.1.0 there.1.1 kept)
 
     pub explained_before : AreExplained limits (take r.last events) →
         IsExplained (observed_as limits 0 (cut_entries r.last i 0 (entries_from 0 events)))
@@ -501,9 +467,8 @@ stuck_there limits events k form kept are = at (slice_get events k) refl
         place = slice_get-get_or (entries_from 0 events) found.has.0 found.entry found.has.1 ∙
             ap (λ (o : Observation). Some o) found.has.2
 
-    returned : (lane : ℕ) (reply : Reply) → ((false ≡ true) × (ending_of lane 0 events ≡
-        EndsBy (record { last = k; reply = reply }))) ⊎
-        HasReturnAt (entries_from 0 events) (record { last = k; reply = reply }) →
+    returned : (lane : ℕ) (reply : Reply) →
+        IsOfCall false (ending_of lane 0 events) (entries_from 0 events) (record { last = k; reply = reply }) →
         IsStuckAtPosition (observed_of limits events) k
     returned lane reply (inl never) = absurd (false≢true never.0)
     returned lane reply (inr found) = here reply found
@@ -512,8 +477,8 @@ stuck_there limits events k form kept are = at (slice_get events k) refl
     by (Begins lane call) is = absurd (stuck (subst (AreExplained limits)
         (sym (take_one k events (Begins lane call) is)) (begins_next limits lane call (take k events) [] all_idle false
         refl (may_come_at k (λ (other : ℕ). false) events (Begins lane call) form is).0 are.explained)))
-    by (Returns lane reply) is = returned lane reply (entry_of_return (λ (other : ℕ). false) 0 k k events lane reply
-        (omega arith) form is)
+    by (Returns lane reply) is = returned lane reply (call_of_return (λ (other : ℕ). false) 0 k events lane
+        (record { last = k; reply = reply }) (omega arith) form is)
     by (Withdraws lane) is = absurd (kept lane (may_come_at k (λ (other : ℕ). false) events (Withdraws lane) form is)
         (withdrawn_at k lane events is))
 
