@@ -1,6 +1,6 @@
 -- A call that begins later.
-use Rattle.std.proofs.Common.{◌≡◌, ◌≢◌, ◌⊎◌, ◌≤◌, ◌<◌, ◌+◌, ℕ, List, [], ◌∷◌, ◌++◌, refl, sym, ◌∙◌, ap, subst}
-use Rattle.std.proofs.Common.{inl, inr, arith}
+use Rattle.std.proofs.Common.{◌≡◌, ◌≢◌, ◌⊎◌, ◌≤◌, ◌<◌, ◌+◌, ℕ, List, [], ◌∷◌, ◌++◌, refl, sym, ◌∙◌, ap, subst, inl}
+use Rattle.std.proofs.Common.{inr, arith}
 use Rattle.std.specs.Prelude.{cond}
 use Rattle.std.proofs.lemmas.List.Sums.{sum_by-append}
 use Rattle.std.proofs.lemmas.Bool.{cases_eq}
@@ -143,15 +143,15 @@ begins_late limits t call reply version between rest s lanes begun idle sets tel
     late limits t call reply version between rest (between ++ rest) s lanes begun refl idle sets tells never new old
     way
 
-past_beginning_spared : {t u : ℕ} {call : Call} {events : List Event} → Spares t (Begins u call ∷ events) →
+pub past_beginning_spared : {t u : ℕ} {call : Call} {events : List Event} → Spares t (Begins u call ∷ events) →
     (u ≢ t) × Spares t events
 past_beginning_spared (spares_beginning u call apart spares) = (apart, spares)
 
-past_return_spared : {t u : ℕ} {answer : Reply} {events : List Event} → Spares t (Returns u answer ∷ events) →
+pub past_return_spared : {t u : ℕ} {answer : Reply} {events : List Event} → Spares t (Returns u answer ∷ events) →
     (u ≢ t) × Spares t events
 past_return_spared (spares_return u answer apart spares) = (apart, spares)
 
-past_withdrawal_spared : {t u : ℕ} {events : List Event} → Spares t (Withdraws u ∷ events) → (u ≢ t) × Spares t events
+pub past_withdrawal_spared : {t u : ℕ} {events : List Event} → Spares t (Withdraws u ∷ events) → (u ≢ t) × Spares t events
 past_withdrawal_spared (spares_withdrawal u apart spares) = (apart, spares)
 
 -- the lane is idle, and the call may begin at once

@@ -1,7 +1,7 @@
 -- From an order of the calls that are ahead a way along the events.
-use Rattle.std.proofs.Common.{◌≡◌, ◌≢◌, ◌⊎◌, ℕ, ◌+◌, ◌<◌, ◌==◌, Bool, true, false, List, [], ◌∷◌, length, get_or}
-use Rattle.std.proofs.Common.{refl, sym, ◌∙◌, ap, subst, inl, inr, arith, eq-eqb, ne_eqb, Some}
-use Rattle.std.specs.Prelude.{slice_get, not, ◌&&◌, ◌||◌}
+use Rattle.std.proofs.Common.{◌≡◌, ◌≢◌, ◌⊎◌, ℕ, ◌+◌, ◌<◌, Bool, true, List, [], ◌∷◌, length, get_or, refl, sym, ◌∙◌}
+use Rattle.std.proofs.Common.{ap, subst, inl, inr, arith, Some}
+use Rattle.std.specs.Prelude.{slice_get}
 use Rattle.std.specs.List.{Contains}
 use Rattle.std.proofs.lemmas.Bool.{cases_eq, false≢true}
 use Rattle.std.proofs.lemmas.List.Elements.{All-head, All-tail, All-map, All-contains}
@@ -20,63 +20,15 @@ use Rattle.stamp_watch.specs.Form.{is_busy_then, AreInFormFrom}
 use Rattle.stamp_watch.specs.Run.{Lanes, LockStep, Phase, Sets, Survives}
 use Rattle.stamp_watch.specs.Run.Phase.{Idle, Asks, Gets}
 use Rattle.stamp_watch.specs.Run.Survives.{at_end, takes_effect, begins, returns, withdraws}
-use Rattle.stamp_watch.proofs.Surviving.{idle_or_asks, idle_or_gets, asks_or_gets, one_reply, set_of, sets_of}
+use Rattle.stamp_watch.proofs.Surviving.{asks_or_gets, one_reply, set_of, sets_of}
 use Rattle.stamp_watch.proofs.Numbered.{IsEntryOf, IsReplyOf, entry_tells, entry_replies, one_entry, first_from}
 use Rattle.stamp_watch.proofs.Numbered.{return_ends, withdrawal_ends}
+use Rattle.stamp_watch.proofs.Form.{has_call, busy_begins, busy_returns, busy_withdraws, busy_takes, free_idle}
 use Rattle.stamp_watch.proofs.Remaining.{IsAhead, begun_at, takes_there, takes_back, takes_apart, HaveBegun}
 use Rattle.stamp_watch.proofs.Remaining.{have_begun_still, HaveGot, MovesOn, begins_moves, returns_moves}
 use Rattle.stamp_watch.proofs.Remaining.{withdraws_moves}
 use Rattle.stamp_watch.proofs.Remaining.IsAhead.{of_open, of_later}
 use Rattle.stamp_watch.proofs.Planning.{entries_of, IsLate, IsPlan, same_plan}
-
-abbrev pub has_call : Phase → Bool
-has_call Idle = false
-has_call (Asks call) = true
-has_call (Gets reply) = true
-
--- a lane that is busy has a call, and the other way round
-pub busy_begins : (lanes after : Lanes) (u lane : ℕ) (call : Call) (busy : Bool) → Sets lanes after u (Asks call) →
-    busy ≡ has_call (lanes lane) → is_busy_then lane busy (Begins u call) ≡ has_call (after lane)
-busy_begins lanes after u lane call busy sets is = by (cases_eq u lane)
-  where
-    by : (u ≡ lane) ⊎ (u ≢ lane) → ((u == lane) || busy) ≡ has_call (after lane)
-    by (inl same) = ap (λ (b : Bool). b || busy) (eq-eqb u lane same) ∙
-        sym (ap has_call (subst (λ (v : ℕ). after v ≡ Asks call) same sets.here))
-    by (inr apart) = ap (λ (b : Bool). b || busy) (ne_eqb u lane apart) ∙ is ∙
-        sym (ap has_call (sets.others lane (λ same. apart (sym same))))
-
-busy_ends : (lanes after : Lanes) (u lane : ℕ) (busy : Bool) → Sets lanes after u Idle →
-    busy ≡ has_call (lanes lane) → (not (u == lane) && busy) ≡ has_call (after lane)
-busy_ends lanes after u lane busy sets is = by (cases_eq u lane)
-  where
-    by : (u ≡ lane) ⊎ (u ≢ lane) → (not (u == lane) && busy) ≡ has_call (after lane)
-    by (inl same) = ap (λ (b : Bool). not b && busy) (eq-eqb u lane same) ∙
-        sym (ap has_call (subst (λ (v : ℕ). after v ≡ Idle) same sets.here))
-    by (inr apart) = ap (λ (b : Bool). not b && busy) (ne_eqb u lane apart) ∙ is ∙
-        sym (ap has_call (sets.others lane (λ same. apart (sym same))))
-
-pub busy_returns : (lanes after : Lanes) (u lane : ℕ) (reply : Reply) (busy : Bool) → Sets lanes after u Idle →
-    busy ≡ has_call (lanes lane) → is_busy_then lane busy (Returns u reply) ≡ has_call (after lane)
-busy_returns lanes after u lane reply busy sets is = busy_ends lanes after u lane busy sets is
-
-pub busy_withdraws : (lanes after : Lanes) (u lane : ℕ) (busy : Bool) → Sets lanes after u Idle →
-    busy ≡ has_call (lanes lane) → is_busy_then lane busy (Withdraws u) ≡ has_call (after lane)
-busy_withdraws lanes after u lane busy sets is = busy_ends lanes after u lane busy sets is
-
-pub busy_takes : (lanes after : Lanes) (u lane : ℕ) (call : Call) (reply : Reply) (busy : Bool) →
-    lanes u ≡ Asks call → Sets lanes after u (Gets reply) → busy ≡ has_call (lanes lane) →
-    busy ≡ has_call (after lane)
-busy_takes lanes after u lane call reply busy asks sets is = by (cases_eq lane u)
-  where
-    by : (lane ≡ u) ⊎ (lane ≢ u) → busy ≡ has_call (after lane)
-    by (inl same) = is ∙ ap (λ (v : ℕ). has_call (lanes v)) same ∙ ap has_call asks ∙ sym (ap has_call sets.here) ∙
-        sym (ap (λ (v : ℕ). has_call (after v)) same)
-    by (inr apart) = is ∙ sym (ap has_call (sets.others lane apart))
-
-pub free_idle : (p : Phase) → has_call p ≡ false → p ≡ Idle
-free_idle Idle free = refl
-free_idle (Asks call) free = absurd (false≢true (sym free))
-free_idle (Gets reply) free = absurd (false≢true (sym free))
 
 -- where the events go on: which lanes are busy, when their calls began, and what those in effect return
 pub record Stands (busy : ℕ → Bool) (lanes : Lanes) (begun : ℕ → ℕ) (n : ℕ) (events : List Event) : Type 0 where
@@ -123,10 +75,10 @@ AreSingle entries = (i j : ℕ) (e : Observation) → slice_get entries i ≡ So
 -- the first of an order is an open call
 record IsOpenCall (lanes : Lanes) (begun : ℕ → ℕ) (n : ℕ) (events : List Event) (x : Effect) : Type 0
   where
-  lane : ℕ
-  call : Call
-  asks : lanes lane ≡ Asks call
-  is : IsEntryOf lane call (begun lane) (ending_of lane n events) x.entry
+    lane : ℕ
+    call : Call
+    asks : lanes lane ≡ Asks call
+    is : IsEntryOf lane call (begun lane) (ending_of lane n events) x.entry
 
 -- a return comes next
 module _ (limits : Bounds) (entries : List Observation) (single : AreSingle entries) (busy : ℕ → Bool)

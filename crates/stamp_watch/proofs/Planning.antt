@@ -1,9 +1,9 @@
 -- From a way along the events an order of the calls that are ahead.
-use Rattle.std.proofs.Common.{◌≡◌, ◌≢◌, ◌⊎◌, ℕ, ◌+◌, ◌<◌, ◌≤◌, Bool, true, false, List, [], ◌∷◌, length, get_or, refl}
-use Rattle.std.proofs.Common.{sym, ◌∙◌, ap, subst, inl, inr, arith, Option, Some, None}
+use Rattle.std.proofs.Common.{◌≡◌, ◌⊎◌, ℕ, ◌+◌, ◌<◌, ◌≤◌, Bool, true, false, List, [], ◌∷◌, length, get_or, refl, sym}
+use Rattle.std.proofs.Common.{◌∙◌, ap, subst, inl, inr, arith, Option, Some, None}
 use Rattle.std.specs.Prelude.{map, MatchOption}
 use Rattle.std.specs.List.{All, AllPairs, Contains}
-use Rattle.std.proofs.lemmas.Bool.{cases_eq, false≢true}
+use Rattle.std.proofs.lemmas.Bool.{false≢true}
 use Rattle.std.proofs.lemmas.List.Elements.{All-nil, All-cons, All-weaker}
 use Rattle.std.proofs.lemmas.Option.{slice_get-get_or, none-some}
 use Rattle.stamp_core.specs.LockEvent.{LockEvent}
@@ -24,14 +24,13 @@ use Rattle.stamp_explain.proofs.Completing.{same_entry}
 use Rattle.stamp_explain.proofs.Finding.{has_returned}
 use Rattle.stamp_watch.specs.declared.event.Event.{Event}
 use Rattle.stamp_watch.specs.declared.event.Event.TheVariants.{Begins, Returns, Withdraws}
-use Rattle.stamp_watch.specs.AsObserved.{Ending, ending_of}
+use Rattle.stamp_watch.specs.AsObserved.{ending_of}
 use Rattle.stamp_watch.specs.Run.{Lanes, LockStep, Sets, Survives}
 use Rattle.stamp_watch.specs.Run.Phase.{Asks, Gets}
 use Rattle.stamp_watch.specs.Run.Survives.{at_end, takes_effect, begins, returns, withdraws}
-use Rattle.stamp_watch.proofs.Surviving.{idle_or_asks, idle_or_gets, asks_or_gets, one_reply}
-use Rattle.stamp_watch.proofs.Numbered.{IsEntryOf, IsReplyOf, HasEntry, entry_tells, entry_of_reply, entry_returned}
-use Rattle.stamp_watch.proofs.Numbered.{one_entry, open_or_ended, return_ends, return_spares, withdrawal_ends}
-use Rattle.stamp_watch.proofs.Numbered.{withdrawal_spares}
+use Rattle.stamp_watch.proofs.Surviving.{asks_or_gets}
+use Rattle.stamp_watch.proofs.Numbered.{IsEntryOf, HasEntry, entry_tells, entry_of_reply, entry_returned, one_entry}
+use Rattle.stamp_watch.proofs.Numbered.{open_or_ended}
 use Rattle.stamp_watch.proofs.Remaining.{IsAhead, begun_at, takes_there, takes_back, takes_apart, ahead_last}
 use Rattle.stamp_watch.proofs.Remaining.{HaveBegun, have_begun_still, HaveGot, MovesOn, begins_moves, returns_moves}
 use Rattle.stamp_watch.proofs.Remaining.{withdraws_moves}
@@ -76,7 +75,7 @@ same_plan limits entries old new end then_end s order less there back plan = rec
         inr (record { begins = omega arith; open_still = late.open_still })
 
 -- the lock answers its own calls alone
-lock_replies : (limits : Bounds) (s : List LockEvent) (call : Call) (reply : Reply) →
+pub lock_replies : (limits : Bounds) (s : List LockEvent) (call : Call) (reply : Reply) →
     Replies (transition limits s call) reply → is_lock_call call ≡ true
 lock_replies limits s call reply replies = by (is_lock_call call) refl
   where

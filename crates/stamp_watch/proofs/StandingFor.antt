@@ -1,14 +1,12 @@
 -- A set of configurations that an online judge keeps, event by event.
-use Rattle.std.proofs.Common.{◌≡◌, ℕ, List, [], ◌∷◌, ◌++◌, refl, sym, ◌∙◌, subst, arith}
-use Rattle.std.proofs.Common.{append_assoc, append-nil}
+use Rattle.std.proofs.Common.{◌≡◌, ℕ, List, [], ◌∷◌, ◌++◌, refl, sym, ◌∙◌, subst, arith, append_assoc, append-nil}
 use Rattle.std.proofs.Math.Seq.{take-append_seam, take-append-add}
 use Rattle.std.specs.List.{Contains}
 use Rattle.std.proofs.lemmas.List.Elements.{All-nil, All-cons, All-head, All-contains, Contains-push}
 use Rattle.stamp_core.specs.LockEvent.{LockEvent}
 use Rattle.stamp_core.specs.Limits.{Bounds}
 use Rattle.stamp_watch.specs.declared.event.Event.{Event}
-use Rattle.stamp_watch.specs.Run.{Configuration, opening, Lanes, Leads, Survives, IsPossibleAfter}
-use Rattle.stamp_watch.specs.Run.{AreExplained}
+use Rattle.stamp_watch.specs.Run.{Configuration, opening, Lanes, Leads, Survives, IsPossibleAfter, AreExplained}
 use Rattle.stamp_watch.specs.Run.Leads.{leads_nowhere, by_effect, by_beginning, by_return, by_withdrawal}
 use Rattle.stamp_watch.specs.Run.Survives.{at_end, takes_effect, begins, returns, withdraws}
 use Rattle.stamp_watch.specs.Watching.{StandFor, ComesFrom, Fits, GoesOn, Told}

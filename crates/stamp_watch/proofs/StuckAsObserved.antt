@@ -1,12 +1,11 @@
 -- A run is stuck at an event exactly where it is as an observed history.
-use Rattle.std.proofs.Common.{◌≡◌, ◌≢◌, ◌⊎◌, ℕ, suc, zero, ◌+◌, ◌==◌, Bool, true, false, List, [], ◌∷◌, ◌++◌}
-use Rattle.std.proofs.Common.{refl, sym, ◌∙◌, ap, subst, inl, inr, arith, add-one, eq-eqb, ne_eqb, Option, Some, None}
-use Rattle.std.specs.Prelude.{slice_get, map, take, drop, nat_lt, not, ◌&&◌, ◌||◌, if◌then◌else◌}
-use Rattle.std.specs.List.{Contains, fold}
+use Rattle.std.proofs.Common.{◌≡◌, ◌≢◌, ◌⊎◌, ℕ, suc, zero, ◌+◌, ◌==◌, Bool, true, false, List, [], ◌∷◌, ◌++◌, refl}
+use Rattle.std.proofs.Common.{sym, ◌∙◌, ap, subst, inl, inr, arith, add-one, eq-eqb, ne_eqb, Option, Some, None}
+use Rattle.std.specs.Prelude.{slice_get, map, take, drop, nat_lt, not, ◌&&◌, ◌||◌, if◌then◌else◌, ◌↔◌}
+use Rattle.std.specs.List.{Contains}
 use Rattle.std.proofs.lemmas.Bool.{cases_eq, false≢true}
 use Rattle.std.proofs.lemmas.Bool.Decides.{nat_tests}
 use Rattle.std.proofs.lemmas.Option.{none-some, same_Some, slice_get-get_or}
-use Rattle.stamp_core.specs.LockEvent.{LockEvent}
 use Rattle.stamp_core.specs.Limits.{Bounds}
 use Rattle.stamp_core.specs.declared.call.Call.{Call}
 use Rattle.stamp_core.specs.declared.reply.Reply.{Reply}
@@ -19,20 +18,18 @@ use Rattle.stamp_explain.proofs.Lists.{none_in_empty}
 use Rattle.stamp_watch.specs.declared.event.Event.{Event}
 use Rattle.stamp_watch.specs.declared.event.Event.TheVariants.{Begins, Returns, Withdraws}
 use Rattle.stamp_watch.specs.Ahead.{IsWithdrawn}
-use Rattle.stamp_watch.specs.Ahead.IsWithdrawn.{withdrawn_next, withdrawn_past_return}
-use Rattle.stamp_watch.specs.AsObserved.{Ending, ending_of, with_entry, entries_from, observed_of}
-use Rattle.stamp_watch.specs.AsObserved.{IsStuckAtPosition, NoneIsWithdrawnLater}
+use Rattle.stamp_watch.specs.Ahead.IsWithdrawn.{withdrawn_next, withdrawn_past_beginning, withdrawn_past_return}
+use Rattle.stamp_watch.specs.Ahead.IsWithdrawn.{withdrawn_past_withdrawal}
+use Rattle.stamp_watch.specs.AsObserved.{Ending, ending_of, with_entry, entries_from, observed_of, IsStuckAtPosition}
+use Rattle.stamp_watch.specs.AsObserved.{NoneIsWithdrawnLater}
 use Rattle.stamp_watch.specs.AsObserved.Ending.{StaysOpen, EndsBy, EndsWithdrawn}
 use Rattle.stamp_watch.specs.Form.{is_busy_then, MayCome, AreInFormFrom, AreInForm}
-use Rattle.stamp_watch.specs.Run.{AreExplained, AreStuckAt, Lanes, Survives, all_idle}
-use Rattle.stamp_watch.specs.Run.Phase.{Asks}
-use Rattle.stamp_watch.specs.Run.Survives.{at_end, takes_effect, begins, returns, withdraws}
-use Rattle.stamp_watch.specs.WatchLaws.{StuckAsObserved}
-use Rattle.stamp_watch.proofs.Surviving.{sets_of}
+use Rattle.stamp_watch.specs.Run.{AreExplained, AreStuckAt, all_idle}
+use Rattle.stamp_watch.specs.WatchLaws.{StuckAsObserved, StuckAsSeen}
 use Rattle.stamp_watch.proofs.Numbered.{IsEntryOf, entry_returned, in_with_entry, with_entry_has, ended_by_return}
 use Rattle.stamp_watch.proofs.Numbered.{ended_past_withdrawal, ending_last, last_from, open_or_ended, return_ends}
 use Rattle.stamp_watch.proofs.Numbered.{return_spares, withdrawal_spares, contains_at}
-use Rattle.stamp_watch.proofs.Following.{has_call, free_idle, busy_begins, busy_returns, busy_withdraws, busy_takes}
+use Rattle.stamp_watch.proofs.Form.{form_up_to, may_come_at, begins_next}
 use Rattle.stamp_watch.proofs.AsObserved.{AreOfRun, run_explained, explained_run}
 use Rattle.stamp_watch.proofs.Shortening.{returned_below, shortened, AreKept, shortened_run}
 
@@ -202,22 +199,6 @@ take_one (suc k) [] event is = absurd (none-some event is)
 take_one zero (x ∷ events) event is = ap (λ (e : Event). e ∷ []) (same_Some x event is)
 take_one (suc k) (x ∷ events) event is = ap (λ (es : List Event). x ∷ es) (take_one k events event is)
 
-form_up_to : (k : ℕ) (busy : ℕ → Bool) (events : List Event) → AreInFormFrom busy events →
-    AreInFormFrom busy (take k events)
-form_up_to zero busy events form = tt
-form_up_to (suc k) busy [] form = tt
-form_up_to (suc k) busy (event ∷ events) form =
-    (form.0, form_up_to k (λ (lane : ℕ). is_busy_then lane (busy lane) event) events form.1)
-
-may_come_at : (k : ℕ) (busy : ℕ → Bool) (events : List Event) (event : Event) → AreInFormFrom busy events →
-    slice_get events k ≡ Some event →
-    MayCome (λ (lane : ℕ). fold (is_busy_then lane) (busy lane) (take k events)) event
-may_come_at zero busy [] event form is = absurd (none-some event is)
-may_come_at (suc k) busy [] event form is = absurd (none-some event is)
-may_come_at zero busy (x ∷ events) event form is = subst (λ (e : Event). MayCome busy e) (same_Some x event is) form.0
-may_come_at (suc k) busy (x ∷ events) event form is =
-    may_come_at k (λ (lane : ℕ). is_busy_then lane (busy lane) x) events event form.1 is
-
 withdrawn_at : (k lane : ℕ) (events : List Event) → slice_get events k ≡ Some (Withdraws lane) →
     IsWithdrawn lane (drop k events)
 withdrawn_at zero lane [] is = absurd (none-some (Withdraws lane) is)
@@ -249,25 +230,6 @@ kept_past_return zero busy (x ∷ events) u reply is kept = λ lane still withdr
         (withdrawn_past_return u reply apart withdrawn))
 kept_past_return (suc k) busy (x ∷ events) u reply is kept =
     kept_past_return k (λ (lane : ℕ). is_busy_then lane (busy lane) x) events u reply is kept
-
--- a call may begin on each way in a lane that is free
-begins_next : (limits : Bounds) (lane : ℕ) (call : Call) (events : List Event) (s : List LockEvent) (lanes : Lanes)
-    (busy : Bool) → busy ≡ has_call (lanes lane) → fold (is_busy_then lane) busy events ≡ false →
-    Survives limits events s lanes → Survives limits (events ++ Begins lane call ∷ []) s lanes
-begins_next limits lane call events s lanes busy has free at_end = begins lane call
-    (free_idle (lanes lane) (sym has ∙ free)) (sets_of lanes lane (Asks call)) at_end
-begins_next limits lane call events s lanes busy has free (takes_effect {next = next} {after = after} u c r asks step
-    sets rest) = takes_effect u c r asks step sets (begins_next limits lane call events next after busy
-    (busy_takes lanes after u lane c r busy asks sets has) free rest)
-begins_next limits lane call events s lanes busy has free (begins {events = more} {after = after} u c idle sets rest) =
-    begins u c idle sets (begins_next limits lane call more s after (is_busy_then lane busy (Begins u c))
-    (busy_begins lanes after u lane c busy sets has) free rest)
-begins_next limits lane call events s lanes busy has free (returns {events = more} {after = after} u r gets sets rest) =
-    returns u r gets sets (begins_next limits lane call more s after (is_busy_then lane busy (Returns u r))
-    (busy_returns lanes after u lane r busy sets has) free rest)
-begins_next limits lane call events s lanes busy has free (withdraws {events = more} {after = after} u c asks sets
-    rest) = withdraws u c asks sets (begins_next limits lane call more s after (is_busy_then lane busy (Withdraws u))
-    (busy_withdraws lanes after u lane busy sets has) free rest)
 
 -- an entry that returns so
 record HasReturnAt (entries : List Observation) (r : Returned) : Type 0 where
@@ -504,3 +466,57 @@ there_stuck limits events k form kept found = subst (AreStuckAt limits events) f
 pub stuck_as_observed : StuckAsObserved
 stuck_as_observed limits events k form kept =
     ((λ are. stuck_there limits events k form kept are), (λ found. there_stuck limits events k form kept found))
+
+-- a run up to an event, of which the event is the last
+take_short : (k : ℕ) (events : List Event) → take k (take (suc k) events) ≡ take k events
+take_short zero events = refl
+take_short (suc k) [] = refl
+take_short (suc k) (x ∷ events) = ap (λ (es : List Event). x ∷ es) (take_short k events)
+
+take_twice : (k : ℕ) (events : List Event) → take k (take k events) ≡ take k events
+take_twice zero events = refl
+take_twice (suc k) [] = refl
+take_twice (suc k) (x ∷ events) = ap (λ (es : List Event). x ∷ es) (take_twice k events)
+
+withdrawn_none : {lane : ℕ} → IsWithdrawn lane [] → ⊥
+withdrawn_none withdrawn = elim withdrawn [ ]
+
+withdrawn_alone : {lane : ℕ} {event : Event} → IsWithdrawn lane (event ∷ []) → event ≡ Withdraws lane
+withdrawn_alone withdrawn_next = refl
+withdrawn_alone (withdrawn_past_beginning other call none) = absurd (withdrawn_none none)
+withdrawn_alone (withdrawn_past_return other reply apart none) = absurd (withdrawn_none none)
+withdrawn_alone (withdrawn_past_withdrawal other apart none) = absurd (withdrawn_none none)
+
+withdrawn_last : (k lane : ℕ) (events : List Event) → IsWithdrawn lane (drop k (take (suc k) events)) →
+    slice_get events k ≡ Some (Withdraws lane)
+withdrawn_last zero lane [] withdrawn = absurd (withdrawn_none withdrawn)
+withdrawn_last (suc k) lane [] withdrawn = absurd (withdrawn_none withdrawn)
+withdrawn_last zero lane (x ∷ events) withdrawn = ap (λ (e : Event). Some e) (withdrawn_alone withdrawn)
+withdrawn_last (suc k) lane (x ∷ events) withdrawn = withdrawn_last k lane events withdrawn
+
+pub stuck_as_seen : StuckAsSeen
+stuck_as_seen limits events k form no_withdrawal = ((λ are. same.0 (shorter are)), (λ found. longer (same.1 found)))
+  where
+    none_later : NoneIsWithdrawnLater k (take (k + 1) events)
+    none_later lane busy withdrawn = no_withdrawal lane (withdrawn_last k lane events
+        (subst (λ (n : ℕ). IsWithdrawn lane (drop k (take n events))) (add-one k) withdrawn))
+
+    same : AreStuckAt limits (take (k + 1) events) k ↔
+        IsStuckAtPosition (observed_of limits (take (k + 1) events)) k
+    same = stuck_as_observed limits (take (k + 1) events) k
+        (form_up_to (k + 1) (λ (lane : ℕ). false) events form) none_later
+
+    first : take k (take (k + 1) events) ≡ take k events
+    first = ap (λ (n : ℕ). take k (take n events)) (add-one k) ∙ take_short k events
+
+    shorter : AreStuckAt limits events k → AreStuckAt limits (take (k + 1) events) k
+    shorter are = record {
+      explained = subst (AreExplained limits) (sym first) are.explained;
+      stuck = λ explained. are.stuck (subst (AreExplained limits) (take_twice (k + 1) events) explained);
+    }
+
+    longer : AreStuckAt limits (take (k + 1) events) k → AreStuckAt limits events k
+    longer are = record {
+      explained = subst (AreExplained limits) first are.explained;
+      stuck = λ explained. are.stuck (subst (AreExplained limits) (sym (take_twice (k + 1) events)) explained);
+    }

@@ -17,9 +17,9 @@ use Rattle.stamp_watch.specs.Ahead.IsWithdrawn.{withdrawn_past_withdrawal}
 use Rattle.stamp_watch.specs.Ahead.EndsNever.{not_beginning, not_returning, not_withdrawing}
 use Rattle.stamp_watch.specs.Ahead.ReturnsSooner.{sooner_next, sooner_past_beginning, sooner_past_return}
 use Rattle.stamp_watch.specs.Ahead.ReturnsSooner.{sooner_past_withdrawal}
-use Rattle.stamp_watch.specs.WatchLaws.{BeginsAtOnce, BeginsFirst, ReturnsAtOnce, ReturnsFirst}
-use Rattle.stamp_watch.specs.WatchLaws.{TakesEffectFirst, AtOnceLosesNothing, UnchangingNeverNeeded, SoonerAlikeFirst}
-use Rattle.stamp_watch.specs.WatchLaws.{WithdrawsAtOnce, WithdrawsFirst, WithdrawnTakesNoEffect}
+use Rattle.stamp_watch.specs.WatchLaws.{BeginsAtOnce, BeginsFirst, ReturnsAtOnce, ReturnsFirst, TakesEffectFirst}
+use Rattle.stamp_watch.specs.WatchLaws.{AtOnceLosesNothing, UnchangingNeverNeeded, SoonerAlikeFirst, WithdrawsAtOnce}
+use Rattle.stamp_watch.specs.WatchLaws.{WithdrawsFirst, WithdrawnTakesNoEffect}
 
 -- phases are told apart
 pub idle_or_asks : {p : Phase} {call : Call} → p ≡ Idle → p ≡ Asks call → ⊥

@@ -1,5 +1,6 @@
 -- The laws of runs, over the definitions alone.
-use Rattle.std.specs.Prelude.{ℕ, ◌≡◌, ◌≢◌, ◌≤◌, ◌<◌, ◌↔◌, ◌++◌, List, [], ◌∷◌, length}
+use Rattle.std.specs.Prelude.{ℕ, ◌≡◌, ◌≢◌, ◌≤◌, ◌<◌, ◌+◌, ◌↔◌, ◌++◌, false, List, [], ◌∷◌, length, take, slice_get}
+use Rattle.std.specs.Prelude.{Some}
 use Rattle.stamp_core.specs.LockEvent.{LockEvent, write_count}
 use Rattle.stamp_core.specs.Limits.{Bounds}
 use Rattle.stamp_core.specs.declared.call.Call.{Call}
@@ -10,7 +11,7 @@ use Rattle.stamp_watch.specs.declared.event.Event.TheVariants.{Begins, Returns, 
 use Rattle.stamp_watch.specs.Run.{AreExplained, AreStuckAt, Configuration, opening, Lanes, LockStep, Sets, Survives}
 use Rattle.stamp_watch.specs.Run.Phase.{Idle, Asks, Gets}
 use Rattle.stamp_watch.specs.Ahead.{Tells, IsWithdrawn, EndsNever, ReturnsSooner, Spares}
-use Rattle.stamp_watch.specs.Form.{AreInForm}
+use Rattle.stamp_watch.specs.Form.{is_busy_after, AreInForm}
 use Rattle.stamp_watch.specs.Watching.{Fits, GoesOn, StandFor, Told}
 use Rattle.stamp_watch.specs.AsObserved.{observed_of, IsStuckAtPosition, NoneIsWithdrawnLater}
 
@@ -154,6 +155,14 @@ BeginsSooner =
     (lanes begun : Lanes) → Sets lanes begun lane (Asks call) → Spares lane between →
     Survives limits (between ++ Begins lane call ∷ rest) s lanes → Survives limits (between ++ rest) s begun
 
+-- A call that is withdrawn may be left out: its two events make no difference.
+abbrev pub WithdrawnMayBeLeftOut : Type 0
+WithdrawnMayBeLeftOut =
+    (limits : Bounds) (lane : ℕ) (call : Call) (past between rest : List Event) →
+    is_busy_after past lane ≡ false → Spares lane between →
+    AreExplained limits (past ++ (Begins lane call ∷ between ++ Withdraws lane ∷ rest)) ↔
+    AreExplained limits (past ++ (between ++ rest))
+
 -- A run is explained exactly where it is as an observed history.
 abbrev pub ExplainedAsObserved : Type 0
 ExplainedAsObserved =
@@ -166,3 +175,11 @@ abbrev pub StuckAsObserved : Type 0
 StuckAsObserved =
     (limits : Bounds) (events : List Event) (k : ℕ) → AreInForm events → NoneIsWithdrawnLater k events →
     AreStuckAt limits events k ↔ IsStuckAtPosition (observed_of limits events) k
+
+-- Up to an event that is no withdrawal all calls are told of: there a run is stuck exactly where what was seen by then
+-- is, whatever comes later.
+abbrev pub StuckAsSeen : Type 0
+StuckAsSeen =
+    (limits : Bounds) (events : List Event) (k : ℕ) → AreInForm events →
+    ((lane : ℕ) → slice_get events k ≢ Some (Withdraws lane)) →
+    AreStuckAt limits events k ↔ IsStuckAtPosition (observed_of limits (take (k + 1) events)) k

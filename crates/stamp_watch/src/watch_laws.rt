@@ -1,5 +1,5 @@
 //! Laws of runs. Each function does nothing; its contract is the law, over the definitions alone.
-ghost use Rattle.stamp_watch.specs.WatchLaws.{AtOnceLosesNothing, BeginsFirst, BeginsLate, BeginsSooner, ExplainedAsObserved, OpeningStands, ReturnsFirst, SetsGoOn, SetsTell, ShorterStayExplained, SoonerAlikeFirst, StuckAsObserved, StuckIsExact, TakesEffectFirst, UnchangingNeverNeeded, WithdrawnTakesNoEffect, WithdrawsFirst};
+ghost use Rattle.stamp_watch.specs.WatchLaws.{AtOnceLosesNothing, BeginsFirst, BeginsLate, BeginsSooner, ExplainedAsObserved, OpeningStands, ReturnsFirst, SetsGoOn, SetsTell, ShorterStayExplained, SoonerAlikeFirst, StuckAsObserved, StuckAsSeen, StuckIsExact, TakesEffectFirst, UnchangingNeverNeeded, WithdrawnMayBeLeftOut, WithdrawnTakesNoEffect, WithdrawsFirst};
 
 /// Where a call begins next, nothing is lost if it begins before other calls take effect.
 pub fn begins_first()
@@ -30,6 +30,11 @@ pub fn at_once_loses_nothing()
 /// A call that is withdrawn takes no effect.
 pub fn withdrawn_takes_no_effect()
     ensures { WithdrawnTakesNoEffect }
+{}
+
+/// A call that is withdrawn may be left out: its two events make no difference.
+pub fn withdrawn_may_be_left_out()
+    ensures { WithdrawnMayBeLeftOut }
 {}
 
 /// A call that never ends is not needed where it changed nothing.
@@ -87,4 +92,10 @@ pub fn explained_as_observed()
 /// if no call that is open then is withdrawn later.
 pub fn stuck_as_observed()
     ensures { StuckAsObserved }
+{}
+
+/// A run in form is stuck at an event that is no withdrawal exactly where what was seen by then is stuck there,
+/// whatever comes later.
+pub fn stuck_as_seen()
+    ensures { StuckAsSeen }
 {}
