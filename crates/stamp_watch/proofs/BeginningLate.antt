@@ -151,7 +151,8 @@ pub past_return_spared : {t u : ℕ} {answer : Reply} {events : List Event} → 
     (u ≢ t) × Spares t events
 past_return_spared (spares_return u answer apart spares) = (apart, spares)
 
-pub past_withdrawal_spared : {t u : ℕ} {events : List Event} → Spares t (Withdraws u ∷ events) → (u ≢ t) × Spares t events
+pub past_withdrawal_spared : {t u : ℕ} {events : List Event} → Spares t (Withdraws u ∷ events) →
+    (u ≢ t) × Spares t events
 past_withdrawal_spared (spares_withdrawal u apart spares) = (apart, spares)
 
 -- the lane is idle, and the call may begin at once

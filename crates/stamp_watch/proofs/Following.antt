@@ -282,9 +282,9 @@ follows limits entries single (Begins lane call ∷ events) busy begun n form s 
     (λ (other : ℕ). is_busy_then other (busy other) (Begins lane call)) (begun_at begun lane n) (n + 1) form.1 s
     (set_of lanes lane (Asks call)) order
     (stands_past busy lanes (set_of lanes lane (Asks call)) begun (begun_at begun lane n) n (Begins lane call) events
-    moves (λ other has. busy_begins lanes (set_of lanes lane (Asks call)) lane other call (busy other) sets has) stands)
-    (plan_past limits entries lanes (set_of lanes lane (Asks call)) begun (begun_at begun lane n) n (Begins lane call)
-    events s order moves plan))
+    moves (λ other has. busy_begins lanes (set_of lanes lane (Asks call)) lane other call (busy other) sets has)
+    stands) (plan_past limits entries lanes (set_of lanes lane (Asks call)) begun (begun_at begun lane n) n
+    (Begins lane call) events s order moves plan))
   where
     idle : lanes lane ≡ Idle
     idle = free_idle (lanes lane) (sym (stands.has lane) ∙ form.0.0)

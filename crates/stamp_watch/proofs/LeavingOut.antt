@@ -39,8 +39,8 @@ left_out limits t call [] rest events s lanes begun same spares idle sets way =
 left_out limits t call (e ∷ between) rest events s lanes begun same spares idle sets at_end = absurd (no_empty same)
 left_out limits t call (e ∷ between) rest events s lanes begun same spares idle sets (takes_effect {next = next}
     {after = after} u c r asks step sets_u way) = by (cases_eq u t) (λ apart. takes_effect u c r
-    (sym (sets.others u apart) ∙ asks) step (sets_of lanes u (Gets r)) (left_out limits t call (e ∷ between) rest events
-    next (set_of lanes u (Gets r)) after same spares
+    (sym (sets.others u apart) ∙ asks) step (sets_of lanes u (Gets r)) (left_out limits t call (e ∷ between) rest
+    events next (set_of lanes u (Gets r)) after same spares
     ((sets_of lanes u (Gets r)).others t (λ is. apart (sym is)) ∙ idle)
     (sets_swapped lanes begun (set_of lanes u (Gets r)) after t u (Asks call) (Gets r) (λ is. apart (sym is)) sets
     (sets_of lanes u (Gets r)) sets_u) way))
@@ -96,10 +96,10 @@ put_in limits t call [] rest events s lanes begun same spares idle sets way = wi
 put_in limits t call (e ∷ between) rest events s lanes begun same spares idle sets at_end = absurd (no_empty same)
 put_in limits t call (e ∷ between) rest events s lanes begun same spares idle sets (takes_effect {next = next}
     {after = after} u c r asks step sets_u way) = takes_effect u c r (sets.others u apart ∙ asks) step
-    (sets_of begun u (Gets r)) (put_in limits t call (e ∷ between) rest events next after (set_of begun u (Gets r)) same
-    spares (sets_u.others t (λ is. apart (sym is)) ∙ idle)
-    (sets_swapped lanes begun after (set_of begun u (Gets r)) t u (Asks call) (Gets r) (λ is. apart (sym is)) sets sets_u
-    (sets_of begun u (Gets r))) way)
+    (sets_of begun u (Gets r)) (put_in limits t call (e ∷ between) rest events next after (set_of begun u (Gets r))
+    same spares (sets_u.others t (λ is. apart (sym is)) ∙ idle)
+    (sets_swapped lanes begun after (set_of begun u (Gets r)) t u (Asks call) (Gets r) (λ is. apart (sym is)) sets
+    sets_u (sets_of begun u (Gets r))) way)
   where
     apart : u ≢ t
     apart is = idle_or_asks (subst (λ (v : ℕ). lanes v ≡ Idle) (sym is) idle) asks

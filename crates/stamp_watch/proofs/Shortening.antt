@@ -21,8 +21,7 @@ use Rattle.stamp_watch.specs.AsObserved.{Ending, ending_of, entries_from}
 use Rattle.stamp_watch.specs.AsObserved.Ending.{StaysOpen, EndsBy, EndsWithdrawn}
 use Rattle.stamp_watch.specs.Form.{is_busy_then, AreInForm}
 use Rattle.stamp_watch.proofs.Numbered.{IsEntryOf, entry_tells, entry_returned, in_with_entry, with_entry_has}
-use Rattle.stamp_watch.proofs.Numbered.{return_ends, return_spares, withdrawal_ends, withdrawal_spares, ending_last}
-use Rattle.stamp_watch.proofs.Numbered.{first_from, contains_at, own_firsts}
+use Rattle.stamp_watch.proofs.Numbered.{ending_last, first_from, contains_at, own_firsts}
 use Rattle.stamp_watch.proofs.Planning.{IsLate}
 use Rattle.stamp_watch.proofs.AsObserved.{AreOfRun, locks_from}
 
@@ -113,17 +112,15 @@ withdrawn_by lane n (Returns other reply ∷ events) ends = by (cases_eq other l
   where
     by : (other ≡ lane) ⊎ (other ≢ lane) → (ending_of lane (n + 1) events ≡ EndsWithdrawn → IsWithdrawn lane events) →
         IsWithdrawn lane (Returns other reply ∷ events)
-    by (inl same) _ = let here = return_ends lane other n reply events same in cc
-    by (inr apart) more = withdrawn_past_return other reply apart
-        (more (sym (return_spares lane other n reply events apart) ∙ ends))
+    by (inl same) _ = let here = rw (eq-eqb other lane same) at ends in cc
+    by (inr apart) more = withdrawn_past_return other reply apart (more (rw (ne_eqb other lane apart) at ends))
 withdrawn_by lane n (Withdraws other ∷ events) ends = by (cases_eq other lane)
     (λ is. withdrawn_by lane (n + 1) events is)
   where
     by : (other ≡ lane) ⊎ (other ≢ lane) → (ending_of lane (n + 1) events ≡ EndsWithdrawn → IsWithdrawn lane events) →
         IsWithdrawn lane (Withdraws other ∷ events)
     by (inl same) _ = subst (λ (v : ℕ). IsWithdrawn lane (Withdraws v ∷ events)) (sym same) withdrawn_next
-    by (inr apart) more = withdrawn_past_withdrawal other apart
-        (more (sym (withdrawal_spares lane other n events apart) ∙ ends))
+    by (inr apart) more = withdrawn_past_withdrawal other apart (more (rw (ne_eqb other lane apart) at ends))
 
 -- a lane that is busy from then on is not withdrawn behind the first m events
 abbrev IsKept : ℕ → Bool → ℕ → List Event → Type 0
@@ -155,16 +152,10 @@ ends_up_to lane n (suc m) end (Returns other reply ∷ events) at kept = by (cas
         EndsUpTo end (ending_of lane (n + 1) events) (ending_of lane (n + 1) (take m events))) →
         EndsUpTo end (ending_of lane n (Returns other reply ∷ events))
         (ending_of lane n (Returns other reply ∷ take m events))
-    by (inl same) _ = subst (λ (x : Ending). EndsUpTo end x (ending_of lane n (Returns other reply ∷ take m events)))
-        (sym (return_ends lane other n reply events same))
-        (subst (λ (x : Ending). EndsUpTo end (EndsBy (record { last = n; reply = reply })) x)
-        (sym (return_ends lane other n reply (take m events) same)) (ended (omega arith)))
-    by (inr apart) more = subst
-        (λ (x : Ending). EndsUpTo end x (ending_of lane n (Returns other reply ∷ take m events)))
-        (sym (return_spares lane other n reply events apart))
-        (subst (λ (x : Ending). EndsUpTo end (ending_of lane (n + 1) events) x)
-        (sym (return_spares lane other n reply (take m events) apart)) (more (still_kept lane m
-        (not (other == lane) && true) true events (ap (λ (b : Bool). not b && true) (ne_eqb other lane apart)) kept)))
+    by (inl same) _ = let less : n < end = omega arith in
+        rw (eq-eqb other lane same) (ended {r = record { last = n; reply = reply }} less)
+    by (inr apart) more = rw (ne_eqb other lane apart) (more (still_kept lane m
+        (not (other == lane) && true) true events (rw (ne_eqb other lane apart)) kept))
 ends_up_to lane n (suc m) end (Withdraws other ∷ events) at kept = by (cases_eq other lane)
     (λ more. ends_up_to lane (n + 1) m end events (omega arith) more)
   where
@@ -172,14 +163,9 @@ ends_up_to lane n (suc m) end (Withdraws other ∷ events) at kept = by (cases_e
         EndsUpTo end (ending_of lane (n + 1) events) (ending_of lane (n + 1) (take m events))) →
         EndsUpTo end (ending_of lane n (Withdraws other ∷ events))
         (ending_of lane n (Withdraws other ∷ take m events))
-    by (inl same) _ = subst (λ (x : Ending). EndsUpTo end x (ending_of lane n (Withdraws other ∷ take m events)))
-        (sym (withdrawal_ends lane other n events same)) (subst (λ (x : Ending). EndsUpTo end EndsWithdrawn x)
-        (sym (withdrawal_ends lane other n (take m events) same)) withdrawn)
-    by (inr apart) more = subst (λ (x : Ending). EndsUpTo end x (ending_of lane n (Withdraws other ∷ take m events)))
-        (sym (withdrawal_spares lane other n events apart))
-        (subst (λ (x : Ending). EndsUpTo end (ending_of lane (n + 1) events) x)
-        (sym (withdrawal_spares lane other n (take m events) apart)) (more (still_kept lane m
-        (not (other == lane) && true) true events (ap (λ (b : Bool). not b && true) (ne_eqb other lane apart)) kept)))
+    by (inl same) _ = rw (eq-eqb other lane same) withdrawn
+    by (inr apart) more = rw (ne_eqb other lane apart) (more (still_kept lane m
+        (not (other == lane) && true) true events (rw (ne_eqb other lane apart)) kept))
 
 -- none of the lanes that are busy after the first m events is withdrawn behind them
 abbrev pub AreKept : (ℕ → Bool) → ℕ → List Event → Type 0

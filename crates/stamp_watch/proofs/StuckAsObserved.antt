@@ -267,9 +267,7 @@ call_past_beginning busy other lane n call events r (inl open_now) = by (cases_e
   where
     is_its : other ≡ lane → IsEntryOf other call n (ending_of other (n + 1) events)
         (record { thread = other; call = call; first = n; returned = Some r })
-    is_its same = subst
-        (λ (x : Ending). IsEntryOf other call n x (record { thread = other; call = call; first = n; returned = Some r }))
-        (sym (ap (λ (v : ℕ). ending_of v (n + 1) events) same ∙ open_now.1)) refl
+    is_its same = rw (same, open_now.1) refl
 
     by : (other ≡ lane) ⊎ (other ≢ lane) →
         IsOfCall busy (ending_of lane (n + 1) events) (entries_from n (Begins other call ∷ events)) r

@@ -17,7 +17,8 @@ use Rattle.stamp_watch.proofs.Planning.{lock_replies}
 pub unchanging_stays : (limits : Bounds) (call : Call) (reply : Reply) → changes_nothing call reply ≡ true →
     (u v : List LockEvent) → LockStep limits u call reply v → v ≡ u
 unchanging_stays limits call reply still u v step = step.appends ∙ ap (λ (t : LockState). t.0)
-    (unchanging_calls_change_nothing limits call reply (u, []) (after_call limits (u, []) (call, reply)) still (record {
+    (unchanging_calls_change_nothing limits call reply (u, []) (after_call limits (u, []) (call, reply)) still
+    (record {
       replies = subst (λ (b : Bool). MatchBool b (Replies (transition limits u call) reply)
           (RecordReplies [] call reply)) (sym (lock_replies limits u call reply step.replies)) step.replies;
       next = refl;
