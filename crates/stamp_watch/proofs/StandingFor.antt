@@ -1,19 +1,16 @@
 -- A set of configurations that an online judge keeps, event by event.
-use Rattle.std.proofs.Common.{◌≡◌, ℕ, List, [], ◌∷◌, ◌++◌, refl, sym, ◌∙◌, subst, arith, append_assoc, append-nil}
+use Rattle.std.proofs.Common.{◌≡◌, ℕ, List, [], ◌∷◌, ◌++◌, refl, sym, ◌∙◌, subst, append_assoc, append-nil}
 use Rattle.std.proofs.Math.Seq.{take-append_seam, take-append-add}
-use Rattle.std.specs.List.{Contains}
 use Rattle.std.proofs.lemmas.List.Elements.{All-nil, All-cons, All-head, All-contains, Contains-push}
 use Rattle.stamp_core.specs.LockEvent.{LockEvent}
 use Rattle.stamp_core.specs.Limits.{Bounds}
+use Rattle.stamp_explain.proofs.Lists.{none_in_empty}
 use Rattle.stamp_watch.specs.declared.event.Event.{Event}
 use Rattle.stamp_watch.specs.Run.{Configuration, opening, Lanes, Leads, Survives, IsPossibleAfter, AreExplained}
 use Rattle.stamp_watch.specs.Run.Leads.{leads_nowhere, by_effect, by_beginning, by_return, by_withdrawal}
 use Rattle.stamp_watch.specs.Run.Survives.{at_end, takes_effect, begins, returns, withdraws}
 use Rattle.stamp_watch.specs.Watching.{StandFor, ComesFrom, Fits, GoesOn, Told}
 use Rattle.stamp_watch.specs.WatchLaws.{ShorterStayExplained, SetsTell, StuckIsExact, OpeningStands}
-
-none_in_empty : {X : Type 0} (x : X) → ¬ Contains [] x
-none_in_empty x (k, lt, e) = absurd (omega arith)
 
 pub no_empty : {e : Event} {es : List Event} → [] ≡ e ∷ es → ⊥
 no_empty same = cc

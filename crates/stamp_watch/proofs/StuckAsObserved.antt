@@ -26,6 +26,7 @@ use Rattle.stamp_watch.specs.AsObserved.Ending.{StaysOpen, EndsBy, EndsWithdrawn
 use Rattle.stamp_watch.specs.Form.{is_busy_then, MayCome, AreInFormFrom, AreInForm}
 use Rattle.stamp_watch.specs.Run.{AreExplained, AreStuckAt, all_idle}
 use Rattle.stamp_watch.specs.WatchLaws.{StuckAsObserved, StuckAsSeen}
+use Rattle.stamp_watch.proofs.Surviving.{withdrawn_none}
 use Rattle.stamp_watch.proofs.Numbered.{IsEntryOf, entry_returned, in_with_entry, with_entry_has, ended_by_return}
 use Rattle.stamp_watch.proofs.Numbered.{ended_past_withdrawal, ending_last, last_from, open_or_ended, return_ends}
 use Rattle.stamp_watch.proofs.Numbered.{return_spares, withdrawal_spares, contains_at}
@@ -475,9 +476,6 @@ take_twice : (k : ℕ) (events : List Event) → take k (take k events) ≡ take
 take_twice zero events = refl
 take_twice (suc k) [] = refl
 take_twice (suc k) (x ∷ events) = ap (λ (es : List Event). x ∷ es) (take_twice k events)
-
-withdrawn_none : {lane : ℕ} → IsWithdrawn lane [] → ⊥
-withdrawn_none withdrawn = elim withdrawn [ ]
 
 withdrawn_alone : {lane : ℕ} {event : Event} → IsWithdrawn lane (event ∷ []) → event ≡ Withdraws lane
 withdrawn_alone withdrawn_next = refl

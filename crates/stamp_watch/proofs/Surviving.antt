@@ -224,7 +224,7 @@ gotten_is_told limits t gotten reply events s lanes gets tells (withdraws {event
     sets rest) = gotten_is_told limits t gotten reply later s after
     (sets.others t (λ e. (tells_past_withdrawal tells).0 (sym e)) ∙ gets) (tells_past_withdrawal tells).1 rest
 
-withdrawn_none : {t : ℕ} → IsWithdrawn t [] → ⊥
+pub withdrawn_none : {t : ℕ} → IsWithdrawn t [] → ⊥
 withdrawn_none withdrawn = elim withdrawn [ ]
 
 withdrawn_beginning : {t u : ℕ} {call : Call} {events : List Event} → IsWithdrawn t (Begins u call ∷ events) →
