@@ -1,0 +1,4 @@
+pub mod Lanes
+pub mod Effect
+pub mod Layer
+pub mod Step
