@@ -21,6 +21,7 @@ for ((run = 0; run < runs; run++)); do
         [ "$way" = tapes ] || "$room/recorder" "$way" "$calls" "$rounds" | sed "s|^|c ${way##*/} |"
         rm -f "$room/stream"
     done
-    [ -z "${OTHER:-}" ] || java -Xmx1g -cp "$OTHER:$room" RecorderBench tapes "$calls" "$rounds" | sed "s|^|java other |"
+    [ -z "${OTHER:-}" ] ||
+        java -Xmx1g -cp "$OTHER:$room" RecorderBench tapes "$calls" "$rounds" | sed "s|^|java other |"
 done > "$room/lines"
 python3 -B "$here/table.py" "$room/lines"

@@ -4,6 +4,7 @@
 #include "observed_lock.h"
 #include <inttypes.h>
 #include <stdio.h>
+#include <string.h>
 
 enum { THREADS = 4 };
 

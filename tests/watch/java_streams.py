@@ -91,7 +91,8 @@ def after(stream, begin, kinds):
 def planted(stream):
     """Streams with one reply changed, and the number of its event."""
     later = 256 * (len(stream) // EVENT)
-    cases = [("write_lock", STAMP, lambda it: (STAMP, it + later)), ("read_lock", STAMP, lambda it: (STAMP, it + later)),
+    cases = [("write_lock", STAMP, lambda it: (STAMP, it + later)),
+             ("read_lock", STAMP, lambda it: (STAMP, it + later)),
              ("unlock_write", DONE, lambda _: (MISMATCH, 0)), ("try_unlock_write", YES, lambda _: (NO, 0)),
              ("unlock", DONE, lambda _: (YES, 0)), ("read_count", COUNT, lambda it: (COUNT, it + 64)),
              ("is_write_locked", YES, lambda _: (STAMP, 256))]

@@ -14,7 +14,7 @@ def fail(name, *told):
 
 
 def run(words, text=b""):
-    return subprocess.run(words, input=text, capture_output=True, timeout=60)
+    return subprocess.run(words, input=text, capture_output=True, timeout=40)
 
 
 def history_of(name, stream):
