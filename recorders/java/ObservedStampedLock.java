@@ -127,6 +127,8 @@ public class ObservedStampedLock extends StampedLock implements Closeable {
      * A new lock whose calls are recorded in memory, but no more than so many. Then recording ends, which is told
      * on standard error, and calls go on unrecorded. Of the calls that are kept some may be under way: at most 32
      * are kept beyond the number.
+     *
+     * @throws IllegalArgumentException if the number is below 0
      */
     public ObservedStampedLock(long mostCalls) {
         this(new Tapes(mostCalls));

@@ -48,6 +48,9 @@ final class Tapes extends Recording {
     /** A recording of about so many calls. */
     Tapes(long calls) {
         super(2 * Math.min(calls, Long.MAX_VALUE / 128));
+        if (calls < 0) {
+            throw new IllegalArgumentException(calls + " calls");
+        }
     }
 
     @Override

@@ -207,7 +207,7 @@ public final class StreamedRuns {
 
     /** Ends the recording while calls go on, and makes calls after that. */
     private void closed(int threads) throws InterruptedException, IOException {
-        List<Thread> started = startCalling(threads, Integer.MAX_VALUE, true);
+        List<Thread> started = startCalling(threads, 80_000, true);
         Thread.sleep(40);
         lock.close();
         long begin = System.nanoTime();
@@ -245,7 +245,7 @@ public final class StreamedRuns {
 
     /** Histories while calls go on, each in a line. */
     private void looked(int threads, int histories) throws InterruptedException, IOException {
-        List<Thread> started = startCalling(threads, 10_000, true);
+        List<Thread> started = startCalling(threads, 40_000, true);
         Writer out = new OutputStreamWriter(System.out, StandardCharsets.US_ASCII);
         for (int i = 0; i < histories; i++) {
             Thread.sleep(10);
@@ -272,6 +272,8 @@ public final class StreamedRuns {
             case "throwing" -> new ObservedStampedLock(
                     new TroubledChannel(file, number, new IllegalStateException("no channel")));
             case "slow" -> new ObservedStampedLock(new TroubledChannel(file, Long.MAX_VALUE, null));
+            case "exiting" -> new ObservedStampedLock(
+                    new TroubledChannel(file, Long.MAX_VALUE, null)).withShutdownHook();
             case "hanging" -> new ObservedStampedLock(Path.of(file)).withShutdownHook();
             case "delayed" -> new ObservedStampedLock(Path.of(file)).withDelays(number);
             default -> new ObservedStampedLock(Path.of(file));
@@ -287,10 +289,14 @@ public final class StreamedRuns {
             case "closed" -> run.closed(number);
             case "failing", "throwing" -> run.failing(4);
             case "slow" -> join(run.startCalling(4, number, false));
+            case "exiting" -> {
+                join(run.startCalling(4, number, false));
+                System.exit(0);
+            }
             case "delayed" -> join(run.startCalling(4, 4000, false));
             case "endless" -> join(run.startCalling(number, Integer.MAX_VALUE, true));
             case "hanging" -> run.hanging(number);
-            case "looked" -> run.looked(number, 5);
+            case "looked" -> run.looked(number, 4);
             case "most" -> run.most(8, 3 * number);
             default -> throw new IllegalArgumentException(words[0]);
         }

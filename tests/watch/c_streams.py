@@ -12,7 +12,7 @@ import sys
 import tempfile
 import time
 
-from streams import EVENT, HEADER, WITHDRAWN, fail, kinds_of, must_be_explained
+from streams import EVENT, HEADER, WITHDRAWN, fail, kinds_of, must_be_explained, started
 
 FLAGS = ["-std=c11", "-D_POSIX_C_SOURCE=200809L", "-O2", "-Wall", "-Wextra", "-pedantic", "-Werror", "-pthread",
          "-I", "crates/stamped_c/include", "-I", "examples/c", "-I", "recorders/c"]
@@ -29,9 +29,9 @@ def try_count(explain, program):
     total = 0
     for each in (10, 500, 3000):
         name = f"count {each}"
-        with subprocess.Popen([program, str(each)], stdout=subprocess.PIPE, stderr=subprocess.PIPE) as process:
+        with started([program, str(each)], stdout=subprocess.PIPE, stderr=subprocess.PIPE) as process:
             time.sleep(each / 6000)
-            stream, told = process.communicate(timeout=60)
+            stream, told = process.communicate()
         if process.returncode != 0 or told != b"%d\n" % (4 * each):
             fail(name, process.returncode, told)
         entries = must_be_explained(name, explain, stream)["entries"]
@@ -45,7 +45,7 @@ def try_count(explain, program):
 
 def try_failing(explain, program):
     reader, writer = os.pipe()
-    with subprocess.Popen([program, "3000"], stdout=writer, stderr=subprocess.PIPE) as process:
+    with started([program, "3000"], stdout=writer, stderr=subprocess.PIPE) as process:
         os.close(writer)
         stream = b""
         while len(stream) < HEADER + 1000 * EVENT:
@@ -56,7 +56,7 @@ def try_failing(explain, program):
         fail("a closed pipe", process.returncode, told)
     must_be_explained("a closed pipe", explain, stream)
     with open("/dev/full", "wb") as full:
-        made = subprocess.run([program, "100"], stdout=full, stderr=subprocess.PIPE, timeout=60)
+        made = subprocess.run([program, "100"], stdout=full, stderr=subprocess.PIPE, timeout=20)
     if made.returncode != 1 or made.stderr != b"400\nobserved_stop: No space left on device\n":
         fail("a full device", made.returncode, made.stderr)
 

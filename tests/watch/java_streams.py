@@ -17,7 +17,7 @@ import tempfile
 import time
 
 from streams import (COUNT, DONE, EVENT, HEADER, MISMATCH, NO, STAMP, TO_HISTORY, WITHDRAWN, YES, entry_that_returns_at,
-                     event_at, fail, history_of, kinds_of, must_be_explained, run, verdict, with_event)
+                     event_at, fail, history_of, kinds_of, must_be_explained, run, started, verdict, with_event)
 
 BEGIN = {"try_read": 1, "write_lock": 2, "read_lock": 3, "unlock_write": 6, "unlock": 8, "try_unlock_write": 12,
          "is_write_locked": 14, "read_count": 16}
@@ -161,7 +161,7 @@ def try_slow(java):
 
 def try_killed(java):
     """Nothing but whole events are written until then."""
-    with subprocess.Popen(java.words("StreamedRuns", "endless", java.file("killed"), 8)) as process:
+    with started(java.words("StreamedRuns", "endless", java.file("killed"), 8)) as process:
         while not os.path.exists(java.file("killed")) or os.path.getsize(java.file("killed")) < 2000 * EVENT:
             time.sleep(0.005)
             wants("killed", process.poll() is None, process.returncode)
@@ -173,8 +173,7 @@ def try_killed(java):
 
 def try_hanging(java):
     """A run that hangs and is terminated: the hook writes all that was called, the call that hangs too."""
-    with subprocess.Popen(java.words("StreamedRuns", "hanging", java.file("hanging"), 2000),
-                          stdout=subprocess.PIPE) as process:
+    with started(java.words("StreamedRuns", "hanging", java.file("hanging"), 2000), stdout=subprocess.PIPE) as process:
         wants("hanging", process.stdout.readline() == b"hanging\n", "not begun")
         time.sleep(0.1)
         process.send_signal(signal.SIGTERM)
@@ -185,6 +184,13 @@ def try_hanging(java):
     wants("hanging", len(history["entries"]) >= 2000, len(history["entries"]))
 
 
+def try_exiting(java):
+    """A run that isn't closed, and ends before its slow stream is written."""
+    history = java.judge("exiting", java.case("exiting", 10000)[0])
+    wants("exiting", len(history["entries"]) >= 10000, len(history["entries"]))
+    wants("exiting", all("last" in entry for entry in history["entries"]), "a call is under way")
+
+
 def try_histories(java):
     """Histories of tapes in memory."""
     for name, words, stderr in (("200 threads", ("ObservedRun", 200, 4000, 1), b""),
@@ -193,8 +199,10 @@ def try_histories(java):
                                  b"ObservedStampedLock: recording stops after 1000 calls\n")):
         made = run(java.words(*words))
         wants(name, made.returncode == 0 and made.stderr == stderr, made.returncode, made.stderr.decode())
-        for line in made.stdout.splitlines():
-            history = json.loads(line)
+        histories = [json.loads(line) for line in made.stdout.splitlines()]
+        if name == "looked":
+            wants(name, len(histories[0]["entries"]) < len(histories[-1]["entries"]), "the calls had ended")
+        for history in histories:
             found = verdict(java.explain, history)
             wants(name, found == "explained", found)
             TOLD["histories"] += len(history["entries"])
@@ -208,7 +216,7 @@ def main():
         stream = try_threads(java)
         try_planted(java, stream)
         for trial in (try_timed, try_crowded, try_closed, try_failing, try_slow, try_killed, try_hanging,
-                      try_histories):
+                      try_exiting, try_histories):
             trial(java)
         java.judge("delayed", java.case("delayed", 7)[0])
     print("java_streams: explained calls: " + ", ".join(f"{name}: {count}" for name, count in TOLD.items()))

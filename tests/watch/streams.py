@@ -1,7 +1,9 @@
 """What the tests of streams share: the converters as programs, and the judge."""
+import contextlib
 import json
 import subprocess
 import sys
+import threading
 
 TO_HISTORY, TO_STREAM = ([sys.executable, "-B", f"recorders/{name}.py"] for name in
                          ("stream_to_history", "history_to_stream"))
@@ -15,6 +17,20 @@ def fail(name, *told):
 
 def run(words, text=b""):
     return subprocess.run(words, input=text, capture_output=True, timeout=40)
+
+
+@contextlib.contextmanager
+def started(words, **files):
+    """A process, which ends with the block, and is killed if it goes on for too long."""
+    with subprocess.Popen(words, **files) as process:
+        timer = threading.Timer(30, process.kill)
+        timer.start()
+        try:
+            yield process
+            process.wait()
+        finally:
+            process.kill()
+            timer.cancel()
 
 
 def history_of(name, stream):
