@@ -12,6 +12,7 @@ import java.util.List;
 import java.util.Random;
 import java.util.concurrent.TimeUnit;
 import java.util.concurrent.atomic.AtomicBoolean;
+import java.util.concurrent.atomic.LongAdder;
 import java.util.concurrent.locks.LockSupport;
 
 /**
@@ -21,6 +22,7 @@ import java.util.concurrent.locks.LockSupport;
 public final class StreamedRuns {
     private final ObservedStampedLock lock;
     private final AtomicBoolean isOver = new AtomicBoolean();
+    private final LongAdder made = new LongAdder();
 
     private StreamedRuns(ObservedStampedLock lock) {
         this.lock = lock;
@@ -115,7 +117,9 @@ public final class StreamedRuns {
             Random random = new Random(i);
             started.add(start(() -> {
                 for (int left = calls / threads; left > 0 && !isOver.get();) {
-                    left -= call(random);
+                    int more = call(random);
+                    left -= more;
+                    made.add(more);
                     if (isSlow) {
                         LockSupport.parkNanos(20_000);
                     }
@@ -123,6 +127,12 @@ public final class StreamedRuns {
             }));
         }
         return started;
+    }
+
+    private void awaitCalls(int calls) throws InterruptedException {
+        while (made.sum() < calls) {
+            Thread.sleep(1);
+        }
     }
 
     private static void join(List<Thread> threads) throws InterruptedException {
@@ -208,7 +218,7 @@ public final class StreamedRuns {
     /** Ends the recording while calls go on, and makes calls after that. */
     private void closed(int threads) throws InterruptedException, IOException {
         List<Thread> started = startCalling(threads, 80_000, true);
-        Thread.sleep(40);
+        awaitCalls(500);
         lock.close();
         long begin = System.nanoTime();
         for (Random random = new Random(0); System.nanoTime() - begin < 10_000_000;) {
@@ -248,7 +258,7 @@ public final class StreamedRuns {
         List<Thread> started = startCalling(threads, 40_000, true);
         Writer out = new OutputStreamWriter(System.out, StandardCharsets.US_ASCII);
         for (int i = 0; i < histories; i++) {
-            Thread.sleep(10);
+            awaitCalls(1000 + 3000 * i);
             lock.writeTo(out);
         }
         out.flush();
