@@ -23,6 +23,7 @@ public final class StreamedRuns {
     private final ObservedStampedLock lock;
     private final AtomicBoolean isOver = new AtomicBoolean();
     private final LongAdder made = new LongAdder();
+    private volatile long allowed = Long.MAX_VALUE;
 
     private StreamedRuns(ObservedStampedLock lock) {
         this.lock = lock;
@@ -117,6 +118,9 @@ public final class StreamedRuns {
             Random random = new Random(i);
             started.add(start(() -> {
                 for (int left = calls / threads; left > 0 && !isOver.get();) {
+                    while (made.sum() >= allowed && !isOver.get()) {
+                        LockSupport.parkNanos(100_000);
+                    }
                     int more = call(random);
                     left -= more;
                     made.add(more);
@@ -255,10 +259,12 @@ public final class StreamedRuns {
 
     /** Histories while calls go on, each in a line. */
     private void looked(int threads, int histories) throws InterruptedException, IOException {
+        allowed = 0;
         List<Thread> started = startCalling(threads, 40_000, true);
         Writer out = new OutputStreamWriter(System.out, StandardCharsets.US_ASCII);
         for (int i = 0; i < histories; i++) {
-            awaitCalls(1000 + 3000 * i);
+            allowed = 3000 * (i + 1);
+            awaitCalls(3000 * i + 500);
             lock.writeTo(out);
         }
         out.flush();

@@ -201,7 +201,7 @@ def try_histories(java):
         wants(name, made.returncode == 0 and made.stderr == stderr, made.returncode, made.stderr.decode())
         histories = [json.loads(line) for line in made.stdout.splitlines()]
         if name == "looked":
-            wants(name, len(histories[0]["entries"]) < len(histories[-1]["entries"]), "the calls had ended")
+            wants(name, len(histories[0]["entries"]) < len(histories[-1]["entries"]), "the first has all")
         for history in histories:
             found = verdict(java.explain, history)
             wants(name, found == "explained", found)

@@ -16,14 +16,14 @@ def fail(name, *told):
 
 
 def run(words, text=b""):
-    return subprocess.run(words, input=text, capture_output=True, timeout=40)
+    return subprocess.run(words, input=text, capture_output=True, timeout=60)
 
 
 @contextlib.contextmanager
 def started(words, **files):
     """A process, which ends with the block, and is killed if it goes on for too long."""
     with subprocess.Popen(words, **files) as process:
-        timer = threading.Timer(30, process.kill)
+        timer = threading.Timer(50, process.kill)
         timer.start()
         try:
             yield process
@@ -49,7 +49,10 @@ def stream_of(name, history):
 
 def verdict(explain, history):
     """`explained`, or what the program printed."""
-    found = run([explain], json.dumps(history).encode())
+    try:
+        found = run([explain], json.dumps(history).encode())
+    except subprocess.TimeoutExpired:
+        return f"no answer on {len(history['entries'])} entries"
     if found.returncode == 0 and found.stdout.startswith(b'{"entries":'):
         return "explained"
     return (found.stdout or found.stderr).decode().rstrip("\n")
