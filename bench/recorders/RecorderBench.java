@@ -1,11 +1,13 @@
+import com.sun.management.OperatingSystemMXBean;
 import java.io.IOException;
+import java.lang.management.ManagementFactory;
 import java.nio.file.Path;
 import java.util.concurrent.locks.StampedLock;
 
 /**
  * Times calls of a lock: {@code RecorderBench none|tapes|FILE CALLS ROUNDS}. They are not recorded, or in memory, or
- * as a stream to the file. Prints lines {@code THREADS CALLS NANOSECONDS} for each round, after a first one that
- * warms the compiler.
+ * as a stream to the file. Prints lines {@code THREADS CALLS NANOSECONDS CPU_NANOSECONDS} for each round, after a
+ * first one that warms the compiler. The processor's time is that of the whole process.
  */
 public final class RecorderBench {
     private static final int[] THREADS = {1, 4, 8};
@@ -66,15 +68,18 @@ public final class RecorderBench {
     public static void main(String[] words) throws InterruptedException, IOException {
         int calls = Integer.parseInt(words[1]);
         int rounds = Integer.parseInt(words[2]);
+        OperatingSystemMXBean system = (OperatingSystemMXBean) ManagementFactory.getOperatingSystemMXBean();
         for (int round = 0; round <= rounds; round++) {
             for (int threads : THREADS) {
                 StampedLock lock = newLock(words[0]);
+                long begun = system.getProcessCpuTime();
                 long nanos = new RecorderBench(lock).time(threads, calls);
                 if (lock instanceof ObservedStampedLock) {
                     ((ObservedStampedLock) lock).close();
                 }
                 if (round > 0) {
-                    System.out.println(threads + " " + calls / threads / 2 * threads * 2 + " " + nanos);
+                    long cpu = system.getProcessCpuTime() - begun;
+                    System.out.println(threads + " " + calls / threads / 2 * threads * 2 + " " + nanos + " " + cpu);
                 }
             }
         }

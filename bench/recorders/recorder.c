@@ -1,9 +1,10 @@
 // Times calls of a lock: recorder none|FILE CALLS ROUNDS. They are not recorded, or as a stream to the file by
-// recorders/c. Prints lines THREADS CALLS NANOSECONDS for each round. As RecorderBench.java, but the lock is the table
-// of bench/common on an atomic word.
+// recorders/c. Prints lines THREADS CALLS NANOSECONDS CPU_NANOSECONDS for each round. As RecorderBench.java, but the
+// lock is the table of bench/common on an atomic word.
 #include "lock.h"
 #include "observed_lock.h"
 #include <fcntl.h>
+#include <string.h>
 
 static struct observed *run; // none where nothing is recorded
 static const struct limits limits = {127, (UINT64_C(1) << 55) - 2};
@@ -51,9 +52,9 @@ static void *work(void *unused) {
     return NULL;
 }
 
-static uint64_t now(void) {
+static uint64_t now(clockid_t clock) {
     struct timespec time;
-    clock_gettime(CLOCK_MONOTONIC, &time);
+    clock_gettime(clock, &time);
     return (uint64_t)time.tv_sec * 1000000000 + (uint64_t)time.tv_nsec;
 }
 
@@ -68,12 +69,14 @@ static void time_threads(int threads, int calls, const char *file) {
         run = (struct observed *)(((uintptr_t)run + 127) / 128 * 128);
         if (observed_start(run, out, 1, 127, limits.versions)) abort();
     }
-    uint64_t begin = now();
+    uint64_t begin = now(CLOCK_MONOTONIC), cpu = now(CLOCK_PROCESS_CPUTIME_ID);
     for (int i = 0; i < threads; i++)
         if (pthread_create(&started[i], NULL, work, NULL)) abort();
     for (int i = 0; i < threads; i++) pthread_join(started[i], NULL);
-    printf("%d %d %" PRIu64 "\n", threads, each * threads * 2, now() - begin);
+    begin = now(CLOCK_MONOTONIC) - begin;
     if (run && (observed_stop(run) || close(out))) abort();
+    cpu = now(CLOCK_PROCESS_CPUTIME_ID) - cpu;
+    printf("%d %d %" PRIu64 " %" PRIu64 "\n", threads, each * threads * 2, begin, cpu);
 }
 
 int main(int count, char **words) {

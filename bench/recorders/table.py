@@ -1,4 +1,4 @@
-"""Prints the table of time.sh from its lines 'java|c WAY THREADS CALLS NANOSECONDS'."""
+"""Prints the tables of time.sh from its lines 'java|c WAY THREADS CALLS NANOSECONDS CPU_NANOSECONDS'."""
 import collections
 import statistics
 import sys
@@ -8,18 +8,25 @@ WAYS = [("java", "none", "Java, not recorded"), ("java", "tapes", "  in memory")
         ("c", "none", "C, not recorded"), ("c", "null", "  to /dev/null"), ("c", "stream", "  to a file")]
 
 
-def main():
-    times = collections.defaultdict(list)
-    for line in open(sys.argv[1]):
-        language, way, threads, calls, nanoseconds = line.split()
-        times[language, way, int(threads)].append(int(nanoseconds) / int(calls))
+def print_table(title, times):
     threads = sorted({key[2] for key in times})
-    print("ns a call, of all threads: median (least)".ljust(44) + "".join(f"{it:>8} threads" for it in threads))
-    for language, way, title in WAYS:
+    print(title.ljust(48) + "".join(f"{f'{it} threads':>18}" for it in threads))
+    for language, way, name in WAYS:
         rows = [times.get((language, way, it)) for it in threads]
         if all(rows):
-            cells = [f"{statistics.median(row):8.1f} ({min(row):.1f})" for row in rows]
-            print(title.ljust(44) + "".join(f"{cell:>16}" for cell in cells))
+            cells = [f"{min(row):.1f} ({statistics.median(row):.1f})" for row in rows]
+            print(name.ljust(48) + "".join(f"{cell:>18}" for cell in cells))
+
+
+def main():
+    wall, processor = collections.defaultdict(list), collections.defaultdict(list)
+    for line in open(sys.argv[1]):
+        language, way, threads, calls, nanoseconds, cpu = line.split()
+        wall[language, way, int(threads)].append(int(nanoseconds) / int(calls))
+        processor[language, way, int(threads)].append(int(cpu) / int(calls))
+    print_table("ns a call, of all threads: least (median)", wall)
+    print()
+    print_table("ns a call of all processors, writing too", processor)
 
 
 main()
