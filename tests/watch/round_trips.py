@@ -24,7 +24,7 @@ NAMES = ("try_write", "try_read", "write_lock", "read_lock", "optimistic", "vali
          "unlock", "to_write", "to_read", "to_optimistic", "try_unlock_write", "try_unlock_read", "is_write_locked",
          "is_read_locked", "read_count")
 KINDS = {"yes": YES, "no": NO, "done": DONE, "mismatch": MISMATCH}
-SIZES = [(1, 40), (2, 200), (5, 500), (16, 1000), (64, 1000)]
+SIZES = [(1, 40), (2, 200), (5, 400), (16, 400), (64, 400)]
 
 
 def header(layout=1, readers=127, versions=1000, form=1):
@@ -99,19 +99,17 @@ def numbered_anew(history):
 
 
 def disturbed(chance, history):
-    """The same history with entries in another order, and positions further apart, some of them the same."""
-    gap, entries = {}, [dict(entry) for entry in history["entries"]]
-    last = max(entry.get("last", entry["first"]) for entry in entries)
-    begins = {entry["first"] for entry in entries}
-    place = 0
-    for position in range(last + 1):
-        # A call that begins may share its position with those that began or return beside it, but not of its thread.
-        place += 0 if position in begins and position - 1 in begins and chance.random() < 0.5 else chance.randint(1, 5)
-        gap[position] = place
+    """Its entries in another order, with positions further apart, where some events of different threads are at one."""
+    entries = [dict(entry) for entry in history["entries"]]
+    threads = {entry[key]: entry["thread"] for entry in entries for key in ("first", "last") if key in entry}
+    places, place, together = {}, 0, set()
+    for position in sorted(threads):
+        if threads[position] in together or chance.random() < 0.5:
+            place, together = place + chance.randint(1, 5), set()
+        places[position] = place
+        together.add(threads[position])
     for entry in entries:
-        entry["first"] = gap[entry["first"]]
-        if "last" in entry:
-            entry["last"] = gap[entry["last"]]
+        entry.update({key: places[entry[key]] for key in ("first", "last") if key in entry})
     chance.shuffle(entries)
     return {**history, "entries": entries}
 
@@ -137,14 +135,14 @@ def try_converted(explain):
             name = f"{lanes} lanes"
             stream = made_stream(chance, lanes, events, withdraws)
             history = must_be_explained(name, explain, stream)
-            back = stream_of(name, history)
+            back = history_to_stream.stream_of(history)
             if not withdraws and back != stream or history_of(name, back) != numbered_anew(history):
                 fail(name, "the stream doesn't come back")
             other = disturbed(chance, history)
-            if history_of(name, stream_of(name, other)) != numbered_anew(other):
+            if stream_to_history.history_of(history_to_stream.stream_of(other)) != numbered_anew(other):
                 fail(name, "the history doesn't come back")
-            wrong = history_of(name, with_wrong_reply(chance, stream))
-            again = history_of(name, stream_of(name, wrong))
+            wrong = stream_to_history.history_of(with_wrong_reply(chance, stream))
+            again = stream_to_history.history_of(history_to_stream.stream_of(wrong))
             found = entry_told(numbered_anew(wrong), verdict(explain, numbered_anew(wrong)))
             if found != entry_told(again, verdict(explain, again)):
                 fail(name, "judged otherwise", found)
