@@ -144,7 +144,7 @@ public class ObservedStampedLock extends StampedLock implements Closeable {
 
     /**
      * A new lock whose calls are written to the file as a stream of events, and to be {@linkplain #close closed}.
-     * What the file held before is lost.
+     * What the file held before is lost. It may be a pipe, as {@code /dev/stdout} in {@code java .. | ..}.
      *
      * @throws IOException if the file can't be opened
      */
