@@ -127,13 +127,13 @@ static inline int observed_begin(struct observed *run, enum observed_call call, 
     unsigned lanes = call == OBSERVED_WRITE_LOCK || call == OBSERVED_READ_LOCK ? OBSERVED_MAY_WAIT : OBSERVED_LANES;
     if (mine == UINT32_MAX) mine = atomic_fetch_add(&run->threads, 1) % OBSERVED_MAY_WAIT;
     for (unsigned tried = 0; atomic_load(&run->end) == UINT64_MAX; tried++) {
-        unsigned lane = (mine + tried) % lanes;
-        if (!atomic_load(&run->lanes[lane].taken) && !atomic_exchange(&run->lanes[lane].taken, 1)) {
+        unsigned lane = (mine + tried) % OBSERVED_LANES;
+        if (lane < lanes && !atomic_load(&run->lanes[lane].taken) && !atomic_exchange(&run->lanes[lane].taken, 1)) {
             mine = lane;
             observed_put(run, call, (int)lane, stamp);
             return (int)lane;
         }
-        if (tried % lanes == lanes - 1) observed_pause(tried / lanes);
+        if (tried % OBSERVED_LANES == OBSERVED_LANES - 1) observed_pause(tried / OBSERVED_LANES);
     }
     return -1;
 }
