@@ -1,5 +1,5 @@
 -- Calls of the lock whose reply tells that they change nothing.
-use Rattle.std.proofs.Common.{ℕ, ◌≡◌, Bool, true, List, [], refl, sym, ◌∙◌, ap, subst}
+use Rattle.std.proofs.Common.{◌≡◌, Bool, true, List, [], refl, sym, ◌∙◌, ap, subst}
 use Rattle.std.specs.Bool.{MatchBool}
 use Rattle.stamp_core.specs.LockEvent.{LockEvent}
 use Rattle.stamp_core.specs.Limits.{Bounds}

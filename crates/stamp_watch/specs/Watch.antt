@@ -142,6 +142,11 @@ pub record WithdrawsTold (old new : Watch) (lane : ℕ) : Type 0 where
   pub last : new.last ≡ old.last
   pub limits : new.limits ≡ old.limits
 
+abbrev pub TellsAfter : Event → Ending → Watch → Watch → Type 0
+TellsAfter (Begins lane call) ends old new = BeginsTold old new lane call ends
+TellsAfter (Returns lane reply) ends old new = ReturnsTold old new lane reply
+TellsAfter (Withdraws lane) ends old new = WithdrawsTold old new lane
+
 -- what an answer means: some configuration is kept, and the run is explained so far; none is, and nothing that comes
 -- as was told is explained; so many were possible before the event; the event may not come next
 abbrev pub IsProgress : List Event → Event → ℕ → Watch → Watch → Progress → Type 0

@@ -10,6 +10,7 @@ mod lock_call;
 mod open_call;
 mod position;
 mod progress;
+pub mod progress_laws;
 mod watch;
 pub mod watch_laws;
 

@@ -4,11 +4,12 @@ ghost use Rattle.std.specs.List.{All};
 ghost use Rattle.stamp_core.specs.Word.{IsAdmitted, word_at};
 ghost use Rattle.stamp_watch.specs.declared.event.Event.{Event};
 ghost use Rattle.stamp_watch.specs.declared.position.Position.{Position};
-ghost use Rattle.stamp_watch.specs.Watch.{IsWatching, IsWatched, IsProgress, IsTaken, BeginsTold, ReturnsTold, WithdrawsTold, IsUntold};
+ghost use Rattle.stamp_watch.specs.Watch.{IsWatching, IsWatched, IsProgress, IsTaken, BeginsTold, ReturnsTold, WithdrawsTold, TellsAfter, IsUntold};
 ghost use Rattle.stamp_watch.specs.inner.Step.{IsOpening, BeginsIn, AreBegun, IsAnswer};
 
 use crate::effect::at_once;
 use crate::ending::Ending;
+use crate::event::Event;
 use crate::layers::returned;
 use crate::lock_call::lock_call;
 use crate::open_call::{OpenCall, idle_lanes, open_in, put};
@@ -161,5 +162,21 @@ impl Watch {
         put(&mut self.table, lane, None);
         self.last = place;
         Ok(answer(self.positions.as_slice()))
+    }
+
+    /// One more event, as by `begins`, `returns` or `withdraws`. Of a beginning `ends` tells how its call ends; else
+    /// it is not looked at.
+    pub fn read(&mut self, event: &Event, ends: Ending, most: u64) -> Result<Progress, AllocError>
+        requires { IsWatched self.old }
+        ensures progress { IfOk result (λ progress. (past : List Event) → IsWatching past self.old
+            → IsProgress past event.now most self.old self.new progress) }
+        ensures told { IfOk result (λ progress. IsTaken progress → TellsAfter event.now ends self.old self.new) }
+        ensures err { OnErr result (self.new ≡ self.old) }
+    {
+        match event {
+            Event::Begins(lane, call) => Ok(self.begins(*lane, call, ends)),
+            Event::Returns(lane, reply) => self.returns(*lane, reply, most),
+            Event::Withdraws(lane) => Ok(self.withdraws(*lane)),
+        }
     }
 }
