@@ -1,11 +1,13 @@
-"""Holds docs/BELIEVE.md to the code: for each of six promises the definitions that its contracts reach.
+"""Holds docs/BELIEVE.md to the code: for each of six promises the definitions that its contracts reach. And holds each
+definition to its place: what a public contract reaches, or docs/USING.md offers, lies in `specs`, all else in
+`specs/inner`.
 
-    believe.py [--write | --unreached | --unresolved]
+    believe.py [--write | --unresolved]
 
 A contract reaches what its clauses name, the views and invariants of the types in its signature, the traits that
 bound them, and what all these name in turn, up to std and the kit. A name counts where its file imports or defines
-it. Without an argument the page is compared with what would be written. `--write` writes it; `--unreached` prints the
-definitions that no public contract reaches; `--unresolved` prints the names that were passed over."""
+it. Without an argument the page is compared with what would be written. `--write` writes it; `--unresolved` prints the
+names that were passed over."""
 import functools
 import glob
 import os
@@ -14,6 +16,10 @@ import sys
 
 TOP = os.path.join(os.path.dirname(os.path.abspath(__file__)), "..", "..")
 PAGE = "docs/BELIEVE.md"
+# Between backticks this page offers definitions of this crate to contracts that a user writes.
+USING, USED = "docs/USING.md", "stamped_lock"
+# The crates whose definitions that no public contract reaches don't lie apart yet.
+NOT_MOVED = {"stamp_explain"}
 BEGIN, END = "<!-- written by tests/pages/believe.py -->", "<!-- end -->"
 PROMISES = [
     ("The sequential lock", [("stamp_core", "decide"), ("stamp_core", "transition")]),
@@ -182,12 +188,12 @@ def arguments(text, base, scope):
 # Declarations and contracts, which stand in src.
 
 def clauses_at(text, at):
-    """The clauses of a contract that begins here."""
-    clause = re.compile(r"\s*(?:requires|ensures)(?:\s+\w+)?\s*(?={)")
+    """The clauses of a contract that begins here; one that declares a ghost parameter comes with its name."""
+    clause = re.compile(r"\s*(?:(?:requires|ensures)(?:\s+\w+)?|ghost (\w+):)\s*(?={)")
     found = clause.match(text, at)
     while found:
         end = closing(text, found.end())
-        yield text[found.end() + 1:end]
+        yield found[1], text[found.end() + 1:end]
         found = clause.match(text, end + 1)
 
 
@@ -195,10 +201,11 @@ def function(path, text, found, name, header="", scope=None):
     """A function's contract, whose `fn` was found in the text."""
     params = behind_generics(text, found.end())
     end = closing(text, params)
-    back = re.compile(r"\s(?:requires|ensures)\b|{|;\s*\n").search(text, end)
+    back = re.compile(r"\s(?:requires|ensures|ghost)\b|{|;\s*\n").search(text, end)
     at = back.start() if back else len(text)
-    bound = ["self", "result", *re.findall(r"(\w+)\s*:(?!:)", text[params:end])]
-    ghost = "\n;\n".join(clauses_at(text, at))
+    clauses = [*clauses_at(text, at)]
+    bound = ["self", "result", *re.findall(r"(\w+)\s*:(?!:)", text[params:end]), *(it for it, _ in clauses if it)]
+    ghost = "\n;\n".join(it for _, it in clauses)
     return Item(path, name, line_at(text, found.start()), "", ghost, header + text[found.end():at], scope, bound)
 
 
@@ -446,17 +453,48 @@ def contracts_of(path):
 
 
 def given(path, at, trait, name, header, body, scope):
-    """What an `impl` of a trait promises by its ghost members; a model comes with its type."""
-    ghosts = "" if trait == "Model" else "\n;\n".join(text for _, text in ghosts_in(body))
-    bound = ["self", "result", *(it for it, _ in ghosts_in(body))]
+    """What an `impl` of a trait promises by its ghost members, and by clauses in place of the trait's; a model comes
+    with its type."""
+    calls = [function(path, body, it, name) for it in re.finditer(FUNCTION, body)]
+    members = [] if trait == "Model" else [*ghosts_in(body)]
+    ghosts = "\n;\n".join([*(text for _, text in members), *(it.ghost for it in calls if it.ghost)])
+    bound = ["self", "result", *(it for it, _ in members), *(it for call in calls for it in call.bound)]
     if ghosts:
         yield Item(path, f"{trait} for {name}", line_at(text_of(path), at), "", ghosts, header, scope, bound)
 
 
 def public_contracts():
-    """All public contracts, but those of tests."""
+    """All public contracts, but those of tests. One without clauses promises what the types in its signature keep."""
     return [it for crate in CRATES if not crate.endswith("_tests") for path in SOURCES
-            if path.startswith(f"crates/{crate}/") for it in contracts_of(path) if it.ghost.strip()]
+            if path.startswith(f"crates/{crate}/") for it in contracts_of(path)]
+
+
+# Where definitions lie.
+
+def is_definition(item):
+    return item.path.endswith(".antt")
+
+
+def offered():
+    """What a page offers to contracts that a user writes, as one contract."""
+    with open(os.path.join(TOP, USING), encoding="utf-8") as file:
+        words = {*re.findall(r"\w+", " ".join(re.findall(r"`([^`\n]+)`", file.read())))}
+    names = {it.name: it.scope[it.name] for it in ITEMS.values()
+             if is_definition(it) and it.crate == USED and it.name in words}
+    return Item(USING, USING, 1, "", " ".join(names), scope=names)
+
+
+def misplaced(contracts, items):
+    """What is to be moved: what contracts reach of `specs/inner`, and what none reaches outside of it."""
+    for item in in_order(it for it in ITEMS.values() if is_definition(it) and it.crate not in NOT_MOVED):
+        folder, file = os.path.split(item.path)
+        inner = f"crates/{item.crate}/specs/inner"
+        if item not in items and folder != inner:
+            yield f"{item.place}: no public contract reaches {item.name}: move it to {inner}/{file}"
+        elif item in items and folder == inner:
+            by = next(it for it in contracts if item in reached([it])[0])
+            yield (f"{item.place}: {item.name} is reached by the public contract {by.name} ({by.place}): "
+                   f"move it to {os.path.dirname(inner)}/{file}")
 
 
 # The page.
@@ -495,12 +533,14 @@ def section(title, contracts, items, names):
 def by_crate(items):
     """The table of what public contracts reach."""
     yield from ["## Reached and not reached", "",
-                "The definitions in `specs`, and how many of them any public contract reaches, laws among them. "
-                "In a program all that its modules share is public. Tests don't count.", "",
+                "The definitions, and how many of them any public contract reaches, laws among them, or "
+                "[USING](USING.md) offers to a user's. The others are for private contracts and proofs alone, and lie "
+                "apart, in `specs/inner`" + "".join(f" (in `{it}` not yet)" for it in sorted(NOT_MOVED)) +
+                ". In a program all that its modules share is public. Tests don't count.", "",
                 "| Crate | Definitions | Reached | Not reached |", "|---|---|---|---|"]
     total = []
     for crate in CRATES:
-        all_here = [it for it in ITEMS.values() if it.crate == crate and it.path.endswith(".antt")]
+        all_here = [it for it in ITEMS.values() if it.crate == crate and is_definition(it)]
         there = [it for it in all_here if it in items]
         if all_here:
             total.append((len(all_here), len(there)))
@@ -509,7 +549,7 @@ def by_crate(items):
     yield f"| all | {count} | {there} | {count - there} |"
 
 
-def written(public):
+def written(public, items_of_all):
     """The generated part of the page."""
     found = {(it.crate, it.name): it for it in public}
     parts, table, everything = [], [], set()
@@ -523,14 +563,7 @@ def written(public):
         parts += section(title, contracts, items, others)
     table.append(f"| all six | {len(everything)} | {sum(it.lines for it in everything)} |")
     head = ["| Promise | Definitions | Lines |", "|---|---|---|", *table, ""]
-    return "\n".join([BEGIN, "", *head, *parts, *by_crate(reached(public)[0]), "", END])
-
-
-def print_unreached(public):
-    items, _ = reached(public)
-    left = in_order(it for it in ITEMS.values() if it.path.endswith(".antt") and it not in items)
-    for path in dict.fromkeys(it.path for it in left):
-        print(f"{path}: " + ", ".join(f"{it.name} {it.line}" for it in left if it.path == path))
+    return "\n".join([BEGIN, "", *head, *parts, *by_crate(items_of_all), "", END])
 
 
 def print_unresolved(public):
@@ -548,10 +581,14 @@ def print_unresolved(public):
 
 
 def main():
-    options = {"--unreached": print_unreached, "--unresolved": print_unresolved}
     public = public_contracts()
-    if sys.argv[1:2] and sys.argv[1] in options:
-        return options[sys.argv[1]](public)
+    if sys.argv[1:] == ["--unresolved"]:
+        return print_unresolved(public)
+    contracts = [*public, offered()]
+    items = reached(contracts)[0]
+    moves = [*misplaced(contracts, items)]
+    if moves:
+        sys.exit("\n".join(moves))
     file = os.path.join(TOP, PAGE)
     with open(file, encoding="utf-8") as opened:
         page = opened.read()
@@ -559,13 +596,13 @@ def main():
     _, end, after = rest.partition(END)
     if not (begin and end):
         sys.exit(f"{PAGE} has no line {BEGIN} with a line {END} below it")
-    new = before + written(public) + after
+    new = before + written(public, items) + after
     if sys.argv[1:] == ["--write"]:
         with open(file, "w", encoding="utf-8") as opened:
             opened.write(new)
     elif new != page:
         sys.exit(f"{PAGE} is not what the code has: write it anew by tests/pages/believe.py --write")
-    print(f"{PAGE}: {len(PROMISES)} promises, as in the code")
+    print(f"{PAGE}: {len(PROMISES)} promises, as in the code; what no public contract reaches lies in specs/inner")
 
 
 with open(os.path.join(TOP, "crates.txt"), encoding="utf-8") as listed:

@@ -5,7 +5,7 @@ use Rattle.stamp_core.specs.Word.{LockWord, word_at, Represents}
 use Rattle.stamp_core.specs.Decision.{Changes}
 use Rattle.stamp_core.specs.declared.call.Call.{Call}
 use Rattle.stamp_core.specs.declared.reply.Reply.{Reply}
-use Rattle.stamp_check.specs.GoesOn.{LockGoesOn}
+use Rattle.stamp_check.specs.inner.GoesOn.{LockGoesOn}
 
 -- a word that is changed goes on, where its answer is the reply
 pub changed_goes_on : (limits : Bounds) (bits after : ℕ) (word new : LockWord) (call : Call) (answer reply : Reply)

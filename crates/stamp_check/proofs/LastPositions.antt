@@ -7,7 +7,7 @@ use Rattle.std.proofs.lemmas.List.Elements.{All-push}
 use Rattle.std.proofs.Math.Seq.{get_or-append_seam}
 use Rattle.stamp_core.specs.Linearized.{HasPointInside, RisesAbove, FollowsItsThread}
 use Rattle.stamp_core.specs.declared.entry.Entry.{Entry}
-use Rattle.stamp_check.specs.Walk.{IsAbove, IsLastPoint, IsLastOf}
+use Rattle.stamp_check.specs.inner.Walk.{IsAbove, IsLastPoint, IsLastOf}
 
 -- points
 pub above_rises : (before : List Entry) (e : Entry) (p : Option ℕ) → IsLastPoint before p → IsAbove p e.point →

@@ -15,7 +15,7 @@ use Rattle.stamp_core.specs.declared.entry.Entry.{Entry}
 use Rattle.stamp_core.specs.declared.call.Call.{Call}
 use Rattle.stamp_core.specs.declared.call.Call.TheVariants.{Get, Put, PutIf}
 use Rattle.stamp_core.specs.declared.reply.Reply.{Reply}
-use Rattle.stamp_check.specs.LockReplies.{LockReplies, ContentReplies}
+use Rattle.stamp_check.specs.inner.LockReplies.{LockReplies, ContentReplies}
 
 pub lock_answer : (limits : Bounds) (width : ℕ) (before : List Entry) (e : Entry) → is_lock_call e.call ≡ true →
     LockReplies limits before e → IsAnswered limits width before e

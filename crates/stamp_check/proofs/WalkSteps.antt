@@ -17,8 +17,8 @@ use Rattle.stamp_core.proofs.Linearizing.{events_push, content_push, linearized_
 use Rattle.stamp_check.specs.declared.checking.Why.TheVariants.{Interval, Order, Overlap}
 use Rattle.stamp_check.specs.declared.checking.Why.TheVariants as why
 use Rattle.stamp_check.specs.declared.walk.Walk.{Walk}
-use Rattle.stamp_check.specs.GoesOn.{LockGoesOn, RecordGoesOn}
-use Rattle.stamp_check.specs.Walk.{IsAbove, IsLastOf, IsWalk, Advances}
+use Rattle.stamp_check.specs.inner.GoesOn.{LockGoesOn, RecordGoesOn}
+use Rattle.stamp_check.specs.inner.Walk.{IsAbove, IsLastOf, IsWalk, Advances}
 use Rattle.stamp_check.proofs.LastPositions.{above_rises, rises_above, last_point_push}
 use Rattle.stamp_check.proofs.LastPositions.{above_follows, follows_above, lasts_push}
 use Rattle.stamp_check.proofs.LockOrRecord.{lock_answer, lock_answered, record_answer}

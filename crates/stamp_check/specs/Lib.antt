@@ -1,9 +1,7 @@
 pub mod FirstFault
 pub mod Judgement
-pub mod GoesOn
-pub mod LockReplies
-pub mod Walk
 pub mod CheckLaws
 pub mod SameJudgement
 pub mod Migration
 pub mod MigrationLaws
+pub mod inner

@@ -3,7 +3,7 @@ ghost use Rattle.std.specs.Prelude.{◌≡◌, ◌↔◌, IsTrue, MatchOption};
 ghost use Rattle.stamp_core.specs.Word.{IsAdmitted, word_at};
 ghost use Rattle.stamp_core.specs.Call.{is_lock_call};
 ghost use Rattle.stamp_core.specs.LockDecision.{reply_as};
-ghost use Rattle.stamp_check.specs.GoesOn.{LockGoesOn, RecordGoesOn};
+ghost use Rattle.stamp_check.specs.inner.GoesOn.{LockGoesOn, RecordGoesOn};
 
 use stamp_core::{Call, Limits, LockDecision, LockReply, Reply, Words, decide_lock};
 

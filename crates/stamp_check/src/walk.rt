@@ -3,7 +3,7 @@ ghost use Rattle.std.specs.Prelude.{◌≡◌, ◌<◌, ◌≤◌, ◌↔◌, []
 ghost use Rattle.stamp_core.specs.Linearized.{HasPointInside};
 ghost use Rattle.stamp_core.specs.Word.{IsAdmitted, word_at};
 ghost use Rattle.stamp_core.specs.Content.{zeros};
-ghost use Rattle.stamp_check.specs.Walk.{IsAbove, IsWalk, Advances};
+ghost use Rattle.stamp_check.specs.inner.Walk.{IsAbove, IsWalk, Advances};
 
 use crate::checking::Why;
 use crate::going_on::{lock_goes_on, record_goes_on};

@@ -6,7 +6,8 @@ use Rattle.stamp_history.specs.declared.read_error.ReadError.{ReadError}
 use Rattle.stamp_history.specs.declared.read_error.ReadError.TheVariants.{NotJson, NotHistory}
 use Rattle.stamp_history.specs.declared.read_error.ReadError.TheVariants.{Limit, Memory, NotScript}
 use Rattle.stamp_history.specs.declared.read_error.ReadError.TheVariants.{BadScript}
-use Rattle.stamp_cli.specs.Refusal.{refusal, unanswered, is_of_end}
+use Rattle.stamp_cli.specs.Refusal.{refusal, unanswered}
+use Rattle.stamp_cli.specs.inner.Refusal.{is_of_end}
 
 pub is_of_end-refusal : (e : ReadError) → is_of_end (refusal e) ≡ false
 is_of_end-refusal NotJson = refl

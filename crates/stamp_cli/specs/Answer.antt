@@ -1,7 +1,6 @@
 -- The line that answers a command, or why there is none.
-use Rattle.std.specs.Prelude.{◌≡◌, ◌≢◌, ℕ, ◌<◌, ◌≤◌, ◌++◌, ◌∷◌, [], List, Vec, length, Option, Result, Ok, Err}
+use Rattle.std.specs.Prelude.{◌≡◌, ℕ, ◌<◌, ◌≤◌, ◌++◌, ◌∷◌, [], List, length, Option, Result, Ok, Err}
 use Rattle.std.specs.Prelude.{Bool, true, false, if◌then◌else◌}
-use Rattle.std.specs.declared.alloc.Global.{Global}
 use Rattle.stamp_core.specs.Record.{Recorded}
 use Rattle.stamp_core.specs.Replayed.{WaitsAt}
 use Rattle.stamp_core.specs.declared.layout.Layout.{Layout}
@@ -18,7 +17,7 @@ use Rattle.stamp_history.specs.ReplayAnswer.{IsReplayedText}
 use Rattle.stamp_history.specs.ScriptReading.{script_of}
 use Rattle.stamp_history.specs.declared.read_error.ReadError.{ReadError}
 use Rattle.stamp_cli.specs.declared.faults.ServeFault.{ServeFault}
-use Rattle.stamp_cli.specs.declared.faults.ServeFault.TheVariants.{TooLong, Waits, Memory, BadReply}
+use Rattle.stamp_cli.specs.declared.faults.ServeFault.TheVariants.{TooLong, Waits, BadReply}
 use Rattle.stamp_cli.specs.declared.orders.Order.{Order}
 use Rattle.stamp_cli.specs.declared.orders.Order.TheVariants as order
 use Rattle.stamp_cli.specs.declared.line.Line as made
@@ -166,13 +165,3 @@ pub record AnswersRead {A : Type 0} (WasRead : List ℕ → Type 0) (IsAnswer : 
 -- a source was read as far as the command asks, and this is the answer
 abbrev pub AnswersSource : Order → Option (List ℕ) → Option (List ℕ) → ℕ → Result LineView ServeFault → Type 0
 AnswersSource order old new taken answer = AnswersRead (OrderReads order old new) (IsOrderAnswer order) taken answer
-
--- memory aside, the fact holds of what a function returned
-abbrev pub UnlessMemory : (Result (List ℕ) ServeFault → Type 0) → Result (Vec ℕ Global) ServeFault → Type 0
-UnlessMemory P (Ok line) = P (Ok line.items)
-UnlessMemory P (Err e) = e ≢ Memory → P (Err e)
-
--- the same of a line
-abbrev pub LineUnlessMemory : (Result LineView ServeFault → Type 0) → Result made.Line ServeFault → Type 0
-LineUnlessMemory P (Ok line) = P (Ok (line_in line))
-LineUnlessMemory P (Err e) = e ≢ Memory → P (Err e)

@@ -11,3 +11,4 @@ pub mod StampText
 pub mod CheckText
 pub mod Answer
 pub mod Laws
+pub mod inner

@@ -1,13 +1,10 @@
 -- The refusals of a reading and of an answer, as the command's.
-use Rattle.std.specs.Prelude.{Bool, true, false}
 use Rattle.stamp_history.specs.declared.answer_error.AnswerError.{AnswerError}
 use Rattle.stamp_history.specs.declared.answer_error.AnswerError.TheVariants as answer
 use Rattle.stamp_history.specs.declared.read_error.ReadError.{ReadError}
 use Rattle.stamp_history.specs.declared.read_error.ReadError.TheVariants as read
 use Rattle.stamp_cli.specs.declared.faults.ServeFault.{ServeFault}
-use Rattle.stamp_cli.specs.declared.faults.ServeFault.TheVariants.{ReadFault, TooLong, Refused}
-use Rattle.stamp_cli.specs.declared.faults.ServeFault.TheVariants.{Waits, Memory, WriteFault}
-use Rattle.stamp_cli.specs.declared.faults.ServeFault.TheVariants.{BadReply}
+use Rattle.stamp_cli.specs.declared.faults.ServeFault.TheVariants.{Refused, Waits, Memory}
 
 -- want of memory is one fault, wherever it came
 abbrev pub refusal : ReadError → ServeFault
@@ -21,13 +18,3 @@ refusal (read.BadScript e) = Refused (read.BadScript e)
 abbrev pub unanswered : AnswerError → ServeFault
 unanswered (answer.Refused e) = refusal e
 unanswered (answer.Waits i) = Waits i
-
--- an end of the command failed, and not what was read
-abbrev pub is_of_end : ServeFault → Bool
-is_of_end ReadFault = true
-is_of_end TooLong = false
-is_of_end (Refused e) = false
-is_of_end (Waits i) = false
-is_of_end Memory = false
-is_of_end WriteFault = true
-is_of_end (BadReply i) = false

@@ -1,6 +1,6 @@
 -- The results of a call's reads or writes. A source keeps those of all its reads, and a sink of its writes.
-use Rattle.std.specs.Prelude.{ℕ, ◌+◌, ◌-◌, ◌≡◌, ◌↔◌, ◌⊎◌, ◌≤◌, ◌++◌, List, [], ◌∷◌, length, take, drop, sum_by, All}
-use Rattle.std.specs.Prelude.{Bool, true, false, not, Result, Ok, Err, IfOk, IfErr, is_err, Vec}
+use Rattle.std.specs.Prelude.{ℕ, ◌-◌, ◌≡◌, ◌↔◌, ◌⊎◌, ◌≤◌, ◌++◌, List, [], ◌∷◌, length, take, drop, sum_by, All}
+use Rattle.std.specs.Prelude.{Bool, true, false, Result, Ok, Err, IfOk, IfErr, is_err, Vec}
 use Rattle.std.specs.List.{list_any}
 use Rattle.std.specs.declared.alloc.Global.{Global}
 use Rattle.std.specs.declared.io.Error.{Error}
@@ -64,18 +64,3 @@ GivesAllTaken old new result = IfOk result (λ input. length input.items ≡ tak
 -- no other fault than these two ends the reading of an input
 abbrev pub IsReadOrMemoryFault : {A : Type 0} → Result A ServeFault → Type 0
 IsReadOrMemoryFault result = IfErr result (λ e. (e ≡ ReadFault) ⊎ (e ≡ Memory))
-
--- one read was made; an input, whose length is given, has room for what it took, and grew by it
-pub record ReadsOnce (old new : Results) (room before after : ℕ) (more : Result Bool ServeFault) : Type 0 where
-  pub result : Result ℕ Error
-  pub added : new ≡ old ++ result ∷ []
-  pub within : bytes_of result ≤ room
-  pub fault : (more ≡ Err ReadFault) ↔ (is_err result ≡ true)
-  pub grown : IfOk more (λ m. (after ≡ before + bytes_of result) × (takes_none result ≡ not m))
-
--- one write was made, and this is what is said of it
-pub record WritesOnce (old new : Results) (told : Result ℕ ServeFault) : Type 0 where
-  pub result : Result ℕ Error
-  pub added : new ≡ old ++ result ∷ []
-  pub bytes : IfOk told (λ n. bytes_of result ≡ n)
-  pub fault : takes_none result ≡ is_err told

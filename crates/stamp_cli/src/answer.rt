@@ -2,12 +2,14 @@
 
 ghost use Rattle.std.specs.Prelude.{◌≡◌, ◌≢◌, ◌<◌, ◌≤◌, length, false};
 ghost use Rattle.std.specs.Prelude.{IfOk, IfErr, OnOk, Ok, Err};
-ghost use Rattle.stamp_cli.specs.Refusal.{is_of_end};
+ghost use Rattle.stamp_cli.specs.inner.Refusal.{is_of_end};
 ghost use Rattle.stamp_cli.specs.Serving.{HasRead};
 ghost use Rattle.stamp_cli.specs.Results.{FailsWithARead, GivesAllTaken, IsReadOrMemoryFault, MakesAtMost, ReadsToTheEnd, taken_since};
 ghost use Rattle.stamp_cli.specs.Source.{TakesAtMost, most_bytes};
-ghost use Rattle.stamp_cli.specs.Answer.{AnswersSource, AnswersOrder, AnswersCheck, AnswersMigrate, AnswersReplay, AnswersReportedRun, AnswersRun};
-ghost use Rattle.stamp_cli.specs.Answer.{OrderReads, LineUnlessMemory, UnlessMemory, line_in, most_reads_of, most_taken_of};
+ghost use Rattle.stamp_cli.specs.Answer.{AnswersSource, AnswersOrder, AnswersCheck, AnswersMigrate, AnswersReplay};
+ghost use Rattle.stamp_cli.specs.Answer.{AnswersReportedRun, AnswersRun};
+ghost use Rattle.stamp_cli.specs.Answer.{OrderReads, line_in, most_reads_of, most_taken_of};
+ghost use Rattle.stamp_cli.specs.inner.Answer.{LineUnlessMemory, UnlessMemory};
 
 use crate::check_text::line_of_judgement;
 use crate::faults::ServeFault;

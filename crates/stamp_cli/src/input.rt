@@ -2,8 +2,11 @@
 
 ghost use Rattle.std.specs.Prelude.{◌≡◌, ◌-◌, ◌<◌, ◌≤◌, length, vec_len};
 ghost use Rattle.std.specs.Prelude.{IfOk, OnOk};
-ghost use Rattle.stamp_cli.specs.Results.{FailsWithARead, GivesAllTaken, IsReadOrMemoryFault, MakesAtMost, ReadsOnce, ReadsToTheEnd};
-ghost use Rattle.stamp_cli.specs.Source.{most_bytes, most_reads, most_taken, Reads, ReadsMore, TakesAtMost};
+ghost use Rattle.stamp_cli.specs.Results.{FailsWithARead, GivesAllTaken, IsReadOrMemoryFault, MakesAtMost};
+ghost use Rattle.stamp_cli.specs.Results.{ReadsToTheEnd};
+ghost use Rattle.stamp_cli.specs.inner.Results.{ReadsOnce};
+ghost use Rattle.stamp_cli.specs.Source.{most_bytes, most_reads, most_taken, Reads, TakesAtMost};
+ghost use Rattle.stamp_cli.specs.inner.Source.{ReadsMore};
 
 use crate::faults::ServeFault;
 use crate::sources::Source;

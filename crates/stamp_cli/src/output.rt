@@ -2,7 +2,8 @@
 
 ghost use Rattle.std.specs.Prelude.{◌≡◌, ◌<◌, ◌≤◌, length, take, IfOk, IfErr, OnOk, OnErr, is_err};
 ghost use Rattle.std.specs.Io.KnownBytes.{Appends, Keeps};
-ghost use Rattle.stamp_cli.specs.Results.{Makes, MakesAtMost, WritesOnce, any_since};
+ghost use Rattle.stamp_cli.specs.Results.{Makes, MakesAtMost, any_since};
+ghost use Rattle.stamp_cli.specs.inner.Results.{WritesOnce};
 ghost use Rattle.stamp_cli.specs.Sink.{AppendsFront};
 ghost use Rattle.stamp_cli.specs.TakesNone.{takes_none};
 

@@ -12,7 +12,8 @@ use Rattle.stamp_core.specs.Stamp.{IsWriteStamp, IsReadStamp, IsOptimisticStamp,
 use Rattle.stamp_core.specs.StampKind.{HasKind}
 use Rattle.stamp_core.specs.declared.stamps.StampKind.{StampKind}
 use Rattle.stamp_core.specs.declared.stamps.StampKind.TheVariants.{Write, Read, Optimistic, Neither}
-use Rattle.stamp_core.specs.Decoded.{IsNumber, IsWithinLimits, counts_in, counts_of, after_events}
+use Rattle.stamp_core.specs.Decoded.{IsNumber, counts_in, counts_of, after_events}
+use Rattle.stamp_core.specs.inner.Decoded.{IsWithinLimits}
 use Rattle.stamp_core.specs.declared.layout.Layout.{Layout}
 use Rattle.stamp_core.proofs.TwoLayouts.{either_layout}
 use Rattle.stamp_core.proofs.WellFormedPush.{AllowsAll, push_all, obeys_now, well_formed_none}

@@ -3,7 +3,6 @@ use Rattle.std.specs.Prelude.{ℕ, ◌≤◌, ◌<◌, ◌+◌, ◌-◌, ◌^◌
 use Rattle.stamp_core.specs.LockEvent.{LockEvent, Counts}
 use Rattle.stamp_core.specs.LockEvent.LockEvent.{WriteAcquired, WriteReleased, ReadAcquired, ReadReleased}
 use Rattle.stamp_core.specs.Layout.{Units, units_of}
-use Rattle.stamp_core.specs.Limits.{Bounds, units}
 use Rattle.stamp_core.specs.Word.{LockWord}
 
 -- the number is that of a state
@@ -23,11 +22,6 @@ counts_of u n =
 
 abbrev pub counts_in : LockWord → Counts
 counts_in w = counts_of (units_of w.layout) w.bits
-
--- a version is begun, and the counts are within the limits
-abbrev pub IsWithinLimits : Bounds → ℕ → Type 0
-IsWithinLimits limits n = (0 < n / (units limits).version) × ((counts_of (units limits) n).readers ≤ limits.readers) ×
-    ((counts_of (units limits) n).write_count ≤ limits.versions)
 
 -- the counts once an event has happened, and once several have
 abbrev pub after_event : Counts → LockEvent → Counts

@@ -4,7 +4,6 @@ pub mod LockEvent
 pub mod IsWellFormed
 pub mod Stamp
 pub mod Word
-pub mod Words
 pub mod Call
 pub mod Transition
 pub mod Decision
@@ -20,3 +19,4 @@ pub mod Respelling
 pub mod Replayed
 pub mod Texts
 pub mod Laws
+pub mod inner

@@ -2,7 +2,8 @@
 ghost use Rattle.std.specs.Prelude.{◌≡◌, ◌≤◌, ◌↔◌, IsOk, IfOk, IsSome, IfSome, IsTrue};
 ghost use Rattle.stamp_core.specs.Limits.{AreInRange, bounds, widest};
 ghost use Rattle.stamp_core.specs.Word.{IsAdmitted, word_at};
-ghost use Rattle.stamp_core.specs.Decoded.{counts_in, IsWithinLimits};
+ghost use Rattle.stamp_core.specs.Decoded.{counts_in};
+ghost use Rattle.stamp_core.specs.inner.Decoded.{IsWithinLimits};
 
 use crate::known_layout::KnownLayout;
 use crate::layout::Layout;

@@ -23,7 +23,7 @@ impl Model for Words {
     ghost Value = { List ℕ };
 
     ghost use Rattle.std.specs.Prelude.{◌≡◌, ◌≤◌, ◌++◌, ◌-◌, length, take, drop, replicate};
-    ghost use Rattle.stamp_core.specs.Words.{padded, padded-take};
+    ghost use Rattle.stamp_core.specs.inner.Words.{padded, padded-take};
     ghost use Rattle.std.proofs.Common.{length-take-le, arith};
 
     ghost view = { λ w. take w.len w.words };

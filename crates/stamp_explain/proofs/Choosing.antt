@@ -19,13 +19,6 @@ pub record AreChosen (P : Reply → Type 0) (tried found : List Reply) : Type 0 
   pub whole : All (λ (r : Reply). P r → Contains found r) tried
   pub once : AreDifferent tried → AreDifferent found
 
-pub none_chosen : (P : Reply → Type 0) (found : List Reply) → found ≡ [] → AreChosen P [] found
-none_chosen P found empty = subst (AreChosen P []) (sym empty) (record {
-  only = All-nil (λ (r : Reply). Contains [] r × P r);
-  whole = All-nil (λ (r : Reply). P r → Contains [] r);
-  once = λ _. pairs_none (λ (a b : Reply). a ≢ b);
-})
-
 pub chosen : (P : Reply → Type 0) (tried found : List Reply) → AreChosen P tried found → (r : Reply) →
     Contains found r ↔ (Contains tried r × P r)
 chosen P tried found are r = (

@@ -32,18 +32,3 @@ looking_past {old} {waiting} last is popped stored = record {
   visited = All-cons (λ (w : Waiting). Contains old.nodes.items w.node) last is.passed
       (subst (λ (ns : List Node). Contains ns last.node) is.nodes stored.nodes.1) is.visited;
 }
-
-pub looked_at : {old now new : Store} {waited before : List Waiting} (waiting : List Waiting) (last : Waiting) →
-    Looking old now waited before → before ≡ waiting ++ last ∷ [] → IsStored now new last.node last.origin true →
-    LooksAt old new waited waiting true
-looked_at waiting last is popped stored = record {
-  last = last;
-  passed = is.passed;
-  are = is.are ∙ ap (λ (ws : List Waiting). ws ++ is.passed) popped ∙ append_assoc waiting (last ∷ []) is.passed;
-  visited = is.visited;
-  stored = record {
-    keeps = stored.keeps;
-    nodes = stored.nodes ∙ ap (λ (ns : List Node). ns ++ last.node ∷ []) is.nodes;
-    origins = stored.origins ∙ ap (λ (os : List Origin). os ++ last.origin ∷ []) is.origins;
-  };
-}

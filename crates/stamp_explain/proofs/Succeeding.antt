@@ -51,12 +51,6 @@ pub record NoneOfFirst (h : ObservedHistory) (asked : Option ℕ) (returns : Lis
       (p : ℕ) → p < k → p < length calls → get_or calls p 0 ≡ x.index → ¬ MayTake
       (StateTransition h.limits) h.entries a s taken x t
 
-pub none_of_none : {h : ObservedHistory} {asked : Option ℕ} {returns : List ℕ} {node : Node} {calls : List ℕ} →
-    NoneOfFirst h asked returns node calls 0
-none_of_none = record {
-  none = λ a s taken awaited stands x t at_once p lt inside is may. absurd (omega (arith, lt));
-}
-
 -- nor the next, which does not tell, or is asked, or may not take effect
 pub none_of_more : {h : ObservedHistory} {asked : Option ℕ} {returns : List ℕ} {node : Node} {calls : List ℕ} {k : ℕ} →
     NoneOfFirst h asked returns node calls k → ((a : Observation) (s : LockState) (taken : List ℕ) →

@@ -8,7 +8,8 @@ use Rattle.stamp_core.specs.Replayed.{IsReplayed}
 use Rattle.stamp_core.specs.declared.reply.Reply.{Reply}
 use Rattle.stamp_history.specs.Replay.{Replay, replay_of}
 use Rattle.stamp_history.specs.ReplayText.{replayed_data, replayed_text}
-use Rattle.stamp_history.specs.ReplayAnswer.{IsReplayTextAnswer, AnswersReplayText, RepliesTo}
+use Rattle.stamp_history.specs.ReplayAnswer.{IsReplayTextAnswer, AnswersReplayText}
+use Rattle.stamp_history.specs.inner.ReplayAnswer.{RepliesTo}
 use Rattle.stamp_history.specs.declared.read_error.ReadError.{ReadError}
 use Rattle.stamp_history.specs.declared.read_error.ReadError.TheVariants.{Memory}
 use Rattle.stamp_history.specs.declared.answer_error.AnswerError.{AnswerError}

@@ -15,7 +15,7 @@ use Rattle.stamp_core.specs.declared.call.Call.{Call}
 use Rattle.stamp_core.specs.declared.reply.Reply.{Reply}
 use Rattle.stamp_core.proofs.Replaying.{Replaying, none, more, waits, all}
 use Rattle.stamp_history.specs.ReplayText.{reply_data, replies_data}
-use Rattle.stamp_history.specs.SmallCall.{core_call}
+use Rattle.stamp_history.specs.inner.SmallCall.{core_call}
 use Rattle.stamp_history.specs.declared.small_call.SmallCall.{SmallCall}
 use Rattle.stamp_history.proofs.Appending.{before}
 use Rattle.stamp_history.proofs.ItemsText.{next_written}

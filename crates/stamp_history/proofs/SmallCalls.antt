@@ -2,7 +2,7 @@
 use Rattle.std.proofs.Common.{◌≡◌, ◌∙◌, ℕ, ◌<◌, List, [], ◌∷◌, ◌++◌, length, get_or, map, ap, sym, arith}
 use Rattle.std.proofs.lemmas.List.{get_or-map, map-append, length-map}
 use Rattle.stamp_core.specs.declared.call.Call.{Call}
-use Rattle.stamp_history.specs.SmallCall.{core_call}
+use Rattle.stamp_history.specs.inner.SmallCall.{core_call}
 use Rattle.stamp_history.specs.declared.small_call.SmallCall.{SmallCall}
 
 -- the call at an index, which is that of the small call there

@@ -2,7 +2,6 @@ pub mod Field
 pub mod Gives
 pub mod JsonValue
 pub mod LockCall
-pub mod SmallCall
 pub mod JsonReading
 pub mod LimitFields
 pub mod ReplayFields
@@ -22,3 +21,4 @@ pub mod HistoryFields
 pub mod History
 pub mod HistoryLaws
 pub mod RunLaws
+pub mod inner

@@ -4,8 +4,6 @@ use Rattle.std.specs.declared.alloc.Global.{Global}
 use Rattle.serde_json.specs.Data.{Data}
 use Rattle.stamp_core.specs.Limits.{Bounds}
 use Rattle.stamp_core.specs.declared.call.Call.{Call}
-use Rattle.stamp_history.specs.SmallCall.{core_calls}
-use Rattle.stamp_history.specs.declared.small_call.SmallCall.{SmallCall}
 use Rattle.stamp_history.specs.declared.read_error.ReadError.{ReadError}
 use Rattle.stamp_history.specs.declared.text_kind.TextKind.TheVariants as text
 use Rattle.stamp_history.specs.JsonReading.{◌>>=◌, json_of}
@@ -32,6 +30,3 @@ replay_of bytes = do
 -- what was read, without where it lies in memory
 abbrev pub replay_view : Bounds × Vec Call Global → Replay
 replay_view found = record { limits = found.0; calls = found.1.items }
-
-abbrev pub small_view : Bounds × Vec SmallCall Global → Replay
-small_view found = record { limits = found.0; calls = core_calls found.1 }

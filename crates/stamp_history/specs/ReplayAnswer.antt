@@ -1,14 +1,11 @@
 -- What the text of a replay is answered.
-use Rattle.std.specs.Prelude.{◌≡◌, ◌≢◌, ◌++◌, ℕ, List, Result, Ok, Err, Vec}
+use Rattle.std.specs.Prelude.{◌≡◌, ◌≢◌, ℕ, List, Result, Ok, Err, Vec}
 use Rattle.std.specs.declared.alloc.Global.{Global}
-use Rattle.serde_json.specs.Written.{compact_text}
-use Rattle.stamp_core.specs.Limits.{Bounds}
 use Rattle.stamp_core.specs.Word.{LockWord}
 use Rattle.stamp_core.specs.Replayed.{IsReplayed, WaitsAt}
-use Rattle.stamp_core.specs.declared.call.Call.{Call}
 use Rattle.stamp_core.specs.declared.reply.Reply.{Reply}
 use Rattle.stamp_history.specs.Replay.{Replay, replay_of}
-use Rattle.stamp_history.specs.ReplayText.{replies_data, replayed_text}
+use Rattle.stamp_history.specs.ReplayText.{replayed_text}
 use Rattle.stamp_history.specs.declared.read_error.ReadError.{ReadError}
 use Rattle.stamp_history.specs.declared.read_error.ReadError.TheVariants.{Memory}
 use Rattle.stamp_history.specs.declared.answer_error.AnswerError.{AnswerError}
@@ -33,10 +30,3 @@ IsReplayTextAnswer (Err e) (Err fault) = fault ≡ Refused e
 abbrev pub AnswersReplayText : List ℕ → Result (Vec ℕ Global) AnswerError → Type 0
 AnswersReplayText bytes (Ok text) = IsReplayTextAnswer (replay_of bytes) (Ok text.items)
 AnswersReplayText bytes (Err fault) = fault ≢ Refused Memory → IsReplayTextAnswer (replay_of bytes) (Err fault)
-
--- to calls: the list of the replies, appended to a text, and the word; or the call that waits
-abbrev pub RepliesTo : Bounds → List Call → List ℕ → List ℕ → Result LockWord AnswerError → Type 0
-RepliesTo limits calls old new (Ok word) = (replies : List Reply) ×
-    (new ≡ old ++ compact_text (replies_data replies)) × IsReplayed limits calls replies word
-RepliesTo limits calls old new (Err (Waits i)) = WaitsAt limits calls i
-RepliesTo limits calls old new (Err (Refused e)) = e ≡ Memory

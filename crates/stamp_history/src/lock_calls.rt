@@ -4,7 +4,7 @@ ghost use Rattle.std.specs.Prelude.{◌≡◌, option_and_then, option_map};
 ghost use Rattle.serde_json.specs.View.{view};
 ghost use Rattle.stamp_history.specs.HistoryCall as history;
 ghost use Rattle.stamp_history.specs.LockCall as spec;
-ghost use Rattle.stamp_history.specs.SmallCall.{core_call};
+ghost use Rattle.stamp_history.specs.inner.SmallCall.{core_call};
 
 use crate::script_calls::script_call_of;
 use crate::small_call::SmallCall;

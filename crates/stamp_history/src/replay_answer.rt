@@ -1,8 +1,9 @@
 //! The answer to the text of a replay, without its calls and replies as lists.
 
 ghost use Rattle.std.specs.Prelude.{◌≡◌, ◌<◌, length, map, IfErr};
-ghost use Rattle.stamp_history.specs.ReplayAnswer.{AnswersReplayText, RepliesTo};
-ghost use Rattle.stamp_history.specs.SmallCall.{core_call};
+ghost use Rattle.stamp_history.specs.ReplayAnswer.{AnswersReplayText};
+ghost use Rattle.stamp_history.specs.inner.ReplayAnswer.{RepliesTo};
+ghost use Rattle.stamp_history.specs.inner.SmallCall.{core_call};
 
 use crate::answer_error::AnswerError;
 use crate::json_text::{push_comma, push_reply, push_text};

@@ -4,8 +4,9 @@ ghost use Rattle.std.specs.Prelude.{◌≡◌, ◌<◌, IsTrue, IfOk, IfErr, len
 ghost use Rattle.std.specs.List.{All};
 ghost use Rattle.stamp_core.specs.Call.{is_lock_call};
 ghost use Rattle.stamp_history.specs.Gives.{Gives};
-ghost use Rattle.stamp_history.specs.Replay.{replay_of, replay_view, small_view};
-ghost use Rattle.stamp_history.specs.SmallCall.{core_call};
+ghost use Rattle.stamp_history.specs.Replay.{replay_of, replay_view};
+ghost use Rattle.stamp_history.specs.inner.Replay.{small_view};
+ghost use Rattle.stamp_history.specs.inner.SmallCall.{core_call};
 
 use crate::json_values::json;
 use crate::limit_fields::read_limits;

@@ -2,7 +2,7 @@
 
 ghost use Rattle.std.specs.Prelude.{◌≡◌, IsTrue};
 ghost use Rattle.stamp_core.specs.Call.{is_lock_call};
-ghost use Rattle.stamp_history.specs.SmallCall.{core_call};
+ghost use Rattle.stamp_history.specs.inner.SmallCall.{core_call};
 
 use stamp_core::Call;
 

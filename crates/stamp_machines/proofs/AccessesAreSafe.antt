@@ -19,7 +19,7 @@ use Rattle.stamp_machines.specs.LockPhase.{phase_plan, plan_on}
 use Rattle.stamp_machines.specs.declared.shape.Shape.{Shape}
 use Rattle.stamp_machines.specs.MachineState.{Stage, OnLock, OnRecord, record_limits}
 use Rattle.stamp_machines.specs.Machine.{plan_in, IsFoundIn, HasVersionLeft}
-use Rattle.stamp_machines.specs.RecordKept.{FitsRecordStage}
+use Rattle.stamp_machines.specs.inner.RecordKept.{FitsRecordStage}
 
 -- a lock phase is on its lock's word
 phase-index : (i : ℕ) (limits : Bounds) (call : Call) (seen : Option ℕ) →

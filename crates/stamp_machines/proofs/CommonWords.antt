@@ -12,8 +12,8 @@ use Rattle.stamp_core.specs.declared.decision.Decision.{Decision}
 use Rattle.stamp_core.specs.declared.decision.Decision.TheVariants.{Answer, Change, Wait}
 use Rattle.stamp_machines.specs.Access.{words_after, found_by}
 use Rattle.stamp_core.specs.CountedDecision.{decision}
-use Rattle.stamp_machines.specs.LocalAccess.{LocalAccess, LoadLock, CasLock, LoadWord, StoreWord}
-use Rattle.stamp_machines.specs.LocalAccess.{lock_after, record_words_after, with_lock, local_found}
+use Rattle.stamp_machines.specs.LocalAccess.{LocalAccess, LoadLock, CasLock, LoadWord, StoreWord, with_lock}
+use Rattle.stamp_machines.specs.inner.LocalAccess.{lock_after, record_words_after, local_found}
 use Rattle.stamp_machines.specs.LockPhase.{phase_plan, plan_on}
 
 -- the access is to the lock's word

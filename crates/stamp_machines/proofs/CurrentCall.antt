@@ -23,8 +23,8 @@ use Rattle.stamp_machines.specs.MachineState.{first_stage, start}
 use Rattle.stamp_machines.specs.Script.{Scripted, Suits, calls_of}
 use Rattle.stamp_machines.specs.declared.state.Begun.{Begun}
 use Rattle.stamp_machines.specs.World.{World, current_of, begun_call, resolved, shape_of, stamps_of}
-use Rattle.stamp_machines.specs.Invariant.{record_call_at, record_call_in, IsOf}
-use Rattle.stamp_machines.specs.RecordKept.{read_by, written_by, read_in, written_in, FitsRecordStage, FitsIn}
+use Rattle.stamp_machines.specs.inner.Invariant.{record_call_at, record_call_in, IsOf}
+use Rattle.stamp_machines.specs.inner.RecordKept.{read_by, written_by, read_in, written_in, FitsRecordStage, FitsIn}
 
 first_place_reads : (job : Job) → read_by (first_record_stage job) ≡ 0
 first_place_reads Getting = refl

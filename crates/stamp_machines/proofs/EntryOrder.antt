@@ -15,7 +15,7 @@ use Rattle.stamp_core.proofs.Linearizing.{linearized_none, linearized_more}
 use Rattle.stamp_core.proofs.StampValidity.{legal_rest}
 use Rattle.stamp_core.specs.Content.{zeros}
 use Rattle.stamp_machines.specs.Script.{IsSound}
-use Rattle.stamp_machines.specs.Invariant.{Invariant}
+use Rattle.stamp_machines.specs.inner.Invariant.{Invariant}
 use Rattle.stamp_machines.proofs.StepsKeep.{history_more, step-kept, position-step, opening-kept}
 use Rattle.stamp_machines.specs.declared.script.ScriptCall.{ScriptCall}
 use Rattle.stamp_machines.specs.declared.state.Begun.{Begun}

@@ -7,15 +7,15 @@ use Rattle.std.proofs.lemmas.List.{length-take}
 use Rattle.std.proofs.Math.Seq.{drop-append_seam}
 use Rattle.stamp_core.specs.declared.entry.Entry.{Entry}
 use Rattle.stamp_machines.specs.Script.{Scripted, IsSound}
-use Rattle.stamp_machines.specs.Invariant.{Invariant}
+use Rattle.stamp_machines.specs.inner.Invariant.{Invariant}
 use Rattle.stamp_machines.specs.World.{World, execution_of, finished_calls, step, world_stepped, world_after}
 use Rattle.stamp_machines.specs.World.{current, stamps_of, opening}
-use Rattle.stamp_machines.specs.StepKind.{IsOfKind}
-use Rattle.stamp_machines.specs.CompletionsFields.{IsAfter, calls_until, calls_after, HandsOn}
-use Rattle.stamp_machines.specs.CompletionsFields.{completing_at}
-use Rattle.stamp_machines.specs.CompletionsFields.{StepMade}
+use Rattle.stamp_machines.specs.inner.StepKind.{IsOfKind}
+use Rattle.stamp_machines.specs.CompletionsFields.{IsAfter, calls_until, calls_after, completing_at}
+use Rattle.stamp_machines.specs.inner.CompletionsFields.{HandsOn, StepMade}
 use Rattle.stamp_machines.specs.Completing.{before_all}
-use Rattle.stamp_machines.specs.StateFields.{world_at, stamps_at, SameState}
+use Rattle.stamp_machines.specs.StateFields.{world_at, stamps_at}
+use Rattle.stamp_machines.specs.inner.StateFields.{SameState}
 use Rattle.stamp_machines.specs.declared.machine.Turn.{Turn}
 use Rattle.stamp_machines.specs.declared.machine.Turn.TheVariants as turned
 use Rattle.stamp_machines.specs.declared.state.Begun.{Begun}

@@ -25,8 +25,8 @@ use Rattle.stamp_core.proofs.WordCounts.{counts_in-represented}
 use Rattle.stamp_machines.specs.LockNumber.{RepresentsAt, IsAdmittedAt, counts_at}
 use Rattle.stamp_machines.specs.LockPhase.{Going, Done, phase_plan, phase_after, plan_on, turn_on}
 use Rattle.stamp_machines.specs.LockPhase.{tried, PhaseTurn}
-use Rattle.stamp_machines.specs.LocalAccess.{lock_after, local_found}
-use Rattle.stamp_machines.specs.RecordKept.{IsRead}
+use Rattle.stamp_machines.specs.inner.LocalAccess.{lock_after, local_found}
+use Rattle.stamp_machines.specs.inner.RecordKept.{IsRead}
 
 -- what a call's transition makes of the word
 pub record CallLeaves (limits : Bounds) (call : Call) (lock now : ℕ) (r : Reply) : Type 0 where

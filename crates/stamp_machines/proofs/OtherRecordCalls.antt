@@ -10,8 +10,8 @@ use Rattle.stamp_machines.specs.Job.{Job}
 use Rattle.stamp_machines.specs.RecordStage.{RecordStage, LoadingLock, Copying, Locking, Reading, Checking}
 use Rattle.stamp_machines.specs.RecordStage.{Storing, Releasing, Share, Leave, Refuse}
 use Rattle.stamp_machines.specs.RecordStage.{Upgrade, ReleaseFirst, Claim}
-use Rattle.stamp_machines.specs.RecordKept.{read_by, written_by, FitsRecordStage, FitsIn, RecordCallAt, read_in}
-use Rattle.stamp_machines.specs.RecordKept.{written_in, RecordKept, Moved, SameFor, AloneFor}
+use Rattle.stamp_machines.specs.inner.RecordKept.{read_by, written_by, FitsRecordStage, FitsIn, RecordCallAt, read_in}
+use Rattle.stamp_machines.specs.inner.RecordKept.{written_in, RecordKept, Moved, SameFor, AloneFor}
 
 pub le_sum : (f : Option RecordCallAt → ℕ) (xs : List (Option RecordCallAt)) (j : ℕ) → f None ≡ 0 →
     f (slice_index_or xs j None) ≤ sum_by f xs

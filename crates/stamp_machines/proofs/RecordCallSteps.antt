@@ -26,8 +26,8 @@ use Rattle.stamp_core.proofs.WellFormedPush.{push_all, obeys_now}
 use Rattle.stamp_core.specs.Decision.{stamp_in}
 use Rattle.stamp_machines.specs.LockNumber.{IsAdmittedAt, RepresentsAt, counts_at}
 use Rattle.stamp_core.specs.CountedDecision.{decision}
-use Rattle.stamp_machines.specs.Job.{Job, Getting, Putting, PuttingIf, content_with, reply_to}
-use Rattle.stamp_machines.specs.Job.{new_words, expects, is_get, stored_reply}
+use Rattle.stamp_machines.specs.Job.{Job, Getting, Putting, PuttingIf, new_words, expects, is_get, stored_reply}
+use Rattle.stamp_machines.specs.inner.Job.{content_with, reply_to}
 use Rattle.stamp_machines.specs.RecordStage.{Going, Done, RecordStage, OwnLockCall, LoadingLock, Copying, Locking}
 use Rattle.stamp_machines.specs.RecordStage.{Reading, Checking, Storing, Releasing, Share}
 use Rattle.stamp_machines.specs.RecordStage.{Leave, Refuse, Upgrade, ReleaseFirst, Claim, plan}
@@ -36,10 +36,10 @@ use Rattle.stamp_machines.specs.RecordStage.{unchanged}
 use Rattle.stamp_machines.specs.LockPhase as phases
 use Rattle.stamp_machines.specs.LockPhase.{plan_on, phase_plan, phase_after}
 use Rattle.stamp_machines.specs.LockPhase.{PhaseTurn}
-use Rattle.stamp_machines.specs.LocalAccess.{LoadLock, LoadWord, lock_after, record_words_after}
-use Rattle.stamp_machines.specs.LocalAccess.{local_found}
-use Rattle.stamp_machines.specs.RecordKept.{read_by, written_by, FitsRecordStage, SameFor, AloneFor, MovedRightly}
-use Rattle.stamp_machines.specs.RecordKept.{Stands, IsRead}
+use Rattle.stamp_machines.specs.LocalAccess.{LoadLock, LoadWord}
+use Rattle.stamp_machines.specs.inner.LocalAccess.{lock_after, record_words_after, local_found}
+use Rattle.stamp_machines.specs.inner.RecordKept.{read_by, written_by, FitsRecordStage, SameFor, AloneFor}
+use Rattle.stamp_machines.specs.inner.RecordKept.{MovedRightly, Stands, IsRead}
 use Rattle.stamp_machines.proofs.LockPhaseSteps.{PhaseLeaves, phase-leaves, CallLeaves, left-admitted}
 use Rattle.stamp_machines.proofs.LockPhaseSteps.{counts-of, shared_at, left_at, claimed_at}
 use Rattle.stamp_machines.proofs.LockPhaseSteps.{upgraded_at}

@@ -9,13 +9,14 @@ use Rattle.stamp_machines.specs.declared.state.RunState.{RunState}
 use Rattle.stamp_machines.specs.declared.running.Run.TheInside.{Inside}
 use Rattle.stamp_machines.specs.Script.{Scripted}
 use Rattle.stamp_machines.specs.World.{World, step, execution_of, finished_calls}
-use Rattle.stamp_machines.specs.StateFields.{world_at, SameState}
+use Rattle.stamp_machines.specs.StateFields.{world_at}
+use Rattle.stamp_machines.specs.inner.StateFields.{SameState}
 use Rattle.stamp_core.specs.Word.{Represents, IsAdmitted, word_at}
 use Rattle.stamp_core.specs.History.{events_of}
 use Rattle.stamp_core.specs.Linearized.{history_of}
-use Rattle.stamp_machines.specs.Invariant.{Invariant, events_in}
+use Rattle.stamp_machines.specs.inner.Invariant.{Invariant, events_in}
 use Rattle.stamp_machines.specs.RunFields.{run_view_of, IsAt}
-use Rattle.stamp_machines.specs.RecordedRun.{IsRecordedRun}
+use Rattle.stamp_machines.specs.inner.RecordedRun.{IsRecordedRun}
 use Rattle.stamp_core.specs.Record.{Recorded, recorded, IsRecorded}
 use Rattle.stamp_machines.proofs.StepsKeep.{always-kept, execution_of-more}
 use Rattle.stamp_machines.proofs.EntryOrder.{InOrder, always-in-order}

@@ -20,19 +20,19 @@ use Rattle.stamp_machines.specs.Stepped.{AnswersStep}
 use Rattle.stamp_machines.specs.declared.running.Stepped.TheVariants.{Ended}
 use Rattle.stamp_machines.specs.declared.state.StepKind.{StepKind}
 use Rattle.stamp_machines.specs.declared.state.StepKind.TheVariants as kind
-use Rattle.stamp_machines.specs.StepKind.{IsOfKind, outcome_of}
-use Rattle.stamp_machines.specs.StateStep.{IsStep}
+use Rattle.stamp_machines.specs.inner.StepKind.{IsOfKind, outcome_of}
+use Rattle.stamp_machines.specs.inner.StateStep.{IsStep}
 use Rattle.stamp_core.specs.Decision.{stamp_in}
 use Rattle.stamp_machines.specs.Script.{IsSound}
-use Rattle.stamp_machines.specs.Invariant.{Invariant}
+use Rattle.stamp_machines.specs.inner.Invariant.{Invariant}
 use Rattle.stamp_machines.specs.StateFields.{world_at, stamps_at, stamps_in, begun_in}
 use Rattle.stamp_machines.specs.declared.state.RunState.{RunState}
 use Rattle.stamp_machines.proofs.AccessesAreSafe.{IsSafeIn}
 use Rattle.stamp_machines.proofs.StepsKeep.{current-safe}
 use Rattle.stamp_machines.proofs.WorkerStamps.{same_stamps, stamps_at-index, stamps_at-kept}
 use Rattle.stamp_machines.proofs.WorkerStamps.{stamps_at-more}
-use Rattle.stamp_machines.specs.World.{World, begun_with, current, current_of, next_call, step}
-use Rattle.stamp_machines.specs.World.{world_after, stamps_of, entry_of}
+use Rattle.stamp_machines.specs.World.{World, current, current_of, next_call, step, world_after, stamps_of, entry_of}
+use Rattle.stamp_machines.specs.inner.World.{begun_with}
 
 world_after-begun : (world : World) (t : ℕ) (b : Begun) (words : List ℕ) (turned : Turn) →
     world_after (begun_with world t (Some b)) t b words turned ≡ world_after world t b words turned

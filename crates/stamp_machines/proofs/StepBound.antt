@@ -39,10 +39,10 @@ use Rattle.stamp_machines.specs.declared.machine.Turn.{Turn}
 use Rattle.stamp_machines.specs.declared.machine.Turn.TheVariants.{Going, Done}
 use Rattle.stamp_machines.specs.Access.{words_after, found_by}
 use Rattle.stamp_machines.specs.Job.{job_of_call}
-use Rattle.stamp_machines.specs.LocalAccess.{LocalAccess, LoadLock, CasLock, LoadWord, StoreWord}
-use Rattle.stamp_machines.specs.LocalAccess.{with_lock, lock_after, local_found}
+use Rattle.stamp_machines.specs.LocalAccess.{LocalAccess, LoadLock, CasLock, LoadWord, StoreWord, with_lock}
+use Rattle.stamp_machines.specs.inner.LocalAccess.{lock_after, local_found}
 use Rattle.stamp_machines.specs.Machine.{plan_of, after_access, lock_turn}
-use Rattle.stamp_machines.specs.Invariant.{Invariant, IsOf, events_in, job_of_stage}
+use Rattle.stamp_machines.specs.inner.Invariant.{Invariant, IsOf, events_in, job_of_stage}
 use Rattle.stamp_machines.proofs.LockCallSteps.{decided}
 use Rattle.stamp_machines.proofs.TwoKindsOfCall.{lock_none}
 use Rattle.stamp_machines.proofs.LockPhaseSteps.{PhaseLeaves, phase-leaves}

@@ -20,14 +20,16 @@ use Rattle.stamp_machines.specs.declared.access.Access.{Access}
 use Rattle.stamp_machines.specs.declared.access.Access.TheVariants.{Load, Cas, Store}
 use Rattle.stamp_machines.specs.Access.{words_after, found_by}
 use Rattle.stamp_machines.specs.LockNumber.{RepresentsAt, IsAdmittedAt, counts_at}
-use Rattle.stamp_machines.specs.Job.{Job, job_of_call, content_with, reply_to}
+use Rattle.stamp_machines.specs.Job.{Job, job_of_call}
+use Rattle.stamp_machines.specs.inner.Job.{content_with, reply_to}
 use Rattle.stamp_core.specs.History.{IsLegal, History, IsReply, appended_by, content_after}
 use Rattle.stamp_core.specs.History.{events_of}
 use Rattle.stamp_machines.specs.RecordStage as on_record
 use Rattle.stamp_machines.specs.RecordStage.{RecordStage, RecordStageTurn}
 use Rattle.stamp_machines.specs.LockPhase as phases
 use Rattle.stamp_machines.specs.LockPhase.{phase_plan, phase_after, PhaseTurn}
-use Rattle.stamp_machines.specs.LocalAccess.{LocalAccess, lock_after, with_lock, local_found}
+use Rattle.stamp_machines.specs.LocalAccess.{LocalAccess, with_lock}
+use Rattle.stamp_machines.specs.inner.LocalAccess.{lock_after, local_found}
 use Rattle.stamp_machines.specs.declared.machine.Turn.{Turn as MachineTurn}
 use Rattle.stamp_machines.specs.declared.machine.Turn.TheVariants as machines
 use Rattle.stamp_machines.specs.declared.shape.Shape.{Shape}
@@ -38,10 +40,10 @@ use Rattle.stamp_machines.specs.Script.{Scripted, IsSound}
 use Rattle.stamp_machines.specs.declared.state.Begun.{Begun}
 use Rattle.stamp_machines.specs.World.{World, opening, opening_word, current, world_after, world_stepped, step}
 use Rattle.stamp_machines.specs.World.{execution_of, entry_of, shape_of}
-use Rattle.stamp_machines.specs.RecordKept.{RecordCallAt, RecordKept, MovedRightly, Stands, read_in, written_in}
-use Rattle.stamp_machines.specs.RecordKept.{read_by, written_by, FitsIn, SameFor, AloneFor}
-use Rattle.stamp_machines.specs.Invariant.{Invariant, IsOf, record_call_in, record_call_at, job_of_stage, content_in}
-use Rattle.stamp_machines.specs.Invariant.{events_in}
+use Rattle.stamp_machines.specs.inner.RecordKept.{RecordCallAt, RecordKept, MovedRightly, Stands, read_in, written_in}
+use Rattle.stamp_machines.specs.inner.RecordKept.{read_by, written_by, FitsIn, SameFor, AloneFor}
+use Rattle.stamp_machines.specs.inner.Invariant.{Invariant, IsOf, record_call_in, record_call_at, job_of_stage}
+use Rattle.stamp_machines.specs.inner.Invariant.{content_in, events_in}
 use Rattle.stamp_machines.proofs.LockPhaseSteps.{PhaseLeaves, phase-leaves, counts-of}
 use Rattle.stamp_machines.proofs.OtherRecordCalls.{moved-kept, le_sum}
 use Rattle.stamp_machines.specs.Laws.{ReleasesWinAlways}

@@ -26,8 +26,8 @@ use Rattle.stamp_machines.specs.World.{finished_calls}
 use Rattle.stamp_machines.specs.MachineState.{start}
 use Rattle.stamp_machines.specs.Stepped.{AnswersStep}
 use Rattle.stamp_machines.specs.Interference.{lock_word, own_since, changes_since, cost}
-use Rattle.stamp_machines.specs.Tally.{TallyState, IsMetered, IsTallied, idle_meter, meter_at}
-use Rattle.stamp_machines.specs.Tally.{meter_after, not_others_in, tally_after}
+use Rattle.stamp_machines.specs.inner.Tally.{TallyState, IsMetered, IsTallied, idle_meter, meter_at, meter_after}
+use Rattle.stamp_machines.specs.inner.Tally.{not_others_in, tally_after}
 use Rattle.stamp_machines.proofs.EntryOrder.{InOrder, always-in-order, slot_other, slot_none}
 use Rattle.stamp_machines.proofs.StepsKeep.{execution-position, execution_of-more, always-kept}
 use Rattle.stamp_machines.proofs.StepBound.{own_since-more, changes_since-more, own-more}

@@ -19,8 +19,8 @@ use Rattle.stamp_core.specs.declared.call.Call.TheVariants.{IsReadLocked, ReadCo
 use Rattle.stamp_core.specs.declared.call.Call.TheVariants.{PutIf}
 use Rattle.stamp_core.specs.declared.reply.Reply.{Reply}
 use Rattle.stamp_core.specs.declared.reply.Reply.TheVariants.{Yes, No}
-use Rattle.stamp_machines.specs.Job.{Job, Getting, Putting, PuttingIf, job_of_call, content_with}
-use Rattle.stamp_machines.specs.Job.{reply_to}
+use Rattle.stamp_machines.specs.Job.{Job, Getting, Putting, PuttingIf, job_of_call}
+use Rattle.stamp_machines.specs.inner.Job.{content_with, reply_to}
 
 -- a call of the lock leaves the content
 pub record OfLock (call : Call) : Type 0 where

@@ -3,7 +3,8 @@ use Rattle.std.proofs.Common.{◌≡◌, ℕ, ◌<◌, ◌==◌, Bool, true, fal
 use Rattle.std.proofs.Common.{zero, suc, if◌then◌else◌, refl, ◌∙◌, ap, arith}
 use Rattle.std.specs.Prelude.{slice_set, slice_index_or, slice_get, vec_len, vec_capacity, map}
 use Rattle.stamp_machines.specs.declared.state.Worker.{Worker}
-use Rattle.stamp_machines.specs.StateFields.{stamps_at, stamps_in, begun_in, HasRoom}
+use Rattle.stamp_machines.specs.StateFields.{stamps_at, stamps_in, begun_in}
+use Rattle.stamp_machines.specs.inner.StateFields.{HasRoom}
 
 pub stamps_at-index : (ws : List Worker) (i : ℕ) (d : Worker) → i < length ws →
     stamps_at ws i ≡ stamps_in (slice_index_or ws i d)

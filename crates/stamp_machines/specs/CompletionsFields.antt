@@ -1,14 +1,11 @@
 -- How the fields of a script's finished calls are read, and what they keep to.
-use Rattle.std.specs.Prelude.{◌≡◌, ℕ, ◌+◌, ◌≤◌, List, [], length, take, drop, slice_get}
-use Rattle.std.specs.Prelude.{vec_len}
+use Rattle.std.specs.Prelude.{◌≡◌, ℕ, ◌≤◌, List, [], length, take, drop, slice_get, vec_len}
 use Rattle.stamp_core.specs.declared.entry.Entry.{Entry}
-use Rattle.stamp_machines.specs.Completing.{Completing, after_next}
+use Rattle.stamp_machines.specs.Completing.{Completing}
 use Rattle.stamp_machines.specs.Script.{Scripted}
 use Rattle.stamp_machines.specs.World.{execution_of, finished_calls, stamps_of}
 use Rattle.stamp_machines.specs.StateFields.{world_at, stamps_at}
 use Rattle.stamp_machines.specs.declared.state.RunState.{RunState}
-use Rattle.stamp_machines.specs.declared.state.StepKind.{StepKind}
-use Rattle.stamp_machines.specs.declared.state.StepKind.TheVariants.{Idle, Going, Ended}
 use Rattle.stamp_machines.specs.declared.completions.Completions.TheInside.{Inside}
 
 -- what this many of the script's steps finish, and what the later ones do
@@ -38,19 +35,6 @@ pub record IsAfter (script : Scripted) (s : RunState) (made : ℕ) : Type 0 wher
   pub few : made ≤ length script.steps
   pub workers : vec_len s.workers ≡ length script.threads
   pub stamps : (t : ℕ) → stamps_at s.workers.items t ≡ stamps_of t (calls_until script made)
-
--- what is to come after a step of this kind
-abbrev pub HandsOn : Scripted → RunState → ℕ → StepKind → Type 0
-HandsOn script s made Ended =
-    completing_at script s (made + 1) ≡ after_next (completing_at script s made)
-HandsOn script s made Idle =
-    (s.entries.items ≡ []) × (calls_after script (made + 1) ≡ calls_after script made)
-HandsOn script s made Going =
-    (s.entries.items ≡ []) × (calls_after script (made + 1) ≡ calls_after script made)
-
-pub record StepMade (script : Scripted) (s : RunState) (made : ℕ) (p : StepKind) : Type 0 where
-  pub after : IsAfter script s (made + 1)
-  pub hands_on : HandsOn script s made p
 
 abbrev pub IsCompleting : Inside → Type 0
 IsCompleting c = IsAfter c.script.now c.state c.made

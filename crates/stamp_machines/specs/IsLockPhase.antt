@@ -1,21 +1,12 @@
--- What a lock call under way keeps to, and what its accesses lead to.
-use Rattle.std.specs.Prelude.{◌≡◌, ℕ, ◌<◌, ◌^◌, Option, Some, None, true}
-use Rattle.std.specs.declared.ops.ControlFlow.{ControlFlow}
-use Rattle.std.specs.declared.ops.ControlFlow.TheVariants.{Continue, Break}
+-- What a lock call under way keeps to.
+use Rattle.std.specs.Prelude.{◌≡◌, ℕ, Option, Some, None, true}
 use Rattle.stamp_core.specs.Call.{is_lock_call}
 use Rattle.stamp_core.specs.Limits.{Bounds}
 use Rattle.stamp_core.specs.Word.{LockWord, IsAdmitted, word_at}
 use Rattle.stamp_core.specs.CountedDecision.{decision}
-use Rattle.stamp_core.specs.Decision.{stamp_in}
 use Rattle.stamp_core.specs.declared.call.Call.{Call}
 use Rattle.stamp_core.specs.declared.reply.Reply.{Reply}
 use Rattle.stamp_core.specs.declared.decision.Decision.TheVariants.{Change}
-use Rattle.stamp_machines.specs.LockPhase.{PhaseTurn, Going, Done}
-
--- it goes on with this word, or with none, or has ended with this reply
-abbrev pub phase_turn : ControlFlow (Unit {0}) (Option ℕ) → Reply → PhaseTurn
-phase_turn (Continue seen) reply = Going seen
-phase_turn (Break _) reply = Done reply
 
 -- what the call does to a word
 pub record Changing (limits : Bounds) (call : Call) (old : ℕ) : Type 0 where
@@ -32,8 +23,3 @@ IsChanging limits call (Some old) = Changing limits call old
 -- a lock call under way, which has seen such a word, or has seen none
 abbrev pub IsLockPhase : Bounds → Call → Option ℕ → Type 0
 IsLockPhase limits call seen = (is_lock_call call ≡ true) × IsChanging limits call seen
-
--- it goes on with such a word, or the stamp that it ended with is below 2^63
-abbrev pub IsPhaseTurn : Bounds → Call → PhaseTurn → Type 0
-IsPhaseTurn limits call (Going seen) = IsChanging limits call seen
-IsPhaseTurn limits call (Done reply) = stamp_in reply < 2 ^ 63

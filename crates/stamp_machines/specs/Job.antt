@@ -1,5 +1,5 @@
--- The calls of the guarded record: what each leaves of the content, and its reply.
-use Rattle.std.specs.Prelude.{ℕ, Bool, true, false, List, [], Option, Some, None, if◌then◌else◌}
+-- The calls of the guarded record, and what each stores.
+use Rattle.std.specs.Prelude.{ℕ, Bool, true, false, List, [], Option, Some, None}
 use Rattle.stamp_core.specs.Content.{same_words}
 use Rattle.stamp_core.specs.declared.call.Call.{Call}
 use Rattle.stamp_core.specs.declared.call.Call.TheVariants.{Get, Put, PutIf}
@@ -17,18 +17,6 @@ job_of_call Get = Some Getting
 job_of_call (Put words) = Some (Putting words)
 job_of_call (PutIf expected words) = Some (PuttingIf expected words)
 job_of_call _ = None
-
-abbrev pub content_with : List ℕ → Job → List ℕ
-content_with content Getting = content
-content_with content (Putting words) = words
-content_with content (PuttingIf expected words) =
-    if same_words content expected then words else content
-
-abbrev pub reply_to : List ℕ → Job → Reply
-reply_to content Getting = reply.Content content
-reply_to content (Putting words) = reply.Done
-reply_to content (PuttingIf expected words) =
-    if same_words content expected then reply.Yes else reply.No
 
 -- the words that it stores
 abbrev pub new_words : Job → List ℕ

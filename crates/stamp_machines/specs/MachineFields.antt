@@ -1,8 +1,6 @@
 -- How a machine's fields are read as a call under way.
 use Rattle.std.specs.Prelude.{◌≡◌, ◌⊎◌, ◌<◌, ◌≤◌, ◌^◌, ℕ, Bool, true, false, List, length, Option}
 use Rattle.std.specs.Prelude.{Some, None, if◌then◌else◌}
-use Rattle.std.specs.declared.ops.ControlFlow.{ControlFlow}
-use Rattle.std.specs.declared.ops.ControlFlow.TheVariants.{Continue, Break}
 use Rattle.stamp_core.specs.Call.{is_lock_call}
 use Rattle.stamp_core.specs.declared.call.Call.{Call}
 use Rattle.stamp_core.specs.declared.reply.Reply.{Reply}
@@ -22,9 +20,6 @@ use Rattle.stamp_machines.specs.declared.stage.Stage.TheVariants.{Storing, Relea
 use Rattle.stamp_machines.specs.declared.stage.OwnLockCall.{OwnLockCall}
 use Rattle.stamp_machines.specs.declared.stage.OwnLockCall.TheVariants.{Share, Leave, Refuse, Upgrade}
 use Rattle.stamp_machines.specs.declared.stage.OwnLockCall.TheVariants.{ReleaseFirst, Claim}
-use Rattle.stamp_machines.specs.declared.machine.Turn.{Turn}
-use Rattle.stamp_machines.specs.declared.machine.Turn.TheVariants.{Going}
-use Rattle.stamp_machines.specs.declared.machine.Turn.TheVariants as turned
 use Rattle.stamp_machines.specs.declared.machine.Machine.TheInside.{Inside}
 
 abbrev pub or_get : Option Job → Job
@@ -63,16 +58,6 @@ stage_at call loaded (Releasing stamp is_stored) =
 abbrev pub machine_state_of : Inside → MachineState
 machine_state_of m = record { shape = m.shape; call = m.call; stage = stage_at m.call m.loaded m.stage }
 
--- a call that has these words loaded goes on at this stage
-abbrev pub going_at : Shape → Call → List ℕ → Stage → Turn
-going_at shape call loaded stage =
-    Going (record { shape = shape; call = call; stage = stage_at call loaded stage })
-
--- the turn of a call that has these words loaded, with this reply
-abbrev pub turn_in : Shape → Call → List ℕ → Reply → ControlFlow (Unit {0}) Stage → Turn
-turn_in shape call loaded reply (Continue stage) = going_at shape call loaded stage
-turn_in shape call loaded reply (Break _) = turned.Done reply
-
 -- a call of the record has the record's width
 abbrev pub IsRecordCall : Shape → Call → Type 0
 IsRecordCall shape call =
@@ -109,11 +94,6 @@ IsStage shape call loaded (Storing stamp stored) =
     IsPutCall shape call × (stored < shape.width) × (stamp < 2 ^ 63)
 IsStage shape call loaded (Releasing stamp is_stored) =
     (is_lock_call call ≡ false) × (stamp < 2 ^ 63)
-
--- where it goes on with the words now loaded; the end of a call leaves them as they were
-abbrev pub IsNextStage : Shape → Call → List ℕ → List ℕ → ControlFlow (Unit {0}) Stage → Type 0
-IsNextStage shape call before loaded (Continue stage) = IsStage shape call loaded stage
-IsNextStage shape call before loaded (Break _) = loaded ≡ before
 
 abbrev pub IsAtStage : Inside → Type 0
 IsAtStage m = IsStage m.shape m.call m.loaded m.stage

@@ -1,10 +1,7 @@
 -- The recorded history that a run of a script gives.
-use Rattle.std.specs.Prelude.{◌≡◌, ℕ, List, [], map, All}
-use Rattle.stamp_core.specs.declared.entry.Entry.{Entry}
-use Rattle.stamp_core.specs.Linearized.{IsLinearized}
+use Rattle.std.specs.Prelude.{[], map}
 use Rattle.stamp_core.specs.Record.{Recorded, recorded}
 use Rattle.stamp_machines.specs.Interference.{cost}
-use Rattle.stamp_machines.specs.RunView.{RunView}
 use Rattle.stamp_machines.specs.Script.{Scripted}
 use Rattle.stamp_machines.specs.World.{finished_calls}
 
@@ -17,10 +14,3 @@ abbrev pub reported_run : Scripted → Recorded
 reported_run script =
     let entries = finished_calls script script.steps in
     recorded script.limits script.width entries (map (cost script script.steps) entries)
-
--- the finished calls of a run, with this report; each takes effect at its last step
-pub record IsRecordedRun (run : RunView) (report : List (ℕ × ℕ)) (r : Recorded) : Type 0 where
-  pub calls : r
-      ≡ recorded run.script.limits run.script.width (finished_calls run.script run.steps) report
-  pub linearized : IsLinearized r
-  pub points : All (λ (e : Entry). e.point ≡ e.last) r.entries

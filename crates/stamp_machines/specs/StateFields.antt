@@ -1,6 +1,5 @@
 -- What the workers of a run keep of the finished calls.
-use Rattle.std.specs.Prelude.{◌≡◌, ℕ, List, [], map, Option, Some, None, slice_index_or, vec_len}
-use Rattle.std.specs.Prelude.{vec_capacity, ◌<◌, ◌++◌}
+use Rattle.std.specs.Prelude.{ℕ, List, [], map, Option, slice_index_or, ◌++◌}
 use Rattle.stamp_core.specs.declared.entry.Entry.{Entry}
 use Rattle.stamp_machines.specs.declared.state.Begun.{Begun}
 use Rattle.stamp_machines.specs.declared.state.Worker.{Worker}
@@ -17,11 +16,6 @@ stamps_in w = w.stamps.items
 abbrev pub stamps_at : List Worker → ℕ → List ℕ
 stamps_at workers thread = slice_index_or (map stamps_in workers) thread []
 
--- there is room for one stamp more
-abbrev pub HasRoom : Option Worker → Type 0
-HasRoom None = Unit {0}
-HasRoom (Some w) = vec_len w.stamps < vec_capacity w.stamps
-
 -- the schedule's world, where these entries came before those that are kept
 abbrev pub world_at : List Entry → RunState → ℕ → World
 world_at gone s position =
@@ -31,11 +25,3 @@ world_at gone s position =
       entries = gone ++ s.entries.items;
       position = position;
     }
-
--- what clients see of two states is the same
-pub record SameState (old : RunState) (new : RunState) : Type 0 where
-  pub words : new.words ≡ old.words
-  pub begun : map begun_in new.workers.items ≡ map begun_in old.workers.items
-  pub stamps : (t : ℕ) → stamps_at new.workers.items t ≡ stamps_at old.workers.items t
-  pub workers : vec_len new.workers ≡ vec_len old.workers
-  pub entries : new.entries.items ≡ old.entries.items

@@ -117,11 +117,6 @@ current script world thread =
     current_of script (λ t. stamps_of t world.entries) world.position thread
     (slice_index_or world.begun thread None)
 
--- the world in which the thread has this call under way, or is left as it is
-abbrev pub begun_with : World → ℕ → Option Begun → World
-begun_with world thread None = world
-begun_with world thread (Some b) = record world { begun = slice_set world.begun thread (Some b) }
-
 abbrev pub entry_of : World → ℕ → Begun → Reply → Entry
 entry_of world thread b reply =
     record {

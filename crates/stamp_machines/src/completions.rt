@@ -1,6 +1,7 @@
 //! The finished calls of a script, one after the other.
 ghost use Rattle.std.specs.Prelude.{◌≡◌, ◌<◌, [], IfOk, OnOk, OnErr, length, option_copied};
-ghost use Rattle.stamp_machines.specs.CompletionsFields.{IsAfter, StepMade, completing_at};
+ghost use Rattle.stamp_machines.specs.CompletionsFields.{IsAfter, completing_at};
+ghost use Rattle.stamp_machines.specs.inner.CompletionsFields.{StepMade};
 ghost use Rattle.stamp_machines.specs.Completing.{before_all, after_next, Stopped};
 
 use crate::running::RunError;

@@ -2,10 +2,12 @@
 //! It has seen the word that it is to change, or has seen none, and then has to load it.
 ghost use Rattle.std.specs.Prelude.{◌≡◌, ◌↔◌, ℕ, Some, IsTrue};
 ghost use Rattle.stamp_core.specs.Word.{IsAdmitted, word_at};
-ghost use Rattle.stamp_machines.specs.LocalAccess.{with_lock, lock_after};
+ghost use Rattle.stamp_machines.specs.LocalAccess.{with_lock};
+ghost use Rattle.stamp_machines.specs.inner.LocalAccess.{lock_after};
 ghost use Rattle.stamp_machines.specs.LockPhase.{phase_plan, phase_after};
 ghost use Rattle.stamp_machines.specs.LockCallSteps.{Plans, PhaseLeads};
-ghost use Rattle.stamp_machines.specs.IsLockPhase.{phase_turn, IsLockPhase, IsPhaseTurn};
+ghost use Rattle.stamp_machines.specs.IsLockPhase.{IsLockPhase};
+ghost use Rattle.stamp_machines.specs.inner.IsLockPhase.{phase_turn, IsPhaseTurn};
 
 use crate::access::Access;
 use stamp_core::{Call, Limits, LockDecision, Reply, decide_lock};

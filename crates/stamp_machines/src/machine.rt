@@ -9,9 +9,9 @@ ghost use Rattle.stamp_core.specs.Word.{IsAdmitted, word_at};
 ghost use Rattle.stamp_machines.specs.Machine.{after_in, IsFoundIn};
 ghost use Rattle.stamp_machines.specs.MachineState.{MachineState, OnLock, record_limits};
 ghost use Rattle.stamp_machines.specs.Access.{index_of, words_after, found_by};
-ghost use Rattle.stamp_machines.specs.MachineTurn.{turn_of};
-ghost use Rattle.stamp_machines.specs.MachineFields.{stage_at, turn_in, own_call_in, IsStage};
-ghost use Rattle.stamp_machines.specs.MachineFields.{IsOwnLockCall, IsNextStage};
+ghost use Rattle.stamp_machines.specs.inner.MachineTurn.{turn_of};
+ghost use Rattle.stamp_machines.specs.MachineFields.{stage_at, own_call_in, IsStage, IsOwnLockCall};
+ghost use Rattle.stamp_machines.specs.inner.MachineFields.{turn_in, IsNextStage};
 ghost use Rattle.stamp_machines.specs.RecordStage.{call_for};
 
 use crate::access::{Access, FIRST_WORD, LOCK, RECORD_LOCK, make};

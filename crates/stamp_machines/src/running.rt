@@ -86,8 +86,8 @@ impl<'a> Run<'a> {
     ghost use Rattle.stamp_machines.specs.Script.{IsSound};
     ghost use Rattle.stamp_machines.specs.RunView.{with_step, HasNoStepLeft};
     ghost use Rattle.stamp_machines.specs.Stepped.{AnswersStep};
-    ghost use Rattle.stamp_machines.specs.StepKind.{IsOfKind, outcome_of};
-    ghost use Rattle.stamp_machines.specs.Tally.{tally_of, IsTallied};
+    ghost use Rattle.stamp_machines.specs.inner.StepKind.{IsOfKind, outcome_of};
+    ghost use Rattle.stamp_machines.specs.inner.Tally.{tally_of, IsTallied};
 
     /// The run before its first step, which keeps `alloc`. It refuses as 6 `Memory` alone.
     pub fn start(alloc: Global, script: &'a Script) -> Result<Run<'a>, RunError>
@@ -199,7 +199,7 @@ impl<'a> Run<'a> {
 }
 
 impl<'a> Run<'a> {
-    ghost use Rattle.stamp_machines.specs.RecordedRun.{IsRecordedRun};
+    ghost use Rattle.stamp_machines.specs.inner.RecordedRun.{IsRecordedRun};
     ghost use Rattle.stamp_machines.specs.World.{finished_calls};
 
     /// The finished calls as a recorded history, with no report.

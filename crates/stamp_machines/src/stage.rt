@@ -11,9 +11,9 @@ ghost use Rattle.stamp_machines.specs.RecordStage.{claimed, call_for};
 ghost use Rattle.stamp_machines.specs.RecordStage as on_record;
 ghost use Rattle.stamp_machines.specs.MachineState.{first_stage, record_limits};
 ghost use Rattle.stamp_machines.specs.Machine.{record_turn};
-ghost use Rattle.stamp_machines.specs.MachineFields.{stage_at, going_at, turn_in, own_call_in};
-ghost use Rattle.stamp_machines.specs.MachineFields.{job_or_get, released_reply, IsStage, IsNextStage};
+ghost use Rattle.stamp_machines.specs.MachineFields.{stage_at, own_call_in, job_or_get, released_reply, IsStage};
 ghost use Rattle.stamp_machines.specs.MachineFields.{IsRecordCall, IsPutCall, IsOwnLockCall};
+ghost use Rattle.stamp_machines.specs.inner.MachineFields.{going_at, turn_in, IsNextStage};
 
 use crate::loaded_words::LoadedWords;
 use crate::shape::Shape;

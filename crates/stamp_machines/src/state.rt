@@ -48,7 +48,8 @@ pub(crate) enum StepKind {
 }
 
 ghost use Rattle.stamp_core.specs.declared.entry.Entry.{Entry};
-ghost use Rattle.stamp_machines.specs.StateFields.{stamps_at, begun_in, HasRoom};
+ghost use Rattle.stamp_machines.specs.StateFields.{stamps_at, begun_in};
+ghost use Rattle.stamp_machines.specs.inner.StateFields.{HasRoom};
 ghost use Rattle.stamp_machines.specs.World.{number_of, resolved, next_call, opening_word};
 
 fn number_of(workers: &[Worker], arg: Arg) -> u64
@@ -185,11 +186,13 @@ fn opening_words(alloc: Global, shape: &Shape) -> Result<Vec<u64>, AllocError>
 }
 
 impl RunState {
-    ghost use Rattle.stamp_machines.specs.World.{stamps_of, current, begun_with, opening_of};
-    ghost use Rattle.stamp_machines.specs.StateFields.{world_at, SameState};
-    ghost use Rattle.stamp_machines.specs.StateStep.{IsStep};
-    ghost use Rattle.stamp_machines.specs.StepKind.{outcome_of};
-    ghost use Rattle.stamp_machines.specs.Invariant.{Invariant};
+    ghost use Rattle.stamp_machines.specs.World.{stamps_of, current, opening_of};
+    ghost use Rattle.stamp_machines.specs.inner.World.{begun_with};
+    ghost use Rattle.stamp_machines.specs.StateFields.{world_at};
+    ghost use Rattle.stamp_machines.specs.inner.StateFields.{SameState};
+    ghost use Rattle.stamp_machines.specs.inner.StateStep.{IsStep};
+    ghost use Rattle.stamp_machines.specs.inner.StepKind.{outcome_of};
+    ghost use Rattle.stamp_machines.specs.inner.Invariant.{Invariant};
     ghost use Rattle.stamp_machines.specs.Script.{IsSound};
 
     /// The opening words, and threads that have begun nothing.

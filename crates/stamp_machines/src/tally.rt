@@ -1,8 +1,7 @@
 //! What the calls of a run cost, counted while they are made.
 ghost use Rattle.std.specs.Prelude.{◌≡◌, ◌≤◌, ◌<◌, ℕ, [], length, vec_len, slice_set, replicate};
 ghost use Rattle.std.specs.Prelude.{IfOk, OnOk, if◌then◌else◌};
-ghost use Rattle.stamp_machines.specs.Tally.{meter_after, meter_at, tally_of, tally_after};
-ghost use Rattle.stamp_machines.specs.Tally.{idle_meter};
+ghost use Rattle.stamp_machines.specs.inner.Tally.{meter_after, meter_at, tally_of, tally_after, idle_meter};
 
 use crate::running::Stepped;
 use stamp_core::Call;

@@ -13,7 +13,7 @@ use Rattle.std.proofs.lemmas.List.Elements.{All-push}
 use Rattle.std.proofs.lemmas.List.Quantifiers.{all_pairs_push}
 use Rattle.stamp_explain.proofs.Lists.{pairs_none}
 use Rattle.stamp_observed.specs.declared.spans.Span.{Span}
-use Rattle.stamp_observed.specs.Span.{Follows}
+use Rattle.stamp_observed.specs.inner.Span.{Follows}
 use Rattle.stamp_observed.proofs.Meeting.{IsRising}
 
 -- a call of these ends no later than this if it is of the thread

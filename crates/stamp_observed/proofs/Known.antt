@@ -14,7 +14,7 @@ use Rattle.stamp_history.specs.declared.read_error.ReadError.TheVariants.{NotHis
 use Rattle.stamp_history.proofs.KnownHistory.{ranged_ok, let_through, listed_known}
 use Rattle.stamp_observed.specs.ObservationValue as value
 use Rattle.stamp_observed.specs.ObservedFields.{suited, ends_in_range, is_in_range, entry_at, entries}
-use Rattle.stamp_observed.specs.Span.{EndsLow}
+use Rattle.stamp_observed.specs.inner.Span.{EndsLow}
 
 -- what one entry keeps to
 pub record IsKnown (w : ℕ) (e : Observation) : Type 0 where

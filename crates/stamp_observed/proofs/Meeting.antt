@@ -15,7 +15,7 @@ use Rattle.stamp_explain.specs.declared.observed.Returned.{Returned}
 use Rattle.stamp_explain.specs.Observed.{IsBefore, IsInterval, IsLow, DoNotOverlap}
 use Rattle.stamp_explain.proofs.Lists.{pairs_head, pairs_tail, pairs_cons, pairs_none}
 use Rattle.stamp_observed.specs.declared.spans.Span.{Span}
-use Rattle.stamp_observed.specs.Span.{free_after, span_of, spans_of, Follows, AreSorted}
+use Rattle.stamp_observed.specs.inner.Span.{free_after, span_of, spans_of, Follows, AreSorted}
 
 -- whether two spans of a thread meet
 abbrev pub meet : Span → Span → Bool

@@ -29,7 +29,7 @@ use Rattle.stamp_history.proofs.FieldsReadAgain.{small, fields_again}
 use Rattle.stamp_history.proofs.HistoryAgain.{call_found, reply_found}
 use Rattle.stamp_history.proofs.ReadAgain.{ReadsAgain, ItemsReadAgain, number_again, no_items_again, item_again}
 use Rattle.stamp_history.proofs.ReadAgain.{array_again, no_members_again, member_again, object_again, text_read}
-use Rattle.stamp_observed.specs.ProgramValue.{ReturnIsProgramValue, ObservationIsProgramValue}
+use Rattle.stamp_observed.specs.inner.ProgramValue.{ReturnIsProgramValue, ObservationIsProgramValue}
 use Rattle.stamp_observed.specs.ObservationValue as value
 use Rattle.stamp_observed.specs.ObservedFields.{top, ends_in_range, entry_at, entries}
 use Rattle.stamp_observed.specs.ObservedReading.{observed_in, observed_of}

@@ -11,7 +11,8 @@ use Rattle.stamp_explain.specs.declared.observed.Observation.{Observation}
 use Rattle.stamp_explain.specs.Observed.{ObservedHistory, IsInterval, DoNotOverlap, IsObserved}
 use Rattle.stamp_explain.proofs.Lists.{pairs_none}
 use Rattle.stamp_observed.specs.declared.judging.ObservedWhy.TheVariants.{Interval, Overlap}
-use Rattle.stamp_observed.specs.ObservedFault.{AreSeen, IsFirstFault, AreIntervalsTo, IsFirstOverlap}
+use Rattle.stamp_observed.specs.ObservedFault.{AreSeen, IsFirstFault}
+use Rattle.stamp_observed.specs.inner.ObservedFault.{AreIntervalsTo, IsFirstOverlap}
 use Rattle.stamp_observed.specs.Suited.{AreSuited}
 
 -- between these indices the first overlap is

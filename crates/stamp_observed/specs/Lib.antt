@@ -4,6 +4,5 @@ pub mod ObservedReading
 pub mod Suited
 pub mod ObservedFault
 pub mod ObservedLaws
-pub mod Span
 pub mod ObservedText
-pub mod ProgramValue
+pub mod inner

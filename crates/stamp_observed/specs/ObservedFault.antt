@@ -1,5 +1,5 @@
 -- The first call of an observed history that an observer can't have seen, and why.
-use Rattle.std.specs.Prelude.{ℕ, ◌≡◌, ◌+◌, ◌≤◌, ◌<◌, List, take, length, slice_get, Option, None, Some}
+use Rattle.std.specs.Prelude.{ℕ, ◌≡◌, List, take, slice_get, Option, None, Some}
 use Rattle.std.specs.List.{All, AllPairs}
 use Rattle.stamp_explain.specs.declared.observed.Observation.{Observation}
 use Rattle.stamp_explain.specs.Observed.{ObservedHistory, IsInterval, DoNotOverlap, IsObserved}
@@ -29,15 +29,3 @@ pub record IsFirstFault (h : ObservedHistory) (i : ℕ) (why : ObservedWhy) : Ty
 abbrev pub IsObservedJudgement : ObservedHistory → Option ObservedFault → Type 0
 IsObservedJudgement h None = IsObserved h
 IsObservedJudgement h (Some fault) = IsFirstFault h fault.entry fault.why
-
--- the calls before this index are intervals, and the one there, if there is one, is none
-pub record AreIntervalsTo (entries : List Observation) (index : ℕ) : Type 0 where
-  pub within : index ≤ length entries
-  pub before : All IsInterval (take index entries)
-  pub broken : (e : Observation) → slice_get entries index ≡ Some e → ¬ IsInterval e
-
--- of the calls before this index none overlap, and with the one there some do
-pub record IsFirstOverlap (entries : List Observation) (index : ℕ) : Type 0 where
-  pub within : index < length entries
-  pub before : AllPairs DoNotOverlap (take index entries)
-  pub broken : ¬ AllPairs DoNotOverlap (take (index + 1) entries)

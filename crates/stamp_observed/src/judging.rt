@@ -4,7 +4,8 @@ ghost use Rattle.std.specs.Prelude.{◌<◌, IfOk, MatchOption};
 ghost use Rattle.std.specs.List.{All, AllPairs};
 ghost use Rattle.stamp_explain.specs.Observed.{IsLow, IsInterval, DoNotOverlap};
 ghost use Rattle.stamp_observed.specs.Suited.{AreSuited};
-ghost use Rattle.stamp_observed.specs.ObservedFault.{IsObservedJudgement, AreIntervalsTo, IsFirstOverlap};
+ghost use Rattle.stamp_observed.specs.ObservedFault.{IsObservedJudgement};
+ghost use Rattle.stamp_observed.specs.inner.ObservedFault.{AreIntervalsTo, IsFirstOverlap};
 
 use crate::spans::none_overlap;
 use stamp_explain::{Observation, Observed, is_interval};

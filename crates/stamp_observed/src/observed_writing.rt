@@ -5,7 +5,7 @@ ghost use Rattle.std.specs.List.{All};
 ghost use Rattle.serde_json.specs.Data.{Members};
 ghost use Rattle.serde_json.specs.Written.{compact_text, members_text};
 ghost use Rattle.stamp_core.specs.Limits.{AreInRange};
-ghost use Rattle.stamp_observed.specs.ProgramValue.{ReturnIsProgramValue, ObservationIsProgramValue};
+ghost use Rattle.stamp_observed.specs.inner.ProgramValue.{ReturnIsProgramValue, ObservationIsProgramValue};
 ghost use Rattle.stamp_observed.specs.ObservedReading.{observed_of};
 ghost use Rattle.stamp_observed.specs.ObservedText.{with_return, observation_data, observations_data};
 ghost use Rattle.stamp_observed.specs.ObservedText.{observed_data, observed_text};

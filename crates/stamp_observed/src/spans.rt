@@ -3,7 +3,7 @@
 ghost use Rattle.std.specs.Prelude.{◌≡◌, ◌<◌, ◌↔◌, IsTrue, IfOk};
 ghost use Rattle.std.specs.List.{All, AllPairs};
 ghost use Rattle.stamp_explain.specs.Observed.{IsLow, IsInterval, DoNotOverlap};
-ghost use Rattle.stamp_observed.specs.Span.{span_of, spans_of, free_after, EndsLow, Follows, AreSorted};
+ghost use Rattle.stamp_observed.specs.inner.Span.{span_of, spans_of, free_after, EndsLow, Follows, AreSorted};
 
 use stamp_explain::{Observation, Returned};
 use std::alloc::{AllocError, Global};

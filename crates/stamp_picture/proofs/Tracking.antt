@@ -25,9 +25,11 @@ use Rattle.stamp_check.proofs.LockOrRecord.{record_keeps, has_record}
 use Rattle.stamp_picture.specs.declared.state.Mode.{Mode}
 use Rattle.stamp_picture.specs.declared.state.State.{State}
 use Rattle.stamp_picture.specs.declared.track.Track.{Track}
-use Rattle.stamp_picture.specs.Moment.{mode_in, mode_of, state_after}
-use Rattle.stamp_picture.specs.Due.{DueAfter, IsReplyDue, ContentAnswers}
-use Rattle.stamp_picture.specs.Track.{IsTrack, TracksOneMore, Shows, TellsDue}
+use Rattle.stamp_picture.specs.Moment.{mode_of, state_after}
+use Rattle.stamp_picture.specs.inner.Moment.{mode_in}
+use Rattle.stamp_picture.specs.Due.{DueAfter, IsReplyDue}
+use Rattle.stamp_picture.specs.inner.Due.{ContentAnswers}
+use Rattle.stamp_picture.specs.inner.Track.{IsTrack, TracksOneMore, Shows, TellsDue}
 
 -- one entry more, whose call leaves this word
 pub goes_on : (limits : Bounds) (e : Entry) (track : Track) (word : LockWord) (content : List ℕ) →

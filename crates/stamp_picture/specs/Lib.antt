@@ -2,7 +2,6 @@ pub mod Window
 pub mod Bars
 pub mod Moment
 pub mod Due
-pub mod Track
 pub mod Picture
 pub mod PictureLaws
 pub mod Labels
@@ -12,3 +11,4 @@ pub mod Sheet
 pub mod Rows
 pub mod Svg
 pub mod SvgLaws
+pub mod inner

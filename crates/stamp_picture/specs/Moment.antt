@@ -1,9 +1,8 @@
 -- What the lock was, and what the record held, after entries: what the core counts in the events of
 -- their calls, and the content that these leave.
-use Rattle.std.specs.Prelude.{ℕ, ◌==◌, ◌≡◌, List, [], ◌∷◌, ◌++◌, Option, Some, None, if◌then◌else◌}
+use Rattle.std.specs.Prelude.{ℕ, ◌==◌, List, [], ◌∷◌, ◌++◌, Option, Some, None, if◌then◌else◌}
 use Rattle.stamp_core.specs.LockEvent.{Counts, counts}
 use Rattle.stamp_core.specs.Limits.{Bounds}
-use Rattle.stamp_core.specs.Word.{LockWord, HoldsForEvents}
 use Rattle.stamp_core.specs.History.{History, events_of, content_after}
 use Rattle.stamp_core.specs.Linearized.{history_of}
 use Rattle.stamp_core.specs.declared.entry.Entry.{Entry}
@@ -17,10 +16,6 @@ use Rattle.stamp_picture.specs.Window.{contains, precedes}
 -- a writer, nobody, or so many readers
 abbrev pub mode_of : Counts → Mode
 mode_of c = if c.writers == 1 then Writing else if c.readers == 0 then Free else Reading c.readers
-
--- the mode after all events that the word represents
-abbrev pub mode_in : Bounds → LockWord → Mode → Type 0
-mode_in limits word mode = HoldsForEvents word (λ events. mode ≡ mode_of (counts events))
 
 -- nothing where there is no record
 abbrev pub content_if_any : ℕ → History → Option (List ℕ)

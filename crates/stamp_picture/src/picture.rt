@@ -3,7 +3,7 @@ ghost use Rattle.std.specs.Prelude.{◌≡◌, ◌≤◌, ◌<◌, ◌+◌, [], 
 ghost use Rattle.stamp_core.specs.Record.{IsRecorded};
 ghost use Rattle.stamp_picture.specs.Bars.{bars_of};
 ghost use Rattle.stamp_picture.specs.Moment.{moments_of, opening_state};
-ghost use Rattle.stamp_picture.specs.Track.{IsTrack};
+ghost use Rattle.stamp_picture.specs.inner.Track.{IsTrack};
 ghost use Rattle.stamp_picture.specs.Window.{meets};
 ghost use Rattle.stamp_picture.specs.Picture.{IsJudged, IsPicture, IsRefused, right_in, drawn_in, most_bars};
 

@@ -4,9 +4,11 @@ ghost use Rattle.stamp_core.specs.Content.{content_next, RecordReplies};
 ghost use Rattle.stamp_core.specs.Call.{is_lock_call, call_suits};
 ghost use Rattle.stamp_core.specs.Word.{IsAdmitted};
 ghost use Rattle.stamp_core.specs.declared.entry.Entry.{Entry};
-ghost use Rattle.stamp_picture.specs.Moment.{state_after, mode_in};
-ghost use Rattle.stamp_picture.specs.Due.{IsReplyDue, ContentAnswers};
-ghost use Rattle.stamp_picture.specs.Track.{IsTrack, TracksOneMore, Shows, TellsDue};
+ghost use Rattle.stamp_picture.specs.Moment.{state_after};
+ghost use Rattle.stamp_picture.specs.inner.Moment.{mode_in};
+ghost use Rattle.stamp_picture.specs.Due.{IsReplyDue};
+ghost use Rattle.stamp_picture.specs.inner.Due.{ContentAnswers};
+ghost use Rattle.stamp_picture.specs.inner.Track.{IsTrack, TracksOneMore, Shows, TellsDue};
 
 use crate::state::{Mode, State};
 use stamp_check::first_content;

@@ -9,7 +9,7 @@ ghost use Rattle.stamp_core.specs.Transition.{transition};
 ghost use Rattle.stamp_core.specs.History.{appended_by, events_of, content_after};
 ghost use Rattle.stamp_core.specs.Record.{EntrySuits};
 ghost use Rattle.stamp_core.specs.Linearized.{history_of, KeepsThreadOrder, RisesAbove, FollowsItsThread, IsAnswered, HasPointInside, MayFollow};
-ghost use Rattle.stamp_check.specs.LockReplies.{LockReplies};
+ghost use Rattle.stamp_check.specs.inner.LockReplies.{LockReplies};
 ghost use Rattle.stamp_check.specs.FirstFault.{Breaks};
 ghost use Rattle.stamp_check.specs.Judgement.{IsJudgement};
 

@@ -12,12 +12,13 @@ use Rattle.stamp_core.specs.Decision.{Answers, Changes, HasNone, Moves}
 use Rattle.stamp_core.specs.declared.call.Call.{Call}
 use Rattle.stamp_core.specs.declared.reply.Reply.{Reply}
 use Rattle.stamp_core.proofs.Deciding.{only_locking_waits}
-use Rattle.stamp_threads.specs.PassView.{knowing, adding, finding}
+use Rattle.stamp_threads.specs.inner.PassView.{knowing, adding, finding}
 use Rattle.stamp_threads.specs.LockLog.{LockLog, events_after}
 use Rattle.stamp_threads.specs.LockPass.{LockPassView, IsConsistentWith, LeavesWord}
-use Rattle.stamp_threads.specs.LockRule.{Loaded, Won, Exchanged, making, reading, answering}
-use Rattle.stamp_threads.specs.GoesAsMachine.{WentOn}
-use Rattle.stamp_threads.specs.Made.{Made, MayWait}
+use Rattle.stamp_threads.specs.inner.LockRule.{Loaded, Won, Exchanged, making, reading, answering}
+use Rattle.stamp_threads.specs.inner.GoesAsMachine.{WentOn}
+use Rattle.stamp_threads.specs.Made.{Made}
+use Rattle.stamp_threads.specs.inner.Made.{MayWait}
 use Rattle.stamp_threads.proofs.SamePass.{no_call_by}
 
 module _ (limits : Bounds) (call : Call) (v : LockPassView) (found : ℕ) (w : LockPassView) where

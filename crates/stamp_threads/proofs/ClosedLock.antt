@@ -6,8 +6,9 @@ use Rattle.atomic_table.specs.Table.{Final, Seen}
 use Rattle.stamp_machines.specs.LockNumber.{RepresentsAt}
 use Rattle.stamp_threads.specs.Seats.{alone}
 use Rattle.stamp_threads.specs.LockLog.{events_after}
-use Rattle.stamp_threads.specs.LockPass.{LockPassView, Seated, LockView}
-use Rattle.stamp_threads.specs.LockRule.{IsKept}
+use Rattle.stamp_threads.specs.LockPass.{LockPassView, LockView}
+use Rattle.stamp_threads.specs.inner.LockPass.{Seated}
+use Rattle.stamp_threads.specs.inner.LockRule.{IsKept}
 use Rattle.stamp_threads.specs.Closes.{Closes}
 
 word_there : (words : List ℕ) (n : ℕ) → get_elem? words 0 ≡ some n → get_or words 0 0 ≡ n

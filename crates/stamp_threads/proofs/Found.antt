@@ -6,10 +6,11 @@ use Rattle.stamp_core.specs.LockEvent.{LockEvent}
 use Rattle.stamp_core.specs.Transition.{Transition}
 use Rattle.stamp_core.specs.declared.call.Call.{Call}
 use Rattle.stamp_core.specs.declared.reply.Reply.{Reply}
-use Rattle.stamp_threads.specs.PassView.{HasFound, finding}
+use Rattle.stamp_threads.specs.PassView.{HasFound}
+use Rattle.stamp_threads.specs.inner.PassView.{finding}
 use Rattle.stamp_threads.specs.LockLog.{LockLog, transition_after}
 use Rattle.stamp_threads.specs.LockPass.{LockPassView}
-use Rattle.stamp_threads.specs.LockRule.{Loaded, Won, Exchanged, making, answering, reading}
+use Rattle.stamp_threads.specs.inner.LockRule.{Loaded, Won, Exchanged, making, answering, reading}
 
 found-making : (o : Option Transition) (call : Call) (v : LockPassView) (log : LockLog) →
     (making o call v log).found ≡ v.found

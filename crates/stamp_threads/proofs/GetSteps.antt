@@ -19,15 +19,17 @@ use Rattle.stamp_threads.specs.declared.record_view.RecordEvent.{RecordEvent}
 use Rattle.stamp_threads.specs.declared.record_view.RecordEvent.TheVariants.{Called}
 use Rattle.stamp_threads.specs.declared.record_view.RecordPhase.{RecordPhase}
 use Rattle.stamp_threads.specs.declared.record_view.RecordPhase.TheVariants.{Idle, Loading}
-use Rattle.stamp_threads.specs.PassView.{entry, knowing, finding}
+use Rattle.stamp_threads.specs.PassView.{entry}
+use Rattle.stamp_threads.specs.inner.PassView.{knowing, finding}
 use Rattle.stamp_threads.specs.Seats.{alone}
 use Rattle.stamp_threads.specs.RecordWord.{word_with}
 use Rattle.stamp_threads.specs.RecordLog.{puts, puts_in, content_in, is_locked, is_call}
-use Rattle.stamp_threads.specs.RecordPass.{RecordPassView, Seated, IsConsistentWith, marks_ahead, first_of}
-use Rattle.stamp_threads.specs.RecordRule.{KnowsLoading, Knows, IsWriting, IsKept, calling}
-use Rattle.stamp_threads.specs.RecordRule.{starting_to_load, stopping, loading_one, loaded_one}
-use Rattle.stamp_threads.specs.RecordRule.{Confirmed, Saw, Overtaken, LoadedForGet, word_to_confirm, LoadForGetTells}
-use Rattle.stamp_threads.specs.RecordRule.{LoadWordTells, ConfirmTells, SeeTells, DenyTells}
+use Rattle.stamp_threads.specs.RecordPass.{RecordPassView, IsConsistentWith, marks_ahead, first_of}
+use Rattle.stamp_threads.specs.inner.RecordPass.{Seated}
+use Rattle.stamp_threads.specs.inner.RecordRule.{KnowsLoading, Knows, IsWriting, IsKept, calling, starting_to_load}
+use Rattle.stamp_threads.specs.inner.RecordRule.{stopping, loading_one, loaded_one, Confirmed, Saw, Overtaken}
+use Rattle.stamp_threads.specs.inner.RecordRule.{LoadedForGet, word_to_confirm, LoadForGetTells, LoadWordTells}
+use Rattle.stamp_threads.specs.inner.RecordRule.{ConfirmTells, SeeTells, DenyTells}
 use Rattle.stamp_threads.proofs.Beginnings.{begins_all}
 use Rattle.stamp_threads.proofs.MadeBy.{grows_one, made_by-same}
 use Rattle.stamp_threads.proofs.RecordWords.{free_of, same_word}

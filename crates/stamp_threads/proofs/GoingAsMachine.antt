@@ -23,10 +23,11 @@ use Rattle.stamp_machines.specs.declared.machine.Turn.{Turn}
 use Rattle.stamp_machines.specs.declared.machine.Turn.TheVariants.{Going, Done}
 use Rattle.stamp_machines.proofs.TwoKindsOfCall.{lock_none}
 use Rattle.stamp_threads.specs.LockPass.{LockPassView}
-use Rattle.stamp_threads.specs.LockRule.{Loaded, Won}
+use Rattle.stamp_threads.specs.inner.LockRule.{Loaded, Won}
 use Rattle.stamp_threads.specs.PassView.{entry, HasFound}
 use Rattle.stamp_threads.specs.Made.{Made}
-use Rattle.stamp_threads.specs.GoesAsMachine.{GoesAsMachine, IsToDecide, TriedInVain, WentOn}
+use Rattle.stamp_threads.specs.GoesAsMachine.{GoesAsMachine}
+use Rattle.stamp_threads.specs.inner.GoesAsMachine.{IsToDecide, TriedInVain, WentOn}
 use Rattle.stamp_threads.proofs.Beginnings.{begins_all, begins_further}
 use Rattle.stamp_threads.proofs.CallSteps.{by_answer, by_change, by_change_made, by_wait}
 use Rattle.stamp_threads.proofs.Found.{found_by_load, found_by_win}

@@ -7,7 +7,7 @@ use Rattle.stamp_threads.specs.declared.pass_view.LogEntry.{LogEntry}
 use Rattle.stamp_threads.specs.declared.pass_view.PassView.{PassView}
 use Rattle.stamp_threads.specs.PassName.{HasGiven, HasGivenAll, IsRooted, AreRooted}
 use Rattle.stamp_threads.specs.PassView.{IsPart, entering, made_by}
-use Rattle.stamp_threads.specs.Seats.{StandsAt, AreSeated}
+use Rattle.stamp_threads.specs.inner.Seats.{StandsAt, AreSeated}
 use Rattle.stamp_threads.proofs.Beginnings.{begins_all}
 use Rattle.stamp_threads.proofs.ListElements.{at_end, only_one}
 use Rattle.stamp_threads.proofs.GivenNames.{regiven, not_longer}

@@ -6,7 +6,7 @@ use Rattle.stamp_core.specs.Word.{LockWord, Represents}
 use Rattle.stamp_machines.specs.LockNumber.{RepresentsAt}
 use Rattle.stamp_threads.specs.PassView.{IsPart, every}
 use Rattle.stamp_threads.specs.LockPass.{first_pass}
-use Rattle.stamp_threads.specs.LockRule.{IsKept}
+use Rattle.stamp_threads.specs.inner.LockRule.{IsKept}
 use Rattle.stamp_threads.proofs.Beginnings.{begins_all}
 use Rattle.stamp_threads.proofs.NewComers.{stands_alone}
 

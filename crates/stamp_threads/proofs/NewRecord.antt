@@ -15,7 +15,8 @@ use Rattle.stamp_threads.specs.RecordWord.{word_with}
 use Rattle.stamp_threads.specs.RecordLog.{RecordLog, IsLegalLog}
 use Rattle.stamp_threads.specs.RecordPass.{RecordPassView, IsConsistentWith, first_pass}
 use Rattle.stamp_threads.proofs.RecordLogs.{legal_marked, legal_longer}
-use Rattle.stamp_threads.specs.RecordRule.{KnowsPart, IsKept, opening_log, opening_pass}
+use Rattle.stamp_threads.specs.RecordRule.{opening_log, opening_pass}
+use Rattle.stamp_threads.specs.inner.RecordRule.{KnowsPart, IsKept}
 use Rattle.stamp_threads.proofs.Beginnings.{begins_all}
 use Rattle.stamp_threads.proofs.GivenNames.{not_longer}
 use Rattle.stamp_threads.proofs.NewComers.{stands_alone}

@@ -5,9 +5,11 @@ use Rattle.std.proofs.Common.{Bool, true, false, true≢false, ◌∙◌, subst,
 use Rattle.atomic_table.specs.Table.{State, Splits, Joins, Enters}
 use Rattle.stamp_core.specs.Limits.{Bounds}
 use Rattle.stamp_threads.specs.PassView.{IsPart, every, after_split, split_off, entering}
-use Rattle.stamp_threads.specs.Seats.{AreSeated, alone, both}
-use Rattle.stamp_threads.specs.LockPass.{LockPassView, Seated, IsConsistentWith, HasEntered, first_of, second_of}
-use Rattle.stamp_threads.specs.LockRule.{IsKept}
+use Rattle.stamp_threads.specs.Seats.{alone}
+use Rattle.stamp_threads.specs.inner.Seats.{AreSeated, both}
+use Rattle.stamp_threads.specs.LockPass.{LockPassView, IsConsistentWith, HasEntered, first_of}
+use Rattle.stamp_threads.specs.inner.LockPass.{Seated, second_of}
+use Rattle.stamp_threads.specs.inner.LockRule.{IsKept}
 use Rattle.stamp_threads.proofs.GivenNames.{child_none, child_unused_all, given_more_all}
 use Rattle.stamp_threads.proofs.GivenNames.{part-after_split, part-split_off}
 use Rattle.stamp_threads.proofs.SeatMoves.{gives, together, parted}

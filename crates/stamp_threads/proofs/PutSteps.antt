@@ -19,15 +19,18 @@ use Rattle.stamp_threads.specs.declared.record_view.RecordEvent.{RecordEvent}
 use Rattle.stamp_threads.specs.declared.record_view.RecordEvent.TheVariants.{Mark, Called}
 use Rattle.stamp_threads.specs.declared.record_view.RecordPhase.{RecordPhase}
 use Rattle.stamp_threads.specs.declared.record_view.RecordPhase.TheVariants.{Idle, Writing}
-use Rattle.stamp_threads.specs.PassView.{entry, knowing, finding}
-use Rattle.stamp_threads.specs.Seats.{StandsAt, alone}
+use Rattle.stamp_threads.specs.PassView.{entry}
+use Rattle.stamp_threads.specs.inner.PassView.{knowing, finding}
+use Rattle.stamp_threads.specs.Seats.{alone}
+use Rattle.stamp_threads.specs.inner.Seats.{StandsAt}
 use Rattle.stamp_threads.specs.RecordWord.{word_with, writer_unit}
 use Rattle.stamp_threads.specs.RecordLog.{puts, puts_in, content_in, is_locked, is_call}
-use Rattle.stamp_threads.specs.RecordPass.{RecordPassView, Seated, IsConsistentWith, marks_ahead, first_of}
-use Rattle.stamp_threads.specs.RecordRule.{KnowsWriting, Knows, IsWriting, IsKept}
-use Rattle.stamp_threads.specs.RecordRule.{acquiring, calling, LoadedForPut, Acquired, Released}
-use Rattle.stamp_threads.specs.RecordRule.{storing_one, stored_one, LoadForPutTells, AcquireTells}
-use Rattle.stamp_threads.specs.RecordRule.{StoreWordTells, ReleaseTells, ReleaseOverTells}
+use Rattle.stamp_threads.specs.RecordPass.{RecordPassView, IsConsistentWith, marks_ahead, first_of}
+use Rattle.stamp_threads.specs.inner.RecordPass.{Seated}
+use Rattle.stamp_threads.specs.inner.RecordRule.{KnowsWriting, Knows, IsWriting, IsKept, acquiring, calling}
+use Rattle.stamp_threads.specs.inner.RecordRule.{LoadedForPut, Acquired, Released, storing_one, stored_one}
+use Rattle.stamp_threads.specs.inner.RecordRule.{LoadForPutTells, AcquireTells, StoreWordTells, ReleaseTells}
+use Rattle.stamp_threads.specs.inner.RecordRule.{ReleaseOverTells}
 use Rattle.stamp_threads.proofs.Beginnings.{begins_all}
 use Rattle.stamp_threads.proofs.MadeBy.{grows_none, grows_one, made_by-same}
 use Rattle.stamp_threads.proofs.RecordWords.{free_of, same_word, held_is, released_is}

@@ -11,13 +11,15 @@ use Rattle.stamp_threads.specs.declared.record_view.RecordShape.{RecordShape}
 use Rattle.stamp_threads.specs.declared.record_view.RecordPhase.{RecordPhase}
 use Rattle.stamp_threads.specs.declared.record_view.RecordPhase.TheVariants.{Idle}
 use Rattle.stamp_threads.specs.PassName.{HasGivenAll}
-use Rattle.stamp_threads.specs.PassView.{knowing, after_split, split_off, entering}
-use Rattle.stamp_threads.specs.Seats.{StandsAt, alone, both}
+use Rattle.stamp_threads.specs.PassView.{after_split, split_off, entering}
+use Rattle.stamp_threads.specs.inner.PassView.{knowing}
+use Rattle.stamp_threads.specs.Seats.{alone}
+use Rattle.stamp_threads.specs.inner.Seats.{StandsAt, both}
 use Rattle.stamp_threads.specs.RecordLog.{RecordLog, is_call, is_mark, marks_of}
-use Rattle.stamp_threads.specs.RecordPass.{RecordPassView, Seated, IsConsistentWith, IsConsistentIn}
-use Rattle.stamp_threads.specs.RecordPass.{marks_ahead, HasEntered, first_of, second_of}
-use Rattle.stamp_threads.specs.RecordRule.{Knows, KnowsPart, IsWriting, HasWriter, IsKept}
-use Rattle.stamp_threads.specs.RecordRule.{MeetTells}
+use Rattle.stamp_threads.specs.RecordPass.{RecordPassView, IsConsistentWith, IsConsistentIn}
+use Rattle.stamp_threads.specs.RecordPass.{marks_ahead, HasEntered, first_of}
+use Rattle.stamp_threads.specs.inner.RecordPass.{Seated, second_of}
+use Rattle.stamp_threads.specs.inner.RecordRule.{Knows, KnowsPart, IsWriting, HasWriter, IsKept, MeetTells}
 use Rattle.stamp_threads.proofs.Beginnings.{begins_all}
 use Rattle.stamp_threads.proofs.ListElements.{only_one, two_of}
 use Rattle.stamp_threads.proofs.MadeBy.{grows_none}

@@ -11,14 +11,18 @@ use Rattle.stamp_core.specs.Limits.{AreInRange}
 use Rattle.stamp_threads.specs.declared.record_view.RecordShape.{RecordShape}
 use Rattle.stamp_threads.specs.declared.record_view.RecordPhase.TheVariants.{Idle, Loading, Writing}
 use Rattle.stamp_threads.specs.declared.record_view.RecordEvent.TheVariants.{Mark, Called}
-use Rattle.stamp_threads.specs.PassView.{entry, knowing, finding, HasFound}
-use Rattle.stamp_threads.specs.Seats.{alone, both}
-use Rattle.stamp_threads.specs.RecordWord.{version_unit, writer_unit, word_with}
+use Rattle.stamp_threads.specs.PassView.{entry, HasFound}
+use Rattle.stamp_threads.specs.inner.PassView.{knowing, finding}
+use Rattle.stamp_threads.specs.Seats.{alone}
+use Rattle.stamp_threads.specs.inner.Seats.{both}
+use Rattle.stamp_threads.specs.RecordWord.{writer_unit, word_with}
+use Rattle.stamp_threads.specs.inner.RecordWord.{version_unit}
 use Rattle.stamp_threads.specs.RecordLog.{RecordLog, put_in, puts, is_locked, content_in}
-use Rattle.stamp_threads.specs.RecordPass.{RecordPassView, Seated, LeavesWord, first_of, second_of}
-use Rattle.stamp_threads.specs.RecordRule.{with_phase, starting_to_load, acquiring, LoadedForPut}
-use Rattle.stamp_threads.specs.RecordRule.{Acquired, LoadedForGet, Released}
-use Rattle.stamp_threads.specs.RecordRule.{Confirmed, Saw, Overtaken, word_to_confirm, Met}
+use Rattle.stamp_threads.specs.RecordPass.{RecordPassView, LeavesWord, first_of}
+use Rattle.stamp_threads.specs.inner.RecordPass.{Seated, second_of}
+use Rattle.stamp_threads.specs.inner.RecordRule.{with_phase, starting_to_load, acquiring, LoadedForPut, Acquired}
+use Rattle.stamp_threads.specs.inner.RecordRule.{LoadedForGet, Released, Confirmed, Saw, Overtaken, word_to_confirm}
+use Rattle.stamp_threads.specs.inner.RecordRule.{Met}
 use Rattle.stamp_threads.specs.RecordCall.{MadeOnRecord, KnowsWord, WasBusy, WasLost, WasSpent}
 use Rattle.stamp_threads.specs.RecordCall.{words_found, last_found}
 use Rattle.stamp_threads.specs.RecordCall.{RecordPassesMet, HasSeen, StandsAtWord, NoneLeft, WasOvertaken}

@@ -12,14 +12,15 @@ use Rattle.stamp_threads.specs.declared.record_view.RecordShape.{RecordShape}
 use Rattle.stamp_threads.specs.declared.record_view.RecordPhase.{RecordPhase}
 use Rattle.stamp_threads.specs.declared.record_view.RecordPhase.TheVariants.{Idle, Writing, Loading}
 use Rattle.stamp_threads.specs.PassName.{HasGivenAll}
-use Rattle.stamp_threads.specs.PassView.{made_by, knowing, finding}
-use Rattle.stamp_threads.specs.Seats.{StandsAt, AreSeated, alone}
+use Rattle.stamp_threads.specs.PassView.{made_by}
+use Rattle.stamp_threads.specs.inner.PassView.{knowing, finding}
+use Rattle.stamp_threads.specs.Seats.{alone}
+use Rattle.stamp_threads.specs.inner.Seats.{StandsAt, AreSeated}
 use Rattle.stamp_threads.specs.RecordLog.{RecordLog, IsLegalLog, puts, puts_in, is_locked}
 use Rattle.stamp_threads.specs.RecordLog.{marker_in, content_in, is_call, is_mark, marks_of}
-use Rattle.stamp_threads.specs.RecordPass.{RecordPassView, Seated, IsConsistentWith}
-use Rattle.stamp_threads.specs.RecordPass.{LeavesWord, marks_ahead, first_of}
-use Rattle.stamp_threads.specs.RecordRule.{Knows, KnowsPart, IsWriting}
-use Rattle.stamp_threads.specs.RecordRule.{HasWriter, IsKept, CameToKnow}
+use Rattle.stamp_threads.specs.RecordPass.{RecordPassView, IsConsistentWith, LeavesWord, marks_ahead, first_of}
+use Rattle.stamp_threads.specs.inner.RecordPass.{Seated}
+use Rattle.stamp_threads.specs.inner.RecordRule.{Knows, KnowsPart, IsWriting, HasWriter, IsKept, CameToKnow}
 use Rattle.stamp_threads.proofs.Beginnings.{begins_all}
 use Rattle.stamp_threads.proofs.ListElements.{in_range, only_one}
 use Rattle.stamp_threads.proofs.MadeBy.{Grows, grows_none}

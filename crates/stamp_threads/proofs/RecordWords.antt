@@ -5,7 +5,8 @@ use Rattle.stamp_core.specs.Layout.{units_of}
 use Rattle.stamp_core.specs.Limits.{Bounds, AreInRange}
 use Rattle.stamp_core.specs.declared.layout.Layout.{Layout}
 use Rattle.stamp_core.specs.declared.layout.Layout.TheVariants.{One, Two}
-use Rattle.stamp_threads.specs.RecordWord.{version_unit, writer_unit, word_with}
+use Rattle.stamp_threads.specs.RecordWord.{writer_unit, word_with}
+use Rattle.stamp_threads.specs.inner.RecordWord.{version_unit}
 
 -- the word of a record that is not locked tells so, and its puts
 pub free_of : (l : Layout) (b : Bool) (p n : ℕ) → word_with l n false ≡ word_with l p b →

@@ -20,14 +20,15 @@ use Rattle.stamp_core.specs.declared.call.Call.{Call}
 use Rattle.stamp_core.specs.declared.reply.Reply.{Reply}
 use Rattle.stamp_machines.specs.LockNumber.{RepresentsAt}
 use Rattle.stamp_threads.specs.PassName.{HasGivenAll}
-use Rattle.stamp_threads.specs.PassView.{entry, every, made_by, IsPart, knowing, adding}
-use Rattle.stamp_threads.specs.PassView.{finding}
-use Rattle.stamp_threads.specs.Seats.{alone, both}
+use Rattle.stamp_threads.specs.PassView.{entry, every, made_by, IsPart}
+use Rattle.stamp_threads.specs.inner.PassView.{knowing, adding, finding}
+use Rattle.stamp_threads.specs.Seats.{alone}
+use Rattle.stamp_threads.specs.inner.Seats.{both}
 use Rattle.stamp_threads.specs.LockLog.{LockLog, events_after, transition_after, IsLegalLog}
-use Rattle.stamp_threads.specs.LockPass.{LockPassView, Seated, IsConsistentWith, LeavesWord, first_of}
-use Rattle.stamp_threads.specs.LockPass.{second_of}
-use Rattle.stamp_threads.specs.LockRule.{IsKept, making, after_win, answering, reading, after_load}
-use Rattle.stamp_threads.specs.LockRule.{Loaded, Won, LoadTells, ExchangeTells, MeetTells}
+use Rattle.stamp_threads.specs.LockPass.{LockPassView, IsConsistentWith, LeavesWord, first_of}
+use Rattle.stamp_threads.specs.inner.LockPass.{Seated, second_of}
+use Rattle.stamp_threads.specs.inner.LockRule.{IsKept, making, after_win, answering, reading, after_load, Loaded, Won}
+use Rattle.stamp_threads.specs.inner.LockRule.{LoadTells, ExchangeTells, MeetTells}
 use Rattle.stamp_threads.proofs.Beginnings.{begins_all}
 use Rattle.stamp_threads.proofs.ListElements.{only_one, two_of}
 use Rattle.stamp_threads.proofs.MadeBy.{Grows, grows_none, grows_one, made_by-same}

@@ -9,7 +9,7 @@ use Rattle.stamp_threads.specs.declared.pass_view.PassView.{PassView}
 use Rattle.stamp_threads.specs.declared.pass_view.LogEntry.{LogEntry}
 use Rattle.stamp_threads.specs.PassName.{HasGiven, IsRooted}
 use Rattle.stamp_threads.specs.PassView.{after_split, split_off}
-use Rattle.stamp_threads.specs.Seats.{StandsAt, AreSeated}
+use Rattle.stamp_threads.specs.inner.Seats.{StandsAt, AreSeated}
 use Rattle.stamp_threads.proofs.ListElements.{at_end, before_end, only_one, two_of}
 use Rattle.stamp_threads.proofs.GivenNames.{regiven, child_unused, given_more, not_longer}
 use Rattle.stamp_threads.proofs.GivenNames.{last_or_before, child_rooted}

@@ -7,7 +7,7 @@ use Rattle.stamp_threads.specs.declared.pass_view.LogEntry.{LogEntry}
 use Rattle.stamp_threads.specs.declared.pass_view.PassView.{PassView}
 use Rattle.stamp_threads.specs.PassName.{HasGivenAll, IsRooted}
 use Rattle.stamp_threads.specs.PassView.{IsPart, IsSamePass}
-use Rattle.stamp_threads.specs.Seats.{StandsAt, AreSeated}
+use Rattle.stamp_threads.specs.inner.Seats.{StandsAt, AreSeated}
 use Rattle.stamp_threads.proofs.Beginnings.{begins_further}
 use Rattle.stamp_threads.proofs.ListElements.{only_one, two_of}
 use Rattle.stamp_threads.proofs.MadeBy.{Grows}

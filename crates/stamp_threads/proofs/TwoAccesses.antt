@@ -8,11 +8,11 @@ use Rattle.stamp_core.specs.declared.reply.Reply.{Reply}
 use Rattle.stamp_machines.specs.LockNumber.{RepresentsAt}
 use Rattle.stamp_threads.specs.LockLog.{LockLog, events_after, Appends}
 use Rattle.stamp_threads.specs.LockPass.{LockPassView}
-use Rattle.stamp_threads.specs.LockRule.{Loaded, Won}
+use Rattle.stamp_threads.specs.inner.LockRule.{Loaded, Won}
 use Rattle.stamp_threads.specs.PassView.{entry, HasFound}
 use Rattle.stamp_threads.specs.Made.{Made, AccessesTwice}
 use Rattle.stamp_threads.specs.LostExchange.{LostExchange}
-use Rattle.stamp_threads.specs.GoesAsMachine.{WentOn}
+use Rattle.stamp_threads.specs.inner.GoesAsMachine.{WentOn}
 use Rattle.stamp_threads.proofs.Beginnings.{begins_further}
 use Rattle.stamp_threads.proofs.CallSteps.{by_answer, by_change, by_change_made}
 use Rattle.stamp_threads.proofs.Found.{found_by_load, found_by_win, found_twice}

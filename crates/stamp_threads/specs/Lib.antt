@@ -8,7 +8,6 @@ pub mod MayReply
 pub mod LostExchange
 pub mod LockPassesMet
 pub mod Closes
-pub mod LockRule
 pub mod GoesAsMachine
 pub mod RecordWord
 pub mod RecordLog
@@ -18,3 +17,4 @@ pub mod RecordRule
 pub mod Book
 pub mod OneHistory
 pub mod Laws
+pub mod inner

@@ -2,7 +2,6 @@
 use Rattle.std.specs.Prelude.{◌≡◌, ℕ, Bool, List}
 use mathlib.Core.List.{IsPrefix}
 use Rattle.atomic_table.specs.Seated.{TableId}
-use Rattle.atomic_table.specs.Table.{Me}
 use Rattle.stamp_core.specs.Limits.{Bounds}
 use Rattle.stamp_core.specs.declared.call.Call.{Call}
 use Rattle.stamp_core.specs.declared.reply.Reply.{Reply}
@@ -33,20 +32,6 @@ first_pass = passes.first_pass tt
 
 abbrev pub first_of : List LockPassView → LockPassView
 first_of vs = seats.first_of tt vs
-
-abbrev pub second_of : List LockPassView → LockPassView
-second_of vs = seats.second_of tt vs
-
--- the view of a seat, and the slots that it holds: none here
-abbrev pub Seated : Type 0
-Seated = Me (Unit {0}) (List LockPassView)
-
--- one pass stands at a seat of a lock's table, which has one word; and two, which meet there
-abbrev pub IsAtSeat : TableId → TableId → Seated → Type 0
-IsAtSeat table seat me = seats.IsAtSeat tt table 1 seat me
-
-abbrev pub AreAtSeat : TableId → TableId → Seated → Type 0
-AreAtSeat table seat me = seats.AreAtSeat tt table 1 seat me
 
 -- what the pass knows is legal, its entries there are its own calls, and no entry has a name that it
 -- may still give

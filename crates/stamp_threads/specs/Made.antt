@@ -16,10 +16,6 @@ try_form WriteLock = TryWrite
 try_form ReadLock = TryRead
 try_form call = call
 
--- the call may wait
-abbrev pub MayWait : Call → Type 0
-MayWait call = (call ≡ WriteLock) ⊎ (call ≡ ReadLock)
-
 -- the history goes on from what the pass v knew, and leaves the word that the last access found;
 -- then comes this call with its reply, which is one more of the pass's own. w is the pass after it
 pub record Made (limits : Bounds) (call : Call) (reply : Reply) (v w : LockPassView) : Type 0 where

@@ -29,19 +29,6 @@ module _ {E P : Type 0} where
     pub own : made_by is_call v.name log ≡ v.own
     pub given : HasGivenAll v.name v.splits log
 
-  -- the pass that knows the whole history
-  abbrev pub knowing : PassView E P → List (LogEntry E) → PassView E P
-  knowing v log = record v { known = log }
-
-  -- the pass after it added an entry of its own to the whole history
-  abbrev pub adding : PassView E P → List (LogEntry E) → E → PassView E P
-  adding v log made =
-      record v { known = log ++ entry v.name made ∷ []; own = v.own ++ made ∷ [] }
-
-  -- the pass after one more access of the lock word, which found this
-  abbrev pub finding : PassView E P → ℕ → PassView E P
-  finding v word = record v { found = v.found ++ word ∷ [] }
-
   -- v is the pass before some accesses of the lock word, which found these words, and w after them
   abbrev pub HasFound : PassView E P → List ℕ → PassView E P → Type 0
   HasFound v words w = w.found ≡ v.found ++ words

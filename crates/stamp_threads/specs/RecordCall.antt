@@ -1,6 +1,6 @@
 -- What the calls of a running record promise. v is the pass before the call, and w after it.
 use Rattle.std.specs.Prelude.{◌≡◌, ◌≢◌, ◌⊎◌, ℕ, ◌+◌, ◌≤◌, true, false, List, [], ◌∷◌, ◌++◌, length}
-use Rattle.std.specs.Prelude.{Result, Ok, Err, Bool, Option, Some, None}
+use Rattle.std.specs.Prelude.{Result, Ok, Err, Bool}
 use mathlib.Core.List.{IsPrefix}
 use Rattle.stamp_core.specs.Content.{RecordReplies}
 use Rattle.stamp_core.specs.declared.call.Call.{Call}
@@ -164,12 +164,6 @@ UpdateRefused P shape v (Busy word) w = WasBusy shape v word w
 UpdateRefused P shape v (Lost loaded found) w = WasLost shape v loaded found w ⊎
     SeenThen P shape loaded v (λ u. WasOvertaken shape u loaded found w)
 UpdateRefused P shape v (Spent word) w = SeenThen P shape word v (λ u. NoneLeft shape word u w)
-
--- the expected words were seen; or a put_if that expects them was made, which was answered no
-abbrev pub SeenOrDenied : (List ℕ → Type 0) → RecordShape → List ℕ → List ℕ → Option ℕ → RecordPassView →
-    RecordPassView → Type 0
-SeenOrDenied P shape expected words (Some word) v w = HasSeen P shape word expected v w
-SeenOrDenied P shape expected words None v w = MadeOnRecord shape (PutIf expected words) No v w
 
 -- a put_if was made, and answered yes: the expected words were seen, and others put over them
 pub record PutOver (P : List ℕ → Type 0) (shape : RecordShape) (expected words : List ℕ)

@@ -2,7 +2,6 @@
 use Rattle.std.specs.Prelude.{◌≡◌, ℕ, Bool, ◌+◌, ◌≤◌, List}
 use mathlib.Core.List.{IsPrefix}
 use Rattle.atomic_table.specs.Seated.{TableId}
-use Rattle.atomic_table.specs.Table.{Me}
 use Rattle.stamp_threads.specs.declared.pass_view.PassView.{PassView}
 use Rattle.stamp_threads.specs.declared.record_view.RecordShape.{RecordShape}
 use Rattle.stamp_threads.specs.declared.record_view.RecordEvent.{RecordEvent}
@@ -34,25 +33,6 @@ first_pass = passes.first_pass Idle
 
 abbrev pub first_of : List RecordPassView → RecordPassView
 first_of vs = seats.first_of Idle vs
-
-abbrev pub second_of : List RecordPassView → RecordPassView
-second_of vs = seats.second_of Idle vs
-
--- the view of a seat, and the slots that it holds: none here
-abbrev pub Seated : Type 0
-Seated = Me (Unit {0}) (List RecordPassView)
-
--- one pass stands at a seat of a record's table, which has a word more than the record; and two,
--- which meet there
-abbrev pub IsAtSeat : TableId → RecordShape → TableId → Seated → Type 0
-IsAtSeat table shape seat me = seats.IsAtSeat Idle table (shape.width + 1) seat me
-
-abbrev pub AreAtSeat : TableId → RecordShape → TableId → Seated → Type 0
-AreAtSeat table shape seat me = seats.AreAtSeat Idle table (shape.width + 1) seat me
-
--- both passes of a seat are between two calls
-abbrev pub AreIdle : List RecordPassView → Type 0
-AreIdle vs = ((first_of vs).phase ≡ Idle) × ((second_of vs).phase ≡ Idle)
 
 -- a pass that is writing has a mark whose put has yet to come
 abbrev pub marks_ahead : RecordPhase → ℕ

@@ -4,10 +4,7 @@ use Rattle.stamp_core.specs.Layout.{units_of}
 use Rattle.stamp_core.specs.Stamp.{write_stamp, optimistic_stamp}
 use Rattle.stamp_core.specs.declared.layout.Layout.{Layout}
 
--- the units of a version and of write mode
-abbrev pub version_unit : Layout → ℕ
-version_unit layout = (units_of layout).version
-
+-- the unit of write mode
 abbrev pub writer_unit : Layout → ℕ
 writer_unit layout = (units_of layout).writer
 

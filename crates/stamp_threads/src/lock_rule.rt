@@ -23,7 +23,7 @@ pub struct LockRule;
 impl TableRule<(), LockPasses, LockKey> for LockRule {
     ghost use Rattle.std.specs.Prelude.{[], ◌∷◌};
     ghost use Rattle.stamp_threads.specs.LockPass.{first_pass};
-    ghost use Rattle.stamp_threads.specs.LockRule.{IsKept};
+    ghost use Rattle.stamp_threads.specs.inner.LockRule.{IsKept};
 
     ghost holds = { λ key. IsKept key.enterable key.limits };
 
@@ -58,7 +58,7 @@ pub struct LoadStep<C> {
 }
 
 impl<C: CallStep> Play<(), LockPasses> for LoadStep<C> {
-    ghost use Rattle.stamp_threads.specs.LockRule.{LoadTells};
+    ghost use Rattle.stamp_threads.specs.inner.LockRule.{LoadTells};
 
     ghost then = { LoadTells C.limits C.call };
 }
@@ -69,7 +69,7 @@ pub struct ExchangeStep<C> {
 }
 
 impl<C: CallStep> Play<(), LockPasses> for ExchangeStep<C> {
-    ghost use Rattle.stamp_threads.specs.LockRule.{ExchangeTells};
+    ghost use Rattle.stamp_threads.specs.inner.LockRule.{ExchangeTells};
 
     ghost then = { ExchangeTells C.limits C.call };
 }
@@ -80,7 +80,7 @@ pub struct MeetLockStep<C> {
 }
 
 impl<C: CallStep> Play<(), LockPasses> for MeetLockStep<C> {
-    ghost use Rattle.stamp_threads.specs.LockRule.{MeetTells};
+    ghost use Rattle.stamp_threads.specs.inner.LockRule.{MeetTells};
 
     ghost then = { MeetTells C.limits };
 }
@@ -91,7 +91,7 @@ pub struct EnterLockStep<C> {
 }
 
 impl<C: CallStep> Play<(), LockPasses> for EnterLockStep<C> {
-    ghost use Rattle.stamp_threads.specs.LockRule.{EnterTells};
+    ghost use Rattle.stamp_threads.specs.inner.LockRule.{EnterTells};
 
     ghost then = { EnterTells C.limits };
 }

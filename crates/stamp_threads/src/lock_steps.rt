@@ -4,9 +4,10 @@ ghost use Rattle.stamp_core.specs.Call.{is_lock_call};
 ghost use Rattle.stamp_core.specs.Word.{word_at};
 ghost use Rattle.stamp_core.specs.Decision.{Changes};
 ghost use Rattle.stamp_threads.specs.PassView.{after_split, split_off};
-ghost use Rattle.stamp_threads.specs.Seats.{both, StandsAlone};
-ghost use Rattle.stamp_threads.specs.LockPass.{first_of, second_of, HasEntered, IsAtSeat, AreAtSeat};
-ghost use Rattle.stamp_threads.specs.LockRule.{Loaded, Exchanged};
+ghost use Rattle.stamp_threads.specs.inner.Seats.{both, StandsAlone};
+ghost use Rattle.stamp_threads.specs.LockPass.{first_of, HasEntered};
+ghost use Rattle.stamp_threads.specs.inner.LockPass.{second_of, IsAtSeat, AreAtSeat};
+ghost use Rattle.stamp_threads.specs.inner.LockRule.{Loaded, Exchanged};
 ghost use Rattle.stamp_threads.specs.LockPassesMet.{LockPassesMet};
 
 use crate::lock_rule::{

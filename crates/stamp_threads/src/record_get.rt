@@ -1,7 +1,8 @@
 //! A get, from its first load to its last.
 ghost use Rattle.std.specs.Prelude.{◌≡◌, ◌≤◌, IfOk, IfErr, length};
 ghost use Rattle.stamp_threads.specs.declared.record_view.RecordPhase.TheVariants.{Idle};
-ghost use Rattle.stamp_threads.specs.RecordPass.{first_of, IsAtSeat};
+ghost use Rattle.stamp_threads.specs.RecordPass.{first_of};
+ghost use Rattle.stamp_threads.specs.inner.RecordPass.{IsAtSeat};
 ghost use Rattle.stamp_threads.specs.RecordCall.{WasGot, GetRefused};
 
 use crate::faults::GetFault;

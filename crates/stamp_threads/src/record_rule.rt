@@ -29,7 +29,8 @@ pub struct RecordRule<P> {
 
 impl<P: ContentRule> TableRule<(), RecordPasses, RecordKey> for RecordRule<P> {
     ghost use Rattle.std.specs.Prelude.{[], ◌∷◌};
-    ghost use Rattle.stamp_threads.specs.RecordRule.{IsKept, opening_pass, first_put};
+    ghost use Rattle.stamp_threads.specs.RecordRule.{opening_pass};
+    ghost use Rattle.stamp_threads.specs.inner.RecordRule.{IsKept, first_put};
 
     ghost holds = { λ key. IsKept key.enterable P.holds key.shape };
 
@@ -93,7 +94,7 @@ pub struct LoadForPutStep<C> {
 }
 
 impl<C: WordsStep> Play<(), RecordPasses> for LoadForPutStep<C> {
-    ghost use Rattle.stamp_threads.specs.RecordRule.{LoadForPutTells};
+    ghost use Rattle.stamp_threads.specs.inner.RecordRule.{LoadForPutTells};
 
     ghost then = { LoadForPutTells C.shape };
 }
@@ -104,7 +105,7 @@ pub struct AcquireStep<C> {
 }
 
 impl<C: WordsStep> Play<(), RecordPasses> for AcquireStep<C> {
-    ghost use Rattle.stamp_threads.specs.RecordRule.{AcquireTells};
+    ghost use Rattle.stamp_threads.specs.inner.RecordRule.{AcquireTells};
 
     ghost then = { AcquireTells C.shape C.words };
 }
@@ -113,7 +114,7 @@ impl<C: WordsStep> Play<(), RecordPasses> for AcquireStep<C> {
 pub struct StoreWordStep;
 
 impl Play<(), RecordPasses> for StoreWordStep {
-    ghost use Rattle.stamp_threads.specs.RecordRule.{StoreWordTells};
+    ghost use Rattle.stamp_threads.specs.inner.RecordRule.{StoreWordTells};
 
     ghost then = { StoreWordTells };
 }
@@ -124,7 +125,7 @@ pub struct ReleaseStep<C> {
 }
 
 impl<C: WordsStep> Play<(), RecordPasses> for ReleaseStep<C> {
-    ghost use Rattle.stamp_threads.specs.RecordRule.{ReleaseTells};
+    ghost use Rattle.stamp_threads.specs.inner.RecordRule.{ReleaseTells};
 
     ghost then = { ReleaseTells C.shape C.words };
 }
@@ -135,7 +136,7 @@ pub struct ReleaseOverStep<C> {
 }
 
 impl<C: WordsStep> Play<(), RecordPasses> for ReleaseOverStep<C> {
-    ghost use Rattle.stamp_threads.specs.RecordRule.{ReleaseOverTells};
+    ghost use Rattle.stamp_threads.specs.inner.RecordRule.{ReleaseOverTells};
 
     ghost then = { ReleaseOverTells C.shape C.words };
 }
@@ -146,7 +147,7 @@ pub struct LoadForGetStep<C> {
 }
 
 impl<C: WordsStep> Play<(), RecordPasses> for LoadForGetStep<C> {
-    ghost use Rattle.stamp_threads.specs.RecordRule.{LoadForGetTells};
+    ghost use Rattle.stamp_threads.specs.inner.RecordRule.{LoadForGetTells};
 
     ghost then = { LoadForGetTells C.shape };
 }
@@ -155,7 +156,7 @@ impl<C: WordsStep> Play<(), RecordPasses> for LoadForGetStep<C> {
 pub struct LoadWordStep;
 
 impl Play<(), RecordPasses> for LoadWordStep {
-    ghost use Rattle.stamp_threads.specs.RecordRule.{LoadWordTells};
+    ghost use Rattle.stamp_threads.specs.inner.RecordRule.{LoadWordTells};
 
     ghost then = { LoadWordTells };
 }
@@ -166,7 +167,7 @@ pub struct ConfirmStep<C, P> {
 }
 
 impl<C: WordsStep, P: ContentRule> Play<(), RecordPasses> for ConfirmStep<C, P> {
-    ghost use Rattle.stamp_threads.specs.RecordRule.{ConfirmTells};
+    ghost use Rattle.stamp_threads.specs.inner.RecordRule.{ConfirmTells};
 
     ghost then = { ConfirmTells P.holds C.shape C.words };
 }
@@ -177,7 +178,7 @@ pub struct SeeStep<C, P> {
 }
 
 impl<C: WordsStep, P: ContentRule> Play<(), RecordPasses> for SeeStep<C, P> {
-    ghost use Rattle.stamp_threads.specs.RecordRule.{SeeTells};
+    ghost use Rattle.stamp_threads.specs.inner.RecordRule.{SeeTells};
 
     ghost then = { SeeTells P.holds C.shape C.words };
 }
@@ -188,7 +189,7 @@ pub struct DenyStep<C, P> {
 }
 
 impl<C: DenyingStep, P: ContentRule> Play<(), RecordPasses> for DenyStep<C, P> {
-    ghost use Rattle.stamp_threads.specs.RecordRule.{DenyTells};
+    ghost use Rattle.stamp_threads.specs.inner.RecordRule.{DenyTells};
 
     ghost then = { DenyTells P.holds C.shape C.loaded C.expected C.words };
 }
@@ -199,7 +200,7 @@ pub struct EnterRecordStep<C> {
 }
 
 impl<C: WordsStep> Play<(), RecordPasses> for EnterRecordStep<C> {
-    ghost use Rattle.stamp_threads.specs.RecordRule.{EnterTells};
+    ghost use Rattle.stamp_threads.specs.inner.RecordRule.{EnterTells};
 
     ghost then = { EnterTells C.shape };
 }
@@ -210,7 +211,7 @@ pub struct MeetRecordStep<C> {
 }
 
 impl<C: WordsStep> Play<(), RecordPasses> for MeetRecordStep<C> {
-    ghost use Rattle.stamp_threads.specs.RecordRule.{MeetTells};
+    ghost use Rattle.stamp_threads.specs.inner.RecordRule.{MeetTells};
 
     ghost then = { MeetTells C.shape };
 }

@@ -1,8 +1,10 @@
 //! What comes before words are put over others: these are loaded, and seen to stand together.
 ghost use Rattle.std.specs.Prelude.{◌≡◌, ◌≤◌, ◌↔◌, IfOk, IfErr, IsTrue, length};
 ghost use Rattle.stamp_threads.specs.declared.record_view.RecordPhase.TheVariants.{Idle};
-ghost use Rattle.stamp_threads.specs.RecordPass.{first_of, IsAtSeat};
-ghost use Rattle.stamp_threads.specs.RecordCall.{HasSeen, SeenOrDenied, GetRefused};
+ghost use Rattle.stamp_threads.specs.RecordPass.{first_of};
+ghost use Rattle.stamp_threads.specs.inner.RecordPass.{IsAtSeat};
+ghost use Rattle.stamp_threads.specs.RecordCall.{HasSeen, GetRefused};
+ghost use Rattle.stamp_threads.specs.inner.RecordCall.{SeenOrDenied};
 
 use crate::faults::GetFault;
 use crate::record_rule::ContentRule;

@@ -4,17 +4,17 @@ ghost use Rattle.std.specs.Prelude.{slice_index, ℕ, List, []};
 ghost use Rattle.stamp_threads.specs.declared.record_view.RecordPhase.TheVariants.{Idle, Writing};
 ghost use Rattle.stamp_threads.specs.declared.record_view.RecordPhase.TheVariants.{Loading};
 ghost use Rattle.stamp_threads.specs.PassView.{after_split, split_off};
-ghost use Rattle.stamp_threads.specs.Seats.{alone, both, StandsAlone};
+ghost use Rattle.stamp_threads.specs.Seats.{alone};
+ghost use Rattle.stamp_threads.specs.inner.Seats.{both, StandsAlone};
 ghost use Rattle.stamp_core.specs.declared.call.Call.TheVariants.{Get, Put, PutIf};
 ghost use Rattle.stamp_core.specs.declared.reply.Reply.TheVariants.{Done, Content, Yes, No};
 ghost use Rattle.stamp_threads.specs.RecordLog.{content_in, puts};
 ghost use Rattle.stamp_threads.specs.RecordWord.{word_with, writer_unit};
-ghost use Rattle.stamp_threads.specs.RecordPass.{first_of, second_of, HasEntered};
-ghost use Rattle.stamp_threads.specs.RecordPass.{IsAtSeat, AreAtSeat, AreIdle};
-ghost use Rattle.stamp_threads.specs.RecordRule.{LoadedForPut, Acquired, Released, stored_one};
-ghost use Rattle.stamp_threads.specs.RecordRule.{LoadedForGet, loaded_one, Confirmed, Saw, Overtaken};
-ghost use Rattle.stamp_threads.specs.RecordRule.{word_to_confirm};
-ghost use Rattle.stamp_threads.specs.RecordRule.{Met, with_phase};
+ghost use Rattle.stamp_threads.specs.RecordPass.{first_of, HasEntered};
+ghost use Rattle.stamp_threads.specs.inner.RecordPass.{second_of, IsAtSeat, AreAtSeat, AreIdle};
+ghost use Rattle.stamp_threads.specs.inner.RecordRule.{LoadedForPut, Acquired, Released, stored_one, LoadedForGet};
+ghost use Rattle.stamp_threads.specs.inner.RecordRule.{loaded_one, Confirmed, Saw, Overtaken, word_to_confirm, Met};
+ghost use Rattle.stamp_threads.specs.inner.RecordRule.{with_phase};
 
 use crate::lock_rule::{PartSeatsStep, ShareSeatStep, SplitStep};
 use crate::record_rule::{

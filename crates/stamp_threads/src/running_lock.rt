@@ -7,12 +7,14 @@ ghost use Rattle.stamp_core.specs.CountedDecision.{decision};
 ghost use Rattle.stamp_core.specs.LockDecision.{decision_as, reply_as};
 ghost use Rattle.stamp_machines.specs.declared.machine.Turn.TheVariants as Turn;
 ghost use Rattle.stamp_threads.specs.PassView.{after_split, split_off};
-ghost use Rattle.stamp_threads.specs.LockPass.{HasEntered, IsConsistentWith, IsNew};
-ghost use Rattle.stamp_threads.specs.LockPass.{LockPassView, IsAtSeat, first_of};
-ghost use Rattle.stamp_threads.specs.Made.{Made, MayWait, AccessesOnceOrTwice, try_form};
+ghost use Rattle.stamp_threads.specs.LockPass.{HasEntered, IsConsistentWith, IsNew, LockPassView, first_of};
+ghost use Rattle.stamp_threads.specs.inner.LockPass.{IsAtSeat};
+ghost use Rattle.stamp_threads.specs.Made.{Made, AccessesOnceOrTwice, try_form};
+ghost use Rattle.stamp_threads.specs.inner.Made.{MayWait};
 ghost use Rattle.stamp_threads.specs.MayReply.{MayReply};
 ghost use Rattle.stamp_threads.specs.LostExchange.{LostExchange};
-ghost use Rattle.stamp_threads.specs.GoesAsMachine.{GoesAsMachine, IsToDecide, turn_once};
+ghost use Rattle.stamp_threads.specs.GoesAsMachine.{GoesAsMachine, turn_once};
+ghost use Rattle.stamp_threads.specs.inner.GoesAsMachine.{IsToDecide};
 ghost use Rattle.stamp_threads.specs.LockPassesMet.{LockPassesMet};
 ghost use Rattle.stamp_threads.specs.Closes.{Closes};
 

@@ -8,7 +8,8 @@ ghost use Rattle.stamp_threads.specs.RecordPass.{HasEntered, IsConsistentWith};
 ghost use Rattle.stamp_threads.specs.RecordCall.{MadeOnRecord, PutRefused};
 ghost use Rattle.stamp_threads.specs.RecordCall.{WasGot, GetRefused, RecordPassesMet};
 ghost use Rattle.stamp_threads.specs.RecordCall.{HasSeen, StandsAtWord, ReplaceRefused};
-ghost use Rattle.stamp_threads.specs.RecordRule.{opening_pass, first_put, IsKept, IsNew, MayBegin};
+ghost use Rattle.stamp_threads.specs.RecordRule.{opening_pass, IsNew, MayBegin};
+ghost use Rattle.stamp_threads.specs.inner.RecordRule.{first_put, IsKept};
 ghost use Rattle.atomic_table.specs.Table.{opening};
 
 use crate::faults::{GetFault, PutFault};

@@ -6,7 +6,7 @@ use Rattle.stamped_c.specs.declared.error.CError.{CError}
 use Rattle.stamped_c.specs.declared.structs.CDecision.{CDecision}
 use Rattle.stamped_c.specs.Codes.{error_code, unreplied_in_c}
 use Rattle.stamped_c.specs.Checks.{Then}
-use Rattle.stamped_c.specs.Answers.{InC}
+use Rattle.stamped_c.specs.inner.Answers.{InC}
 
 pub at_error : {A : Type 0} (First : Result A CError → Type 0) (Second : A → Result LockDecision CError → Type 0)
     (number : ℕ) (error : CError) (made : CDecision) → First (Err error) → made ≡ unreplied_in_c (error_code error) →

@@ -23,10 +23,6 @@ abbrev pub IsDecision : Bounds → LockWord → Call → Result LockDecision CEr
 IsDecision limits word call (Ok decision) = Decides limits word call (decision_as decision)
 IsDecision limits word call (Err error) = ⊥
 
--- what C gets of a decision on the word of this number, or of an error, of which the fact holds
-abbrev pub InC : (Result LockDecision CError → Type 0) → ℕ → CDecision → Type 0
-InC Holds number made = (decided : Result LockDecision CError) × Holds decided × (made ≡ decision_in_c number decided)
-
 -- first the call, then the decision
 abbrev pub IsDecidedOn : Bounds → LockWord → ℕ → ℕ → Result LockDecision CError → Type 0
 IsDecidedOn limits word code stamp = Then (IsCallOf code stamp) (λ call. IsDecision limits word call)

@@ -4,7 +4,8 @@ ghost use Rattle.std.specs.Prelude.{ℕ, ◌≡◌, Some, IsTrue};
 ghost use Rattle.stamp_core.specs.Call.{is_lock_call};
 ghost use Rattle.stamp_core.specs.Word.{IsAdmitted};
 ghost use Rattle.stamped_c.specs.Codes.{call_by_code};
-ghost use Rattle.stamped_c.specs.Answers.{InC, IsDecidedOn, IsDecidedUnder, IsDecidedIn, IsDecided};
+ghost use Rattle.stamped_c.specs.Answers.{IsDecidedOn, IsDecidedUnder, IsDecidedIn, IsDecided};
+ghost use Rattle.stamped_c.specs.inner.Answers.{InC};
 
 use crate::checks::{checked_layout, checked_word, limits_in};
 use crate::error::CError;

@@ -1,12 +1,11 @@
 -- The line that answers an observed history, with the note beside it, or why there is none.
-use Rattle.std.specs.Prelude.{◌≡◌, ◌≢◌, ℕ, List, Option, Result, Ok, Err, String}
+use Rattle.std.specs.Prelude.{◌≡◌, ℕ, List, Option, Result, Ok, Err, String}
 use Rattle.std.specs.declared.alloc.AllocError.{AllocError}
 use Rattle.std.specs.declared.alloc.Global.{Global}
 use Rattle.stamp_cli.specs.Answer.{LineView, IsInputAnswer, AnswersRead, line_in, with_line_feed}
 use Rattle.stamp_cli.specs.Refusal.{refusal}
 use Rattle.stamp_cli.specs.Source.{Reads}
 use Rattle.stamp_cli.specs.declared.faults.ServeFault.{ServeFault}
-use Rattle.stamp_cli.specs.declared.faults.ServeFault.TheVariants.{Memory}
 use Rattle.stamp_explain.specs.Observed.{ObservedHistory}
 use Rattle.stamp_history.specs.declared.read_error.ReadError.{ReadError}
 use Rattle.stamp_observed.specs.ObservedReading.{observed_of}
@@ -54,9 +53,3 @@ AnswersExplain most input answer = IsExplainAnswer most (observed_of input) answ
 abbrev pub AnswersSource : ℕ → Option (List ℕ) → Option (List ℕ) → ℕ → Result LineAndNoteView ServeFault → Type 0
 AnswersSource most old new taken answer =
     AnswersRead (Reads old new) (IsInputAnswer (AnswersExplain most)) taken answer
-
--- memory aside, the fact holds of what a function returned
-abbrev pub HoldsUnlessMemory : (Result LineAndNoteView ServeFault → Type 0) →
-    Result made.LineAndNote ServeFault → Type 0
-HoldsUnlessMemory P (Ok answer) = P (Ok (view_in answer))
-HoldsUnlessMemory P (Err e) = e ≢ Memory → P (Err e)

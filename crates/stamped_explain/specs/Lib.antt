@@ -3,3 +3,4 @@ pub mod Finding
 pub mod FindingText
 pub mod Note
 pub mod Answer
+pub mod inner

@@ -1,5 +1,5 @@
 -- The note of a history that no order explains.
-use Rattle.std.specs.Prelude.{ℕ, ◌≡◌, ◌++◌, List, [], ◌∷◌, Option, Some, None, Result, Ok, Err, Vec, String}
+use Rattle.std.specs.Prelude.{ℕ, ◌≡◌, ◌++◌, List, [], ◌∷◌, Option, Some, None, Result, Ok, Err, String}
 use Rattle.std.specs.Prelude.{codes, decimal, string_bytes}
 use Rattle.std.specs.List.{flat_map}
 use Rattle.std.specs.declared.alloc.AllocError.{AllocError}
@@ -12,10 +12,6 @@ use Rattle.stamp_explain.specs.Observed.{ObservedHistory, IsReturnAt}
 use Rattle.stamp_explain.specs.Possible.{AreAllPossible, IsUndecidedAtAny}
 use Rattle.stamped_explain.specs.declared.finding.Finding.{Finding}
 use Rattle.stamped_explain.specs.declared.finding.Finding.TheVariants.{Stuck, Unexplained}
-
-abbrev pub replies_in : Option (Vec Reply Global) → Option (List Reply)
-replies_in None = None
-replies_in (Some replies) = Some replies.items
 
 -- all the replies that the call of this entry could have had; or that is undecided
 abbrev pub ArePossibleAt : ObservedHistory → ℕ → ℕ → Option (List Reply) → Type 0

@@ -2,11 +2,12 @@
 
 ghost use Rattle.std.specs.Prelude.{◌≡◌, ◌≢◌, false, IfOk, IfErr, Ok, Err};
 ghost use Rattle.stamp_cli.specs.Answer.{IsInputAnswer};
-ghost use Rattle.stamp_cli.specs.Refusal.{is_of_end};
+ghost use Rattle.stamp_cli.specs.inner.Refusal.{is_of_end};
 ghost use Rattle.stamp_cli.specs.Results.{taken_since};
 ghost use Rattle.stamp_cli.specs.Serving.{HasRead};
 ghost use Rattle.stamp_cli.specs.Source.{most_reads, most_taken};
-ghost use Rattle.stamped_explain.specs.Answer.{AnswersSource, AnswersExplain, HoldsUnlessMemory, view_in};
+ghost use Rattle.stamped_explain.specs.Answer.{AnswersSource, AnswersExplain, view_in};
+ghost use Rattle.stamped_explain.specs.inner.Answer.{HoldsUnlessMemory};
 
 use crate::finding::finding_of;
 use crate::finding_text::line_of_finding;

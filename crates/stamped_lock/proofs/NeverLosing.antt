@@ -9,7 +9,7 @@ use Rattle.stamp_threads.specs.LockLog.{LockLog, transition_after, Appends}
 use Rattle.stamp_threads.specs.LockPass.{LockPassView, LeavesWord}
 use Rattle.stamp_threads.specs.Made.{try_form}
 use Rattle.stamp_threads.specs.LostExchange.{LostExchange}
-use Rattle.stamped_lock.specs.Replies.{NeverLoses}
+use Rattle.stamped_lock.specs.inner.Replies.{NeverLoses}
 
 pub never_losing_is_tried : (call : Call) → NeverLoses call → try_form call ≡ call
 never_losing_is_tried Optimistic is = refl

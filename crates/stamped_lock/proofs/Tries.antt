@@ -17,7 +17,8 @@ use Rattle.stamp_threads.specs.PassView.{MadeNoCallSince}
 use Rattle.stamp_threads.proofs.Beginnings.{begins_all, begins_further}
 use Rattle.stamp_threads.proofs.SamePass.{no_call_yet, no_call_further}
 use Rattle.stamped_lock.specs.RecordCalls.{RecordHandleView, Tried, RefusesPut, RefusesGet, RefusesUpdate}
-use Rattle.stamped_lock.specs.RecordCalls.{MadeAtLast, Updated, PutIfAtLast, SeenAtLast, RefusesTry}
+use Rattle.stamped_lock.specs.RecordCalls.{MadeAtLast, Updated, PutIfAtLast, SeenAtLast}
+use Rattle.stamped_lock.specs.inner.RecordCalls.{RefusesTry}
 use Rattle.stamp_threads.specs.RecordPass.{RecordPassView}
 
 pub tried_none : (h : RecordHandleView) → Tried h h

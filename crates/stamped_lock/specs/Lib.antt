@@ -5,3 +5,4 @@ pub mod Sections
 pub mod RecordCalls
 pub mod InWords
 pub mod Timed
+pub mod inner

@@ -1,14 +1,13 @@
 -- What a record's handle is seen as, and what its calls promise.
-use Rattle.std.specs.Prelude.{◌≡◌, ◌≤◌, ℕ, Bool, if◌then◌else◌, List, Option, Some, None, Result, Ok, Err}
+use Rattle.std.specs.Prelude.{◌≡◌, ℕ, Bool, if◌then◌else◌, List, Option, Some, None}
 use mathlib.Core.List.{IsPrefix}
 use Rattle.stamp_core.specs.declared.call.Call.{Call}
 use Rattle.stamp_core.specs.declared.call.Call.TheVariants.{PutIf}
 use Rattle.stamp_core.specs.declared.reply.Reply.{Reply}
 use Rattle.stamp_core.specs.declared.reply.Reply.TheVariants.{Yes, No}
 use Rattle.stamp_threads.specs.declared.faults.PutFault.{PutFault}
-use Rattle.stamp_threads.specs.declared.faults.PutFault.TheVariants.{Busy, Lost, Spent}
+use Rattle.stamp_threads.specs.declared.faults.PutFault.TheVariants.{Spent}
 use Rattle.stamp_threads.specs.declared.faults.GetFault.{GetFault}
-use Rattle.stamp_threads.specs.declared.record_view.RecordShape.{RecordShape}
 use Rattle.stamp_threads.specs.PassView.{MadeNoCallSince}
 use Rattle.stamp_threads.specs.RecordPass.{RecordPassView, RecordView}
 use Rattle.stamp_threads.specs.RecordCall.{PutRefused, GetRefused, UpdateRefused, HasSeen}
@@ -20,14 +19,6 @@ use Rattle.stamped_lock.specs.declared.update_error.UpdateError.TheVariants as u
 pub record RecordHandleView : Type 0 where
   pub running : RecordView
   pub pass : RecordPassView
-
--- a handle of this record, whose pass is this one
-abbrev pub handle_of : RecordView → RecordPassView → RecordHandleView
-handle_of r v = record { running = r; pass = v }
-
--- a handle's record has n words
-abbrev pub HasWidth : ℕ → RecordShape → Type 0
-HasWidth n shape = (shape.width ≡ n) × (1 ≤ n) × (n ≤ 16)
 
 -- the call was made with this reply: one legal history that begins with all that the handle knew, and
 -- ends with this call; h' is the handle after it
@@ -95,23 +86,6 @@ pub record SeenAtLast (P : List ℕ → Type 0) (words : List ℕ) (h h' : Recor
   pub tried : Tried h between
   pub same : h'.running ≡ between.running
   pub seen : HasSeen P between.running.shape word words between.pass h'.pass
-
--- the closure, of which Ran is known, was asked once: it answered a value, which was put over the old one,
--- or declined the old one, which the record held, and then no call was made
-abbrev pub Attempted : {T : Type 0} → (T → Option T → Type 0) → (List ℕ → Type 0) → (T → Type 0) →
-    (T → List ℕ) → Result T T → RecordHandleView → RecordHandleView → Type 0
-Attempted Ran P IsValue words (Ok old) h h' = IsValue old × P (words old)
-    × Updated (λ value. Ran old (Some value)) words old h h'
-Attempted Ran P IsValue words (Err old) h h' = Ran old None × SeenAtLast P (words old) h h'
-
--- an update by a closure that may decline, of which Ran is known, was refused: as spent only where it answered
--- a value on the old one, which the record held
-abbrev pub RefusesTry : {T : Type 0} → (T → Option T → Type 0) → (List ℕ → Type 0) → (T → List ℕ) →
-    PutFault → RecordHandleView → RecordHandleView → Type 0
-RefusesTry Ran P words (Busy word) h h' = RefusesUpdate P (Busy word) h h'
-RefusesTry Ran P words (Lost loaded found) h h' = RefusesUpdate P (Lost loaded found) h h'
-RefusesTry {T} Ran P words (Spent word) h h' = (old : T) × (value : T) × Ran old (Some value)
-    × RefusesUpdate (λ row. row ≡ words old) (Spent word) h h'
 
 -- an update put nothing: the closure, of which Ran is known, declined a value whose words the record held;
 -- or it answered one, and no version was left

@@ -1,8 +1,5 @@
--- Typed answers as replies, and which calls never lose.
+-- Typed answers as replies.
 use Rattle.std.specs.Prelude.{ℕ, Bool, true, false, Option, Some, None, Result, Ok, Err}
-use Rattle.stamp_core.specs.declared.call.Call.{Call}
-use Rattle.stamp_core.specs.declared.call.Call.TheVariants.{Optimistic, Validate, UnlockWrite}
-use Rattle.stamp_core.specs.declared.call.Call.TheVariants.{IsWriteLocked, IsReadLocked, ReadCount}
 use Rattle.stamp_core.specs.declared.reply.Reply.{Reply}
 use Rattle.stamp_core.specs.declared.reply.Reply.TheVariants.{Stamp, Yes, No, Done, Mismatch}
 
@@ -24,14 +21,3 @@ tested false = No
 abbrev pub released : {E : Type 0} → Result (Unit {0}) E → Reply
 released (Ok _) = Done
 released (Err _) = Mismatch
-
--- the calls that never lose an exchange: those that change nothing, and the release of write mode
--- by its stamp
-abbrev pub NeverLoses : Call → Type 0
-NeverLoses Optimistic = Unit {0}
-NeverLoses (Validate s) = Unit {0}
-NeverLoses (UnlockWrite s) = Unit {0}
-NeverLoses IsWriteLocked = Unit {0}
-NeverLoses IsReadLocked = Unit {0}
-NeverLoses ReadCount = Unit {0}
-NeverLoses _ = ⊥

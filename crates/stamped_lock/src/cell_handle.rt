@@ -5,8 +5,9 @@ ghost use Rattle.stamp_core.specs.declared.call.Call.TheVariants.{Get, Put};
 ghost use Rattle.stamp_core.specs.declared.reply.Reply.TheVariants.{Done, Content};
 ghost use Rattle.stamp_threads.specs.PassView.{after_split, split_off};
 ghost use Rattle.stamped_lock.specs.InWords.{AreWordsOf};
-ghost use Rattle.stamped_lock.specs.RecordCalls.{HasWidth, MadeAtLast, SpentAtLast};
+ghost use Rattle.stamped_lock.specs.RecordCalls.{MadeAtLast, SpentAtLast};
 ghost use Rattle.stamped_lock.specs.RecordCalls.{Updated, UpdateSpent, PutIfAtLast, PutNothing, SeenAtLast};
+ghost use Rattle.stamped_lock.specs.inner.RecordCalls.{HasWidth};
 
 use crate::cell::WordsOf;
 use crate::in_words::InWords;

@@ -15,7 +15,8 @@ ghost use Rattle.stamp_threads.specs.Made.{try_form};
 ghost use Rattle.stamp_threads.specs.MayReply.{MayReply};
 ghost use Rattle.stamp_threads.specs.PassView.{after_split, split_off};
 ghost use Rattle.stamped_lock.specs.Made.{Made, MadeOrLost};
-ghost use Rattle.stamped_lock.specs.Replies.{stamped, tested, released, NeverLoses};
+ghost use Rattle.stamped_lock.specs.Replies.{stamped, tested, released};
+ghost use Rattle.stamped_lock.specs.inner.Replies.{NeverLoses};
 
 use crate::answers::{count_in, some_stamp_in, stamp_unless_zero, test_in, was_released};
 use crate::entered::Entered;

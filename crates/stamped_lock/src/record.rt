@@ -2,7 +2,7 @@
 ghost use Rattle.std.specs.Prelude.{◌≡◌, ◌≤◌, IfOk, true};
 ghost use Rattle.stamp_core.specs.Limits.{widest};
 ghost use Rattle.stamp_threads.specs.RecordPass.{HasEntered};
-ghost use Rattle.stamped_lock.specs.RecordCalls.{HasWidth};
+ghost use Rattle.stamped_lock.specs.inner.RecordCalls.{HasWidth};
 
 use crate::record_handle::RecordHandle;
 use stamp_core::{KnownLayout, Layout, LayoutOne, Limits, Words};

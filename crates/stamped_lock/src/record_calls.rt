@@ -7,11 +7,10 @@ ghost use Rattle.stamp_threads.specs.RecordLog.{content_in};
 ghost use Rattle.stamp_threads.specs.RecordCall.{HasSeen, StandsAtWord, GetRefused, ReplaceRefused};
 ghost use Rattle.stamp_threads.specs.RecordCall as by_pass;
 ghost use Rattle.stamped_lock.specs.InWords.{AreWordsOf};
-ghost use Rattle.stamped_lock.specs.RecordCalls.{handle_of, HasWidth};
-ghost use Rattle.stamped_lock.specs.RecordCalls.{MadeOnRecord, RefusesPut, RefusesGet};
-ghost use Rattle.stamped_lock.specs.RecordCalls.{MadeAtLast, SpentAtLast};
-ghost use Rattle.stamped_lock.specs.RecordCalls.{RefusesUpdate, Updated, UpdateSpent, PutIfAtLast};
-ghost use Rattle.stamped_lock.specs.RecordCalls.{Attempted, SeenAtLast, RefusesTry, PutNothing};
+ghost use Rattle.stamped_lock.specs.RecordCalls.{MadeOnRecord, RefusesPut, RefusesGet, MadeAtLast, SpentAtLast};
+ghost use Rattle.stamped_lock.specs.RecordCalls.{RefusesUpdate, Updated, UpdateSpent, PutIfAtLast, SeenAtLast};
+ghost use Rattle.stamped_lock.specs.RecordCalls.{PutNothing};
+ghost use Rattle.stamped_lock.specs.inner.RecordCalls.{handle_of, HasWidth, Attempted, RefusesTry};
 
 use crate::in_words::InWords;
 use crate::spent::Spent;

@@ -5,10 +5,10 @@ ghost use Rattle.stamp_core.specs.declared.call.Call.TheVariants.{Get, Put};
 ghost use Rattle.stamp_core.specs.declared.reply.Reply.TheVariants.{Done, Content};
 ghost use Rattle.stamp_threads.specs.PassView.{after_split, split_off};
 ghost use Rattle.stamped_lock.specs.InWords.{AreWordsOf};
-ghost use Rattle.stamped_lock.specs.RecordCalls.{HasWidth, MadeOnRecord, RefusesPut, RefusesGet};
-ghost use Rattle.stamped_lock.specs.RecordCalls.{MadeAtLast, SpentAtLast};
-ghost use Rattle.stamped_lock.specs.RecordCalls.{RefusesUpdate, Updated, UpdateSpent, PutIfAtLast};
-ghost use Rattle.stamped_lock.specs.RecordCalls.{SeenAtLast, PutNothing};
+ghost use Rattle.stamped_lock.specs.RecordCalls.{MadeOnRecord, RefusesPut, RefusesGet, MadeAtLast, SpentAtLast};
+ghost use Rattle.stamped_lock.specs.RecordCalls.{RefusesUpdate, Updated, UpdateSpent, PutIfAtLast, SeenAtLast};
+ghost use Rattle.stamped_lock.specs.RecordCalls.{PutNothing};
+ghost use Rattle.stamped_lock.specs.inner.RecordCalls.{HasWidth};
 
 use crate::in_words::InWords;
 use crate::record_calls;

@@ -1,9 +1,8 @@
 -- The picture that answers an order, or why there is none.
-use Rattle.std.specs.Prelude.{ℕ, ◌≡◌, ◌≤◌, Bool, false, length, List, Option, Result, Ok, Err}
+use Rattle.std.specs.Prelude.{ℕ, ◌≡◌, ◌≤◌, length, List, Option, Result, Ok, Err}
 use Rattle.stamp_core.specs.Record.{Recorded}
 use Rattle.stamp_history.specs.History.{recorded_of}
 use Rattle.stamp_cli.specs.Answer.{IsInputAnswer, AnswersCheck, AnswersRead}
-use Rattle.stamp_cli.specs.Refusal as refusal
 use Rattle.stamp_cli.specs.Source.{Reads, most_bytes}
 use Rattle.stamp_cli.specs.declared.line.Verdict.{Verdict}
 use Rattle.stamp_cli.specs.declared.line.Verdict.TheVariants.{Accepted, Bad}
@@ -60,11 +59,6 @@ pub record IsDrawnText (style : List ℕ) (order : PictureOrder) (history : Reco
   pub drawn : IsDrawnAs order.format style picture drawing.text
   pub verdict : drawing.verdict ≡ verdict_in picture.verdict
 
--- the bars are too many, and the fault says how many
-abbrev pub IsUndrawn : Window → Recorded → PictureFault → Type 0
-IsUndrawn window history (TooMany n) = IsCrowded history window n
-IsUndrawn window history (Serve fault) = ⊥
-
 -- the input is a history, and this is its picture
 pub record IsPictureAnswer (style : List ℕ) (order : PictureOrder) (input : List ℕ) (drawing : DrawingView) :
     Type 0 where
@@ -94,8 +88,3 @@ AnswersPicture style order input (Err fault) = IsRefused order.window input faul
 abbrev pub AnswersSource : List ℕ → PictureOrder → Option (List ℕ) → Option (List ℕ) → ℕ →
     Result DrawingView PictureFault → Type 0
 AnswersSource style order old new taken answer = AnswersRead (Reads old new) (AnswersPicture style order) taken answer
-
--- an end of the command failed, and not what was read
-abbrev pub is_of_end : PictureFault → Bool
-is_of_end (Serve fault) = refusal.is_of_end fault
-is_of_end (TooMany n) = false

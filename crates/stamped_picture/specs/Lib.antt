@@ -1,3 +1,4 @@
 pub mod Order
 pub mod FaultText
 pub mod Answer
+pub mod inner

@@ -7,8 +7,9 @@ ghost use Rattle.stamp_cli.specs.Serving.{HasRead};
 ghost use Rattle.stamp_cli.specs.Source.{most_reads, most_taken};
 ghost use Rattle.stamp_cli.specs.declared.faults.ServeFault.TheVariants.{Memory, ReadFault, WriteFault};
 ghost use Rattle.stamped_picture.specs.declared.faults.PictureFault.TheVariants.{Serve};
-ghost use Rattle.stamped_picture.specs.Answer.{IsSvg, IsDrawnAs, IsDrawnText, IsUndrawn};
-ghost use Rattle.stamped_picture.specs.Answer.{AnswersSource, IsPictureAnswer, IsRefused, drawing_in, is_of_end, verdict_in};
+ghost use Rattle.stamped_picture.specs.Answer.{IsSvg, IsDrawnAs, IsDrawnText};
+ghost use Rattle.stamped_picture.specs.Answer.{AnswersSource, IsPictureAnswer, IsRefused, drawing_in, verdict_in};
+ghost use Rattle.stamped_picture.specs.inner.Answer.{IsUndrawn, is_of_end};
 
 use crate::faults::PictureFault;
 use crate::orders::{PictureFormat, PictureOrder};

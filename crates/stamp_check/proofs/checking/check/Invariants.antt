@@ -1,5 +1,5 @@
 use Rattle.std.proofs.Common.{take}
-use Rattle.stamp_check.specs.Walk.{IsWalk}
+use Rattle.stamp_check.specs.inner.Walk.{IsWalk}
 use Rattle.stamp_check.proofs.checking.check.Given as goal
 
 abbrev pub invariant-loop-i : goal.invariant-loop-i

@@ -1,5 +1,5 @@
 use Rattle.std.proofs.Common.{map}
-use Rattle.stamp_history.specs.SmallCall.{core_call}
+use Rattle.stamp_history.specs.inner.SmallCall.{core_call}
 use Rattle.stamp_history.proofs.RepliesSoFar.{RepliesSoFar}
 use Rattle.stamp_history.proofs.replay_answer.push_replies_to.Given as goal
 

@@ -1,7 +1,7 @@
 use Rattle.std.proofs.Common.{◌≡◌, ◌∙◌, ◌++◌, ℕ, List, map, ap, subst}
 use Rattle.serde_json.specs.Written.{compact_text}
 use Rattle.stamp_core.specs.Replayed.{IsReplayed}
-use Rattle.stamp_history.specs.SmallCall.{core_call}
+use Rattle.stamp_history.specs.inner.SmallCall.{core_call}
 use Rattle.stamp_history.specs.declared.small_call.SmallCall.{SmallCall}
 use Rattle.stamp_history.specs.ReplayText.{replayed_data}
 use Rattle.stamp_history.proofs.ReplayAnswers.{answered}

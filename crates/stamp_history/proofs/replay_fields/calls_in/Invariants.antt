@@ -1,5 +1,5 @@
 use Rattle.stamp_history.specs.ReplayFields.{call_at}
-use Rattle.stamp_history.specs.SmallCall.{core_calls}
+use Rattle.stamp_history.specs.inner.SmallCall.{core_calls}
 use Rattle.stamp_history.proofs.EachItem.{IsReadTo}
 use Rattle.stamp_history.proofs.replay_fields.calls_in.Given as goal
 

@@ -2,7 +2,7 @@ use Rattle.std.proofs.Common.{◌≡◌, map, take}
 use Rattle.std.specs.Prelude.{IsTrue}
 use Rattle.std.specs.List.{All}
 use Rattle.stamp_core.specs.Call.{is_lock_call}
-use Rattle.stamp_history.specs.SmallCall.{core_call}
+use Rattle.stamp_history.specs.inner.SmallCall.{core_call}
 use Rattle.stamp_history.proofs.replay_reading.calls_of.Given as goal
 
 abbrev pub invariant-loop-call : goal.invariant-loop-call

@@ -1,5 +1,5 @@
 use Rattle.std.proofs.Common.{◌≡◌, take}
-use Rattle.stamp_machines.specs.Tally.{tally_of, IsTallied}
+use Rattle.stamp_machines.specs.inner.Tally.{tally_of, IsTallied}
 use Rattle.stamp_machines.proofs.run_whole.run_reported.Given as goal
 
 abbrev pub invariant-loop-thread : goal.invariant-loop-thread

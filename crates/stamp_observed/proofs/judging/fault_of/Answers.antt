@@ -4,7 +4,7 @@ use Rattle.std.specs.List.{AllPairs}
 use Rattle.std.proofs.lemmas.Option.{MatchOption-at_some, MatchOption-at_none}
 use Rattle.stamp_explain.specs.declared.observed.Observation.{Observation}
 use Rattle.stamp_explain.specs.Observed.{DoNotOverlap}
-use Rattle.stamp_observed.specs.ObservedFault.{AreIntervalsTo, IsFirstOverlap}
+use Rattle.stamp_observed.specs.inner.ObservedFault.{AreIntervalsTo, IsFirstOverlap}
 use Rattle.stamp_observed.proofs.Seen.{overlap_fault, interval_fault, no_fault}
 use Rattle.stamp_observed.proofs.judging.fault_of.Goals as goal
 

@@ -2,7 +2,7 @@ use Rattle.std.proofs.Common.{◌≤◌, length, arith, subst}
 use Rattle.std.specs.List.{All}
 use Rattle.std.proofs.lemmas.List.{take_all}
 use Rattle.std.proofs.lemmas.Grind.{common_steps}
-use Rattle.stamp_observed.specs.ProgramValue.{ObservationIsProgramValue}
+use Rattle.stamp_observed.specs.inner.ProgramValue.{ObservationIsProgramValue}
 use Rattle.stamp_observed.specs.ObservedText.{observation_data}
 use Rattle.stamp_history.proofs.ItemByItem.{next_left, all_and_next}
 use Rattle.stamp_history.proofs.ItemsText.{item_written}

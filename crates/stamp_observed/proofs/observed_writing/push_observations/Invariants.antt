@@ -1,7 +1,7 @@
 use Rattle.std.proofs.Common.{◌≡◌, ◌++◌, take}
 use Rattle.std.specs.List.{All}
 use Rattle.serde_json.specs.Written.{compact_text}
-use Rattle.stamp_observed.specs.ProgramValue.{ObservationIsProgramValue}
+use Rattle.stamp_observed.specs.inner.ProgramValue.{ObservationIsProgramValue}
 use Rattle.stamp_observed.specs.ObservedText.{observation_data, observations_data}
 use Rattle.stamp_history.proofs.ItemsText.{items_left}
 use Rattle.stamp_observed.proofs.observed_writing.push_observations.Given as goal

@@ -7,7 +7,7 @@ use Rattle.stamp_explain.specs.declared.observed.Observation.{Observation}
 use Rattle.stamp_explain.specs.Observed.{ObservedHistory, observed_as}
 use Rattle.stamp_history.specs.HistoryText.{after_entries}
 use Rattle.stamp_history.proofs.Appending.{onto}
-use Rattle.stamp_observed.specs.ProgramValue.{ObservationIsProgramValue}
+use Rattle.stamp_observed.specs.inner.ProgramValue.{ObservationIsProgramValue}
 use Rattle.stamp_observed.specs.ObservedText.{observations_data, observed_data}
 use Rattle.stamp_observed.proofs.ObservedParts.{same_observed}
 use Rattle.stamp_observed.proofs.observed_writing.push_observed.Goals as goal

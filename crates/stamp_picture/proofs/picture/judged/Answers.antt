@@ -1,7 +1,7 @@
 use Rattle.std.proofs.Common.{◌∙◌, ◌<◌, length, sym, ap, subst, arith}
 use Rattle.std.proofs.lemmas.Option.{slice_get_within}
 use Rattle.stamp_core.specs.declared.entry.Entry.{Entry}
-use Rattle.stamp_picture.specs.Track.{TellsDue}
+use Rattle.stamp_picture.specs.inner.Track.{TellsDue}
 use Rattle.stamp_picture.proofs.Tracking.{due_at}
 use Rattle.stamp_picture.proofs.picture.judged.Goals as goal
 

@@ -4,7 +4,7 @@ use Rattle.stamp_core.specs.declared.entry.Entry.{Entry}
 use Rattle.stamp_picture.specs.declared.state.State.{State}
 use Rattle.stamp_picture.specs.declared.state.Moment.{Moment}
 use Rattle.stamp_picture.specs.Moment.{state_after, opening_state, moments_of}
-use Rattle.stamp_picture.specs.Track.{IsTrack}
+use Rattle.stamp_picture.specs.inner.Track.{IsTrack}
 use Rattle.stamp_picture.specs.Window.{contains, precedes}
 use Rattle.stamp_picture.proofs.EachInTurn.{taken_more, moments_more, opening_more, kept, left_out, opened, unopened}
 use Rattle.stamp_picture.proofs.picture.ribbon_of.Goals as goal

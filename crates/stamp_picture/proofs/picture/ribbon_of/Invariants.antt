@@ -1,6 +1,6 @@
 use Rattle.std.proofs.Common.{◌≡◌, take}
 use Rattle.stamp_picture.specs.Moment.{moments_of, opening_state}
-use Rattle.stamp_picture.specs.Track.{IsTrack}
+use Rattle.stamp_picture.specs.inner.Track.{IsTrack}
 use Rattle.stamp_picture.proofs.picture.ribbon_of.Given as goal
 
 abbrev pub invariant-loop-entry : goal.invariant-loop-entry

@@ -1,6 +1,6 @@
 use Rattle.std.proofs.Common.{List, sym, subst, take}
 use Rattle.stamp_core.specs.declared.entry.Entry.{Entry}
-use Rattle.stamp_picture.specs.Track.{IsTrack}
+use Rattle.stamp_picture.specs.inner.Track.{IsTrack}
 use Rattle.stamp_picture.proofs.EachInTurn.{taken_more}
 use Rattle.stamp_picture.proofs.picture.track_after.Goals as goal
 

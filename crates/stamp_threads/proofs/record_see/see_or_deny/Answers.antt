@@ -2,7 +2,8 @@ use Rattle.std.proofs.Common.{ap, sym, ◌∙◌, rules}
 use Rattle.stamp_threads.specs.declared.record_view.RecordShape.{RecordShape}
 use Rattle.stamp_threads.specs.Seats.{alone}
 use Rattle.stamp_threads.specs.RecordLog.{puts}
-use Rattle.stamp_threads.specs.RecordPass.{first_of, Seated}
+use Rattle.stamp_threads.specs.RecordPass.{first_of}
+use Rattle.stamp_threads.specs.inner.RecordPass.{Seated}
 use Rattle.stamp_threads.proofs.RecordPromises.{get_goes_on, get_busy_of, see_lost_of, has_seen_of}
 use Rattle.stamp_threads.proofs.RecordPromises.{deny_lost_of, denied_of}
 use Rattle.stamp_threads.proofs.record_see.see_or_deny.Goals as goal

@@ -1,5 +1,6 @@
 use Rattle.std.proofs.Common.{take, ap, arith, length-take-le}
-use Rattle.stamp_threads.specs.RecordPass.{first_of, Seated}
+use Rattle.stamp_threads.specs.RecordPass.{first_of}
+use Rattle.stamp_threads.specs.inner.RecordPass.{Seated}
 use Rattle.stamp_threads.proofs.record_steps.load_all.Goals as goal
 
 pub load_word-requires-clause-loading : goal.load_word-requires-clause-loading

@@ -2,7 +2,7 @@ use Rattle.std.proofs.Common.{◌≡◌, ℕ}
 use Rattle.stamp_threads.specs.declared.record_view.RecordPhase.TheVariants.{Writing}
 use Rattle.stamp_threads.specs.Seats.{alone}
 use Rattle.stamp_threads.specs.RecordPass.{first_of}
-use Rattle.stamp_threads.specs.RecordRule.{with_phase}
+use Rattle.stamp_threads.specs.inner.RecordRule.{with_phase}
 use Rattle.stamp_threads.proofs.record_steps.store_all.Given as goal
 
 abbrev pub invariant-loop-i : goal.invariant-loop-i

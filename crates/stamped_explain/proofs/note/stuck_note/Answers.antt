@@ -2,7 +2,8 @@ use Rattle.std.proofs.Common.{◌≡◌, String, Global}
 use Rattle.std.specs.Prelude.{string_bytes}
 use Rattle.std.proofs.lemmas.Result.{IfOk-weaker}
 use Rattle.stamp_explain.proofs.Replying.{read_at}
-use Rattle.stamped_explain.specs.Note.{IsStuckNote, replies_in, stuck_text}
+use Rattle.stamped_explain.specs.Note.{IsStuckNote, stuck_text}
+use Rattle.stamped_explain.specs.inner.Note.{replies_in}
 use Rattle.stamped_explain.proofs.note.stuck_note.Goals as goal
 
 pub returns : goal.returns

@@ -1,5 +1,6 @@
 use Rattle.std.proofs.Common.{◌≡◌}
-use Rattle.stamped_lock.specs.RecordCalls.{handle_of, Tried}
+use Rattle.stamped_lock.specs.RecordCalls.{Tried}
+use Rattle.stamped_lock.specs.inner.RecordCalls.{handle_of}
 use Rattle.stamped_lock.proofs.record_calls.update.Given as goal
 
 abbrev pub invariant-loop : goal.invariant-loop

@@ -1,6 +1,6 @@
 use Rattle.std.proofs.Common.{◌≡◌, sym, ◌∙◌, subst, Bool, true, false, Some, None}
 use Rattle.std.specs.Prelude.{slice_set}
-use Rattle.stamp_check.specs.Walk.{Advances}
+use Rattle.stamp_check.specs.inner.Walk.{Advances}
 use Rattle.stamp_check.specs.declared.walk.Walk.{Walk}
 use Rattle.stamp_check.proofs.WalkSteps.{breaks_overlap, breaks_lock_reply, breaks_record_reply}
 use Rattle.stamp_check.proofs.WalkSteps.{lock_goes_on, record_goes_on, Follows}

@@ -3,7 +3,7 @@ use Rattle.std.proofs.Common.{◌∙◌, ap, arith}
 use Rattle.std.specs.Prelude.{vec_len}
 use Rattle.stamp_core.specs.declared.entry.Entry.{Entry}
 use Rattle.stamp_machines.specs.World.{stamps_of}
-use Rattle.stamp_machines.specs.Invariant.{Invariant}
+use Rattle.stamp_machines.specs.inner.Invariant.{Invariant}
 use Rattle.stamp_machines.specs.StateFields.{world_at, stamps_at}
 use Rattle.std.proofs.lemmas.Grind.{common_steps}
 use Rattle.std.proofs.lemmas.List.{length-append}

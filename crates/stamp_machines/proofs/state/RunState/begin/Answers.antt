@@ -5,7 +5,8 @@ use Rattle.std.specs.Vec.{with_items}
 use Rattle.std.proofs.lemmas.List.{with_items_is}
 use Rattle.stamp_machines.specs.declared.state.Begun.{Begun}
 use Rattle.stamp_machines.specs.declared.state.Worker.{Worker}
-use Rattle.stamp_machines.specs.World.{World, current, begun_with}
+use Rattle.stamp_machines.specs.World.{World, current}
+use Rattle.stamp_machines.specs.inner.World.{begun_with}
 use Rattle.stamp_machines.specs.StateFields.{stamps_at, begun_in, world_at}
 use Rattle.stamp_machines.proofs.StateSteps.{begun-next}
 use Rattle.stamp_machines.proofs.state.RunState.begin.Goals as goal

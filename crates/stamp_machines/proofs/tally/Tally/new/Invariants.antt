@@ -1,5 +1,5 @@
 use Rattle.std.proofs.Common.{◌≡◌, replicate}
-use Rattle.stamp_machines.specs.Tally.{idle_meter}
+use Rattle.stamp_machines.specs.inner.Tally.{idle_meter}
 use Rattle.stamp_machines.proofs.tally.Tally.new.Given as goal
 
 abbrev pub invariant-loop : goal.invariant-loop

@@ -1,5 +1,6 @@
-use Rattle.stamp_threads.specs.LockPass.{LockPassView, first_of, IsAtSeat}
-use Rattle.stamp_threads.specs.GoesAsMachine.{IsToDecide}
+use Rattle.stamp_threads.specs.LockPass.{LockPassView, first_of}
+use Rattle.stamp_threads.specs.inner.LockPass.{IsAtSeat}
+use Rattle.stamp_threads.specs.inner.GoesAsMachine.{IsToDecide}
 use Rattle.stamp_threads.proofs.running_lock.RunningLock.go_on.Given as goal
 
 abbrev pub ghosts-load : goal.ghosts-load

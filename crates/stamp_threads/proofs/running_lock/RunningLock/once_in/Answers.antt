@@ -2,8 +2,8 @@ use Rattle.std.proofs.Common.{◌≡◌, ◌==◌, false, ◌∙◌, ap, sym, in
 use Rattle.stamp_core.specs.LockDecision.{reply_as}
 use Rattle.stamp_machines.proofs.LockCallSteps.{by_number}
 use Rattle.stamp_threads.specs.LockPass.{LockView, LockToken, first_of}
-use Rattle.stamp_threads.specs.LockRule.{Loaded, Won}
-use Rattle.stamp_threads.specs.GoesAsMachine.{IsToDecide}
+use Rattle.stamp_threads.specs.inner.LockRule.{Loaded, Won}
+use Rattle.stamp_threads.specs.inner.GoesAsMachine.{IsToDecide}
 use Rattle.stamp_threads.proofs.CallSteps.{exchange_won, exchange_lost, never_waits}
 use Rattle.stamp_threads.proofs.GoingAsMachine.{begins, is_made_by_answer, ends_by_answer, is_made_by_change}
 use Rattle.stamp_threads.proofs.GoingAsMachine.{ends_by_change, loses_exchange, goes_to_change}

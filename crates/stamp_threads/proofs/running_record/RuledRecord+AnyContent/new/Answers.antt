@@ -4,7 +4,7 @@ use Rattle.atomic_table.specs.Table.{opening}
 use Rattle.stamp_core.specs.declared.layout.Layout.{Layout}
 use Rattle.stamp_threads.specs.RecordWord.{word_with}
 use Rattle.stamp_threads.specs.RecordPass.{first_pass}
-use Rattle.stamp_threads.specs.RecordRule.{IsKept}
+use Rattle.stamp_threads.specs.inner.RecordRule.{IsKept}
 use Rattle.stamp_threads.proofs.NewRecord.{record_opens}
 use Rattle.stamp_threads.proofs.running_record.RuledRecord+AnyContent.new.Goals as goal
 

@@ -3,7 +3,8 @@ use Rattle.std.proofs.Common.{subst, arith}
 use Rattle.atomic_table.specs.Table.{opening}
 use Rattle.stamp_core.specs.declared.layout.Layout.{Layout}
 use Rattle.stamp_threads.specs.RecordWord.{word_with}
-use Rattle.stamp_threads.specs.RecordRule.{IsKept, opening_pass}
+use Rattle.stamp_threads.specs.RecordRule.{opening_pass}
+use Rattle.stamp_threads.specs.inner.RecordRule.{IsKept}
 use Rattle.stamp_threads.proofs.NewRecord.{opens_holding}
 use Rattle.stamp_threads.proofs.wide_record.WideRecord.of_put.Goals as goal
 

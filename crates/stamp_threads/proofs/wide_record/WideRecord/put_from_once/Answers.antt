@@ -2,7 +2,8 @@ use Rattle.std.proofs.Common.{ℕ, ap, sym, ◌∙◌, ◌+◌, eq-eqb, ne_eqb, 
 use Rattle.stamp_threads.specs.declared.record_view.RecordShape.{RecordShape}
 use Rattle.stamp_threads.specs.RecordWord.{writer_unit}
 use Rattle.stamp_threads.specs.RecordLog.{puts}
-use Rattle.stamp_threads.specs.RecordPass.{first_of, Seated}
+use Rattle.stamp_threads.specs.RecordPass.{first_of}
+use Rattle.stamp_threads.specs.inner.RecordPass.{Seated}
 use Rattle.stamp_threads.proofs.RecordWords.{unit_small}
 use Rattle.stamp_threads.proofs.RecordPromises.{put_goes_on, acquired_word_of, found_small, found_large, held_small}
 use Rattle.stamp_threads.proofs.RecordPromises.{put_busy_of, put_spent_of, put_lost_of, put_made_of}

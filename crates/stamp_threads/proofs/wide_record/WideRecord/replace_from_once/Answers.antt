@@ -1,6 +1,7 @@
 use Rattle.std.proofs.Common.{ℕ, ap, refl, ◌∙◌, ◌+◌, eq-eqb, ne_eqb, arith}
 use Rattle.stamp_threads.specs.RecordLog.{puts}
-use Rattle.stamp_threads.specs.RecordPass.{first_of, Seated}
+use Rattle.stamp_threads.specs.RecordPass.{first_of}
+use Rattle.stamp_threads.specs.inner.RecordPass.{Seated}
 use Rattle.stamp_threads.proofs.RecordWords.{unit_small}
 use Rattle.stamp_threads.proofs.RecordPromises.{stands_free, stands_large, stands_small, stands_held_small}
 use Rattle.stamp_threads.proofs.RecordPromises.{goes_over, none_left, overtaken, held_word, writer_puts, replaced}

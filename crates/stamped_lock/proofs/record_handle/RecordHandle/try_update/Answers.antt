@@ -1,4 +1,4 @@
-use Rattle.stamped_lock.specs.RecordCalls.{handle_of}
+use Rattle.stamped_lock.specs.inner.RecordCalls.{handle_of}
 use Rattle.stamped_lock.proofs.record_handle.RecordHandle.try_update.Goals as goal
 
 pub try_update-requires-clause-callable : goal.try_update-requires-clause-callable

@@ -1,4 +1,4 @@
-use Rattle.stamped_lock.specs.RecordCalls.{handle_of}
+use Rattle.stamped_lock.specs.inner.RecordCalls.{handle_of}
 use Rattle.stamped_lock.proofs.record_handle.RecordHandle.update.Goals as goal
 
 pub update-requires-clause-callable : goal.update-requires-clause-callable

@@ -1,4 +1,4 @@
-use Rattle.stamped_lock.specs.RecordCalls.{handle_of}
+use Rattle.stamped_lock.specs.inner.RecordCalls.{handle_of}
 use Rattle.stamped_lock.proofs.record_handle.RecordHandle.update_once.Goals as goal
 
 pub update_once-requires-clause-callable : goal.update_once-requires-clause-callable

@@ -1,5 +1,5 @@
 use Rattle.std.proofs.Common.{rules, refl}
-use Rattle.stamped_lock.specs.RecordCalls.{handle_of}
+use Rattle.stamped_lock.specs.inner.RecordCalls.{handle_of}
 use Rattle.stamped_lock.proofs.Tries.{put_over, seen_now}
 use Rattle.stamped_lock.proofs.wide_handle.WideHandle.update_lent.Goals as goal
 

@@ -11,7 +11,7 @@ use Rattle.stamp_machines.specs.MachineState.{Stage, OnLock, OnRecord, record_li
 use Rattle.stamp_machines.specs.Script.{Scripted}
 use Rattle.stamp_machines.specs.World.{World, shape_of}
 use Rattle.stamp_machines.specs.declared.state.Begun.{Begun}
-use Rattle.stamp_machines.specs.RecordKept.{RecordCallAt, RecordKept}
+use Rattle.stamp_machines.specs.inner.RecordKept.{RecordCallAt, RecordKept}
 
 -- the record's call that a stage is of
 abbrev pub record_call_at : Stage → Option RecordCallAt

@@ -8,12 +8,13 @@ use Rattle.stamp_core.specs.Transition.{Transition}
 use Rattle.stamp_core.specs.declared.call.Call.{Call}
 use Rattle.stamp_core.specs.declared.reply.Reply.{Reply}
 use Rattle.stamp_machines.specs.LockNumber.{RepresentsAt}
-use Rattle.stamp_threads.specs.PassView.{IsPart, every, knowing, adding, finding}
-use Rattle.stamp_threads.specs.Seats.{AreSeated, alone, both}
+use Rattle.stamp_threads.specs.PassView.{IsPart, every}
+use Rattle.stamp_threads.specs.inner.PassView.{knowing, adding, finding}
+use Rattle.stamp_threads.specs.Seats.{alone}
+use Rattle.stamp_threads.specs.inner.Seats.{AreSeated, both}
 use Rattle.stamp_threads.specs.LockLog.{LockLog, events_after, transition_after, IsLegalLog}
-use Rattle.stamp_threads.specs.LockPass.{LockPassView, Seated, IsConsistentWith, LeavesWord, first_of}
-use Rattle.stamp_threads.specs.LockPass.{HasEntered}
-use Rattle.stamp_threads.specs.LockPass.{second_of}
+use Rattle.stamp_threads.specs.LockPass.{LockPassView, IsConsistentWith, LeavesWord, first_of, HasEntered}
+use Rattle.stamp_threads.specs.inner.LockPass.{Seated, second_of}
 use Rattle.stamp_threads.specs.LockPassesMet.{LockPassesMet}
 
 -- there is one legal history, whose events the word represents; each pass that stands knows a part

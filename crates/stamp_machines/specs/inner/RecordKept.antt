@@ -6,7 +6,8 @@ use Rattle.std.specs.List.{sum_by}
 use Rattle.stamp_core.specs.Limits.{Bounds, units, AreInRange}
 use Rattle.stamp_core.specs.Stamp.{write_stamp, read_stamp}
 use Rattle.stamp_machines.specs.LockNumber.{IsAdmittedAt, counts_at}
-use Rattle.stamp_machines.specs.Job.{Job, content_with, reply_to, new_words, expects, is_get}
+use Rattle.stamp_machines.specs.Job.{Job, new_words, expects, is_get}
+use Rattle.stamp_machines.specs.inner.Job.{content_with, reply_to}
 use Rattle.stamp_machines.specs.RecordStage.{Going, Done, RecordStage, LoadingLock, Copying, Locking}
 use Rattle.stamp_machines.specs.RecordStage.{Reading, Checking, Storing, Releasing, Share}
 use Rattle.stamp_machines.specs.RecordStage.{Leave, Refuse, Upgrade, ReleaseFirst, Claim}

@@ -4,7 +4,7 @@ use Rattle.stamp_core.specs.declared.entry.Entry.{Entry}
 use Rattle.stamp_machines.specs.Script.{Scripted}
 use Rattle.stamp_machines.specs.World.{step, stamps_of}
 use Rattle.stamp_machines.specs.StateFields.{world_at, stamps_at}
-use Rattle.stamp_machines.specs.StepKind.{IsOfKind}
+use Rattle.stamp_machines.specs.inner.StepKind.{IsOfKind}
 use Rattle.stamp_machines.specs.declared.state.RunState.{RunState}
 use Rattle.stamp_machines.specs.declared.state.StepKind.{StepKind}
 

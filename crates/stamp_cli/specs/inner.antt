@@ -1,0 +1,4 @@
+pub mod Results
+pub mod Source
+pub mod Refusal
+pub mod Answer

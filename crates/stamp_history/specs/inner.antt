@@ -1,0 +1,3 @@
+pub mod SmallCall
+pub mod Replay
+pub mod ReplayAnswer

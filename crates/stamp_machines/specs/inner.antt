@@ -1,0 +1,14 @@
+pub mod Job
+pub mod LocalAccess
+pub mod IsLockPhase
+pub mod MachineFields
+pub mod MachineTurn
+pub mod World
+pub mod RecordKept
+pub mod Invariant
+pub mod Tally
+pub mod StateFields
+pub mod StepKind
+pub mod StateStep
+pub mod RecordedRun
+pub mod CompletionsFields

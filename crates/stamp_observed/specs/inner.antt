@@ -1,0 +1,3 @@
+pub mod ObservedFault
+pub mod Span
+pub mod ProgramValue

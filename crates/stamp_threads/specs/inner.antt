@@ -1,0 +1,10 @@
+pub mod PassView
+pub mod Seats
+pub mod LockPass
+pub mod Made
+pub mod LockRule
+pub mod GoesAsMachine
+pub mod RecordWord
+pub mod RecordPass
+pub mod RecordCall
+pub mod RecordRule
