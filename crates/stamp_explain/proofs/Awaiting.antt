@@ -1,9 +1,8 @@
 -- A node at which a return is awaited.
-use Rattle.std.proofs.Common.{◌≡◌, ◌≢◌, ◌⊎◌, ℕ, ◌+◌, ◌-◌, ◌<◌, ◌≤◌, suc, List, [], ◌∷◌}
+use Rattle.std.proofs.Common.{◌≡◌, ◌≢◌, ℕ, ◌+◌, ◌<◌, ◌≤◌, suc, List, [], ◌∷◌}
 use Rattle.std.proofs.Common.{length, get_or, refl, sym, ◌∙◌, ap, subst, inl, inr, arith, None}
 use Rattle.std.proofs.Common.{Option, Some, Vec, Global}
 use Rattle.std.specs.Prelude.{slice_get, take, drop}
-use Rattle.std.proofs.lemmas.List.{take_all, get_or-drop, length-drop}
 use Rattle.std.specs.List.{Contains}
 use Rattle.std.specs.Int.{bit_at}
 use Rattle.std.proofs.Math.Seq.{take-suc, drop-cons}
@@ -25,8 +24,8 @@ use Rattle.stamp_explain.proofs.Finding.{ArePending, not_before_itself}
 use Rattle.stamp_explain.proofs.Completing.{IsAwaited}
 use Rattle.stamp_explain.proofs.Searching.{CompletesIn}
 use Rattle.stamp_explain.proofs.Standing.{taken_by_bit, taken_past}
-use Rattle.stamp_explain.proofs.Expanding.{orderly, next_awaited, in_take}
-use Rattle.stamp_explain.proofs.Lists.{none_in_empty, contains_cases, contains_first}
+use Rattle.stamp_explain.proofs.Expanding.{orderly, next_awaited}
+use Rattle.stamp_explain.proofs.Lists.{none_in_empty, contains_cases, contains_first, contains_split}
 use Rattle.stamp_explain.proofs.Lists.{pairs_drop}
 
 -- what is known of a node whose return is awaited
@@ -116,11 +115,10 @@ pub alone : (w : Next) → Contains (w ∷ []) w
 alone w = contains_first w [] w refl
 
 pub only_one : (w v : Next) → Contains (w ∷ []) v → w ≡ v
-only_one w v has = by (contains_cases w [] v has)
-  where
-    by : (w ≡ v) ⊎ Contains [] v → w ≡ v
-    by (inl same) = same
-    by (inr none) = absurd (none_in_empty v none)
+only_one w v has = elim (contains_cases w [] v has) [
+  | inl same ↦ same
+  | inr none ↦ absurd (none_in_empty v none)
+]
 
 -- a return is past
 abbrev pub past_of : Node → ℕ → Next
@@ -164,39 +162,16 @@ leads_past is bit clears = record {
   };
 }
 
--- what is behind so many of a list is in the rest
-pub in_drop : (xs : List ℕ) (n k j : ℕ) → n ≤ k → k < length xs → get_or xs k j ≡ j → Contains (drop n xs) j
-in_drop xs n k j le lt is =
-    let back : n + (k - n) ≡ k = omega (arith, le) in
-    let inside : k - n < length (drop n xs) = omega (arith, le, lt, length-drop n xs) in
-    (k - n, inside, get_or-drop n xs (k - n) j ∙ ap (λ (m : ℕ). get_or xs m j) back ∙ is)
-
 -- a call that returned and is not in effect is yet to return
 pub due : {h : ObservedHistory} {timeline : Timeline} {node : Node} {s : LockState} {taken : List ℕ} (j : ℕ)
     (e : Observation) → IsTimeline h timeline → StandsFor h timeline.returns.items node s taken →
     slice_get h.entries j ≡ Some e → HasReturned e → ¬ Contains taken j → Contains
     (drop node.past timeline.returns.items) j
-due {timeline} {node} j e is stands at returned misses = by (is.are.whole j e at returned)
-  where
-    which : (k n : ℕ) → (k < n) ⊎ (n ≤ k)
-    which k n = grind arith
-
-    few : (n m : ℕ) → (n ≤ m) ⊎ (m < n)
-    few n m = grind arith
-
-    by : Contains timeline.returns.items j → Contains (drop node.past timeline.returns.items) j
-    by (k, lt, at) = side (which k node.past)
-      where
-        side : (k < node.past) ⊎ (node.past ≤ k) → Contains (drop node.past timeline.returns.items) j
-        side (inl less) = absurd (misses (stands.in_effect.all_past j (past (few node.past
-            (length timeline.returns.items)))))
-          where
-            past : (node.past ≤ length timeline.returns.items) ⊎ (length timeline.returns.items < node.past) →
-                Contains (take node.past timeline.returns.items) j
-            past (inl le) = in_take timeline.returns.items node.past k j less le at
-            past (inr over) = subst (λ (xs : List ℕ). Contains xs j) (sym (take_all node.past timeline.returns.items
-                (omega (arith, over)))) (k, lt, at)
-        side (inr le) = in_drop timeline.returns.items node.past k j le lt at
+due {timeline} {node} j e is stands at returned misses =
+    elim (contains_split timeline.returns.items node.past j (is.are.whole j e at returned)) [
+      | inl past ↦ absurd (misses (stands.in_effect.all_past j past))
+      | inr later ↦ later
+    ]
 
 -- the calls that have returned and are not in effect are those whose returns are to come
 pub pending : (h : ObservedHistory) (timeline : Timeline) (node : Node) (s : LockState) (taken : List ℕ) →

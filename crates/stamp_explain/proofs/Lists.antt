@@ -1,10 +1,10 @@
 -- Lists by their first element.
-use Rattle.std.proofs.Common.{◌≡◌, ◌≢◌, ◌⊎◌, ℕ, ◌<◌, zero, suc, List, [], ◌∷◌, ◌++◌, length, get_or, inl, inr, arith}
+use Rattle.std.proofs.Common.{◌≡◌, ◌⊎◌, ℕ, ◌<◌, zero, suc, List, [], ◌∷◌, ◌++◌, length, get_or, inl, inr, arith}
 use Rattle.std.proofs.Common.{subst, ap, ◌∙◌, map, refl, Bool, true, false}
 use Rattle.std.proofs.lemmas.List.{get_or-map, get_or_append_left, length-append, length-map}
 use Rattle.std.proofs.lemmas.List.Elements.{Contains-push_cases, All-nil, All-cons, All-head, All-map, All-tail}
 use Rattle.std.proofs.lemmas.Bool.{cases_eq}
-use Rattle.std.specs.Prelude.{drop, filter, cond}
+use Rattle.std.specs.Prelude.{take, drop, filter, cond}
 use Rattle.std.specs.List.{All, AllPairs, AllZip, Contains}
 
 pub none_in_empty : {X : Type 0} (x : X) → ¬ Contains [] x
@@ -34,6 +34,19 @@ contains_from_map f (x ∷ xs) y has = elim (contains_cases (f x) (map f xs) y h
   | inr rest ↦
       let found = contains_from_map f xs y rest in
       (found.0, (contains_rest x xs found.0 found.1.0, found.1.1))
+]
+
+-- an element of a list is among its first so many or behind them
+pub contains_split : {X : Type 0} (xs : List X) (n : ℕ) (x : X) → Contains xs x →
+    Contains (take n xs) x ⊎ Contains (drop n xs) x
+contains_split xs zero x has = inr has
+contains_split [] (suc n) x has = inr has
+contains_split (y ∷ xs) (suc n) x has = elim (contains_cases y xs x has) [
+  | inl same ↦ inl (contains_first y (take n xs) x same)
+  | inr later ↦ elim (contains_split xs n x later) [
+    | inl among ↦ inl (contains_rest y (take n xs) x among)
+    | inr behind ↦ inr behind
+  ]
 ]
 
 pub contains_filter : {X : Type 0} (p : X → Bool) (xs : List X) (x : X) → Contains xs x → p x ≡ true →
@@ -75,11 +88,10 @@ pairs_none R i j d lt within = absurd (omega arith)
 
 pub each_push : {X : Type 0} (P : X → Type 0) (xs : List X) (x : X) → ((y : X) → Contains xs y → P y) → P x →
     (y : X) → Contains (xs ++ x ∷ []) y → P y
-each_push P xs x each it y has = by (Contains-push_cases xs x y has)
-  where
-    by : Contains xs y ⊎ (x ≡ y) → P y
-    by (inl was) = each y was
-    by (inr same) = subst P same it
+each_push P xs x each it y has = elim (Contains-push_cases xs x y has) [
+  | inl was ↦ each y was
+  | inr same ↦ subst P same it
+]
 
 pub pairs_drop : {X : Type 0} (R : X → X → Type 0) (n : ℕ) (xs : List X) → AllPairs R xs → AllPairs R (drop n xs)
 pairs_drop R zero xs all = all
@@ -127,13 +139,10 @@ pairs_map R Q E f (x ∷ xs) step each all =
 -- whether a number is in a list
 pub either_in : (xs : List ℕ) (i : ℕ) → Contains xs i ⊎ (¬ Contains xs i)
 either_in [] i = inr (none_in_empty i)
-either_in (x ∷ xs) i = by (cases_eq x i) (either_in xs i)
-  where
-    by : (x ≡ i) ⊎ (x ≢ i) → Contains xs i ⊎ (¬ Contains xs i) → Contains (x ∷ xs) i ⊎ (¬ Contains (x ∷ xs) i)
-    by (inl e) _ = inl (contains_first x xs i e)
-    by (inr ne) (inl has) = inl (contains_rest x xs i has)
-    by (inr ne) (inr misses) = inr (λ has. neither (contains_cases x xs i has))
-      where
-        neither : (x ≡ i) ⊎ Contains xs i → ⊥
-        neither (inl e) = ne e
-        neither (inr has) = misses has
+either_in (x ∷ xs) i = elim (cases_eq x i) [
+  | inl same ↦ inl (contains_first x xs i same)
+  | inr other ↦ elim (either_in xs i) [
+    | inl has ↦ inl (contains_rest x xs i has)
+    | inr misses ↦ inr (λ has. elim (contains_cases x xs i has) [ inl same ↦ other same | inr later ↦ misses later ])
+  ]
+]

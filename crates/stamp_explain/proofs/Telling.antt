@@ -1,11 +1,12 @@
 -- What an observer may tell, entry by entry.
-use Rattle.std.proofs.Common.{◌≡◌, ◌⊎◌, ℕ, ◌+◌, ◌<◌, ◌≤◌, length, get_or, sym, ◌∙◌, subst, inl, inr, arith}
+use Rattle.std.proofs.Common.{◌≡◌, ℕ, ◌+◌, ◌<◌, ◌≤◌, length, get_or, sym, ◌∙◌, inl, inr, arith}
 use Rattle.std.proofs.Common.{length-take-le}
 use Rattle.std.specs.Prelude.{take}
 use Rattle.std.specs.List.{All}
 use Rattle.std.proofs.lemmas.List.{get_or-take, get_or_default}
 use Rattle.stamp_explain.specs.declared.observed.Observation.{Observation}
 use Rattle.stamp_explain.specs.Observed.{ObservedHistory, IsObserved, MayBeTold, DoNotOverlap}
+use Rattle.stamp_explain.proofs.Ending.{earlier_or_last}
 
 -- of each entry below k
 pub record AreSoundBelow (h : ObservedHistory) (k : ℕ) : Type 0 where
@@ -16,46 +17,36 @@ pub one_below : (h : ObservedHistory) (k : ℕ) (e : Observation) → k < length
     AreSoundBelow h k → MayBeTold h.width e → All (λ (other : Observation). DoNotOverlap other e) (take k h.entries) →
     AreSoundBelow h (k + 1)
 one_below h k e within read below sound apart = record {
-  alone = λ i d lt. alone i d (cases i lt);
-  apart = λ i j d lt less. pair i j d lt (cases j less);
+  alone = λ i d lt. elim (earlier_or_last i k lt) [
+    | inl sooner ↦ below.alone i d sooner
+    | inr same ↦ rw (same, sym (here d)) sound
+  ];
+  apart = λ i j d lt less. elim (earlier_or_last j k less) [
+    | inl sooner ↦ below.apart i j d lt sooner
+    | inr same ↦
+        let le : k ≤ length h.entries = omega (arith, within) in
+        let before : i < k = omega (arith, lt, same) in
+        let taken : i < length (take k h.entries) = omega (arith, before, length-take-le k h.entries le) in
+        rw (same, sym (here d), sym (get_or-take k h.entries i d before)) (apart i d taken)
+  ];
 }
   where
-    cases : (i : ℕ) → i < k + 1 → (i < k) ⊎ (i ≡ k)
-    cases i lt = grind arith
-
     here : (d : Observation) → e ≡ get_or h.entries k d
     here d = read ∙ get_or_default h.entries k e d within
-
-    alone : (i : ℕ) (d : Observation) → (i < k) ⊎ (i ≡ k) → MayBeTold h.width (get_or h.entries i d)
-    alone i d (inl less) = below.alone i d less
-    alone i d (inr same) =
-        subst (λ (n : ℕ). MayBeTold h.width (get_or h.entries n d)) (sym same)
-        (subst (MayBeTold h.width) (here d) sound)
-
-    pair : (i j : ℕ) (d : Observation) → i < j → (j < k) ⊎ (j ≡ k) → DoNotOverlap (get_or h.entries i d)
-        (get_or h.entries j d)
-    pair i j d lt (inl less) = below.apart i j d lt less
-    pair i j d lt (inr same) =
-        let sooner : i < k = omega (arith, lt, same) in
-        let le : k ≤ length h.entries = omega (arith, within) in
-        let taken : i < length (take k h.entries) = omega (arith, sooner, length-take-le k h.entries le) in
-        subst (λ (n : ℕ). DoNotOverlap (get_or h.entries i d) (get_or h.entries n d)) (sym same)
-        (subst (λ (o : Observation). DoNotOverlap (get_or h.entries i d) o) (here d)
-        (subst (λ (o : Observation). DoNotOverlap o e) (get_or-take k h.entries i d sooner) (apart i d taken)))
 
 -- an entry that breaks something
 pub not_alone : (h : ObservedHistory) (k : ℕ) (e : Observation) → k < length h.entries → e ≡ get_or h.entries k e →
     ¬ MayBeTold h.width e → ¬ IsObserved h
-not_alone h k e within read refuted is = refuted (subst (λ (o : Observation). MayBeTold h.width o) (sym read) both)
-  where
-    both : MayBeTold h.width (get_or h.entries k e)
-    both = record { interval = is.intervals k e within; thread = is.threads k e within; suits = is.suit k e within }
+not_alone h k e within read refuted is = refuted (rw read (record {
+  interval = is.intervals k e within;
+  thread = is.threads k e within;
+  suits = is.suit k e within;
+}))
 
 pub not_apart : (h : ObservedHistory) (k : ℕ) (e : Observation) → k < length h.entries → e ≡ get_or h.entries k e →
     ¬ All (λ (other : Observation). DoNotOverlap other e) (take k h.entries) → ¬ IsObserved h
 not_apart h k e within read refuted is = refuted (λ i d lt.
     let le : k ≤ length h.entries = omega (arith, within) in
     let sooner : i < k = omega (arith, lt, length-take-le k h.entries le) in
-    subst (λ (o : Observation). DoNotOverlap o e) (sym (get_or-take k h.entries i d sooner))
-    (subst (λ (o : Observation). DoNotOverlap (get_or h.entries i d) o)
-    (sym (read ∙ get_or_default h.entries k e d within)) (is.apart i k d sooner within)))
+    rw (get_or-take k h.entries i d sooner, read ∙ get_or_default h.entries k e d within)
+    (is.apart i k d sooner within))
