@@ -18,8 +18,6 @@ TOP = os.path.join(os.path.dirname(os.path.abspath(__file__)), "..", "..")
 PAGE = "docs/BELIEVE.md"
 # Between backticks this page offers definitions of this crate to contracts that a user writes.
 USING, USED = "docs/USING.md", "stamped_lock"
-# The crates whose definitions that no public contract reaches don't lie apart yet.
-NOT_MOVED = {"stamp_explain"}
 BEGIN, END = "<!-- written by tests/pages/believe.py -->", "<!-- end -->"
 PROMISES = [
     ("The sequential lock", [("stamp_core", "decide"), ("stamp_core", "transition")]),
@@ -486,7 +484,7 @@ def offered():
 
 def misplaced(contracts, items):
     """What is to be moved: what contracts reach of `specs/inner`, and what none reaches outside of it."""
-    for item in in_order(it for it in ITEMS.values() if is_definition(it) and it.crate not in NOT_MOVED):
+    for item in in_order(it for it in ITEMS.values() if is_definition(it)):
         folder, file = os.path.split(item.path)
         inner = f"crates/{item.crate}/specs/inner"
         if item not in items and folder != inner:
@@ -535,8 +533,7 @@ def by_crate(items):
     yield from ["## Reached and not reached", "",
                 "The definitions, and how many of them any public contract reaches, laws among them, or "
                 "[USING](USING.md) offers to a user's. The others are for private contracts and proofs alone, and lie "
-                "apart, in `specs/inner`" + "".join(f" (in `{it}` not yet)" for it in sorted(NOT_MOVED)) +
-                ". In a program all that its modules share is public. Tests don't count.", "",
+                "apart, in `specs/inner`. In a program all that its modules share is public. Tests don't count.", "",
                 "| Crate | Definitions | Reached | Not reached |", "|---|---|---|---|"]
     total = []
     for crate in CRATES:

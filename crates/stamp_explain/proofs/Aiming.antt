@@ -6,8 +6,8 @@ use Rattle.stamp_core.specs.declared.reply.Reply.{Reply}
 use Rattle.stamp_explain.specs.declared.node.Node.{Node}
 use Rattle.stamp_explain.specs.declared.timeline.Timeline.{Timeline}
 use Rattle.stamp_explain.specs.Observed.{ObservedHistory, IsObserved}
-use Rattle.stamp_explain.specs.Asking.{AreMore, IsAim}
-use Rattle.stamp_explain.specs.Expand.{MayGoOn}
+use Rattle.stamp_explain.specs.inner.Asking.{AreMore, IsAim}
+use Rattle.stamp_explain.specs.inner.Expand.{MayGoOn}
 use Rattle.stamp_explain.proofs.Answering.{AreAlike, alike_itself, alike_with_reply, settled_alike, timeline_alike}
 use Rattle.stamp_explain.proofs.Awaiting.{AwaitsOne, awaits_one}
 use Rattle.stamp_explain.proofs.Replying.{replied_is_observed}

@@ -15,7 +15,7 @@ use Rattle.stamp_explain.specs.Possible.{ArePossible, AreAllPossible, GetsBeside
 use Rattle.stamp_explain.specs.Possible.{IsUndecidedAtReply, IsUndecidedAtSome, IsUndecidedWithout, returned_with}
 use Rattle.stamp_explain.specs.Possible.{with_reply}
 use Rattle.stamp_explain.specs.Configuration.{ReachesMoreBeside}
-use Rattle.stamp_explain.specs.Asking.{AreReplies, AreRepliesAt, Gets}
+use Rattle.stamp_explain.specs.inner.Asking.{AreReplies, AreRepliesAt, Gets}
 use Rattle.stamp_explain.proofs.Replying.{possible_is_seen}
 use Rattle.stamp_explain.proofs.Expanding.{at_index}
 use Rattle.stamp_explain.proofs.Seeing.{seen_explains_as_much}

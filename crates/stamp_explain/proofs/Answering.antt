@@ -21,13 +21,11 @@ use Rattle.stamp_explain.specs.declared.timeline.Timeline.{Timeline}
 use Rattle.stamp_explain.specs.Observed.{ObservedHistory, HasReturned, IsReturnAt}
 use Rattle.stamp_explain.specs.Explained.{Effect}
 use Rattle.stamp_explain.specs.Search.{LockState, StateTransition, MayTake, AreReturns, ReturnsNoLater}
-use Rattle.stamp_explain.specs.Node.{IsFirstLeft, HasFirstLeft, AreTaken, IsStateBy, StandsFor, words_put, words_put_at}
-use Rattle.stamp_explain.specs.Node.{content_by}
-use Rattle.stamp_explain.specs.Node.{IsFirstNode}
-use Rattle.stamp_explain.specs.Timeline.{IsTimeline, IsOpenAt, AreOpen}
-use Rattle.stamp_explain.specs.Expand.{IsTakeOf, Takes}
-use Rattle.stamp_explain.specs.Expand.{ComesByReturn, IsSettled, PassesTo}
-use Rattle.stamp_explain.specs.Expand.PassesTo.{passes_none, passes_more}
+use Rattle.stamp_explain.specs.inner.Node.{IsFirstLeft, HasFirstLeft, AreTaken, IsStateBy, StandsFor, words_put}
+use Rattle.stamp_explain.specs.inner.Node.{words_put_at, content_by, IsFirstNode}
+use Rattle.stamp_explain.specs.inner.Timeline.{IsTimeline, IsOpenAt, AreOpen}
+use Rattle.stamp_explain.specs.inner.Expand.{IsTakeOf, Takes, ComesByReturn, IsSettled, PassesTo}
+use Rattle.stamp_explain.specs.inner.Expand.PassesTo.{passes_none, passes_more}
 use Rattle.stamp_explain.specs.Possible.{with_reply, returned_with}
 use Rattle.stamp_explain.proofs.Replying.{IsAlike, IsAlikeBy, alike_self, alike_answering, alike_before, each_alike}
 

@@ -15,11 +15,10 @@ use Rattle.stamp_explain.specs.declared.timeline.Timeline.{Timeline}
 use Rattle.stamp_explain.specs.Observed.{ObservedHistory, IsObserved, HasReturned, IsReturnAt}
 use Rattle.stamp_explain.specs.Search.{AreInOrder, LockState, StateTransition}
 use Rattle.stamp_explain.specs.Configuration.{IsTried}
-use Rattle.stamp_explain.specs.Node.{IsFirstLeft, AreTaken, StandsFor}
-use Rattle.stamp_explain.specs.Timeline.{IsTimeline, IsAwaitedAt, IsOpenAt, AreOpen}
-use Rattle.stamp_explain.specs.Node.{ClearsBit}
-use Rattle.stamp_explain.specs.Expand.{Hope, GoesOn, ComesByOneMove, ComesByMove, IsTakenTo}
-use Rattle.stamp_explain.specs.Expand.{IsSettled}
+use Rattle.stamp_explain.specs.inner.Node.{IsFirstLeft, AreTaken, StandsFor}
+use Rattle.stamp_explain.specs.inner.Timeline.{IsTimeline, IsAwaitedAt, IsOpenAt, AreOpen}
+use Rattle.stamp_explain.specs.inner.Node.{ClearsBit}
+use Rattle.stamp_explain.specs.inner.Expand.{Hope, GoesOn, ComesByOneMove, ComesByMove, IsTakenTo, IsSettled}
 use Rattle.stamp_explain.proofs.Finding.{ArePending, not_before_itself}
 use Rattle.stamp_explain.proofs.Completing.{IsAwaited}
 use Rattle.stamp_explain.proofs.Searching.{CompletesIn}

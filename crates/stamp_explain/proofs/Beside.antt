@@ -18,10 +18,10 @@ use Rattle.stamp_explain.specs.declared.timeline.Timeline.{Timeline}
 use Rattle.stamp_explain.specs.Observed.{ObservedHistory, IsBefore, AllowsReply, IsReturnAt}
 use Rattle.stamp_explain.specs.Cut.{begun_by}
 use Rattle.stamp_explain.specs.Search.{LockState, StateTransition, after_call}
-use Rattle.stamp_explain.specs.Node.{IsStateBy, IsTransitionOf}
+use Rattle.stamp_explain.specs.inner.Node.{IsStateBy, IsTransitionOf}
 use Rattle.stamp_explain.specs.Possible.{returned_with}
-use Rattle.stamp_explain.specs.Asking.{Adds, AreMore, Gets, GetsMore, HasOther}
-use Rattle.stamp_explain.specs.Expand.{IsAskedAt, IsTakeOf, MayGoOn}
+use Rattle.stamp_explain.specs.inner.Asking.{Adds, AreMore, Gets, GetsMore, HasOther}
+use Rattle.stamp_explain.specs.inner.Expand.{IsAskedAt, IsTakeOf, MayGoOn}
 use Rattle.stamp_explain.proofs.Replying.{IsAlike, alike_before}
 use Rattle.stamp_explain.proofs.Answering.{AreAlike, there, turned, at_alike}
 use Rattle.stamp_explain.proofs.Aiming.{aim_alike}

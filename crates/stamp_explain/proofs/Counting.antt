@@ -9,7 +9,7 @@ use Rattle.stamp_explain.specs.declared.node.Node.{Node}
 use Rattle.stamp_explain.specs.Observed.{ObservedHistory}
 use Rattle.stamp_explain.specs.Search.{LockState}
 use Rattle.stamp_explain.specs.Configuration.{Configuration, AreOne}
-use Rattle.stamp_explain.specs.Node.{HasFirstLeft, StandsFor, IsReached}
+use Rattle.stamp_explain.specs.inner.Node.{HasFirstLeft, StandsFor, IsReached}
 use Rattle.stamp_explain.proofs.Standing.{taken_by_bit}
 
 -- the configuration that a node stands for

@@ -14,10 +14,10 @@ use Rattle.stamp_explain.specs.declared.node.Waiting.{Waiting}
 use Rattle.stamp_explain.specs.declared.store.Store.{Store}
 use Rattle.stamp_explain.specs.Observed.{ObservedHistory}
 use Rattle.stamp_explain.specs.Configuration.{Configuration, GoesOnFrom, MovesOn}
-use Rattle.stamp_explain.specs.Node.{IsFirstNode, IsReached}
-use Rattle.stamp_explain.specs.Store.{Keeps, BeginsWith}
-use Rattle.stamp_explain.specs.Asking.{AreMore, IsAim}
-use Rattle.stamp_explain.specs.Expand.{Hope, GoesOn, Suffice, ComesNext, Expands, LooksAt, waiting_from}
+use Rattle.stamp_explain.specs.inner.Node.{IsFirstNode, IsReached}
+use Rattle.stamp_explain.specs.inner.Store.{Keeps, BeginsWith}
+use Rattle.stamp_explain.specs.inner.Asking.{AreMore, IsAim}
+use Rattle.stamp_explain.specs.inner.Expand.{Hope, GoesOn, Suffice, ComesNext, Expands, LooksAt, waiting_from}
 use Rattle.stamp_explain.proofs.AddingNew.{read_left, read_right, read_last, read_push, read_both, read_map, map_read}
 use Rattle.stamp_explain.proofs.AddingNew.{at_contains, contains_at}
 use Rattle.stamp_explain.proofs.Counting.{configuration_of}

@@ -20,7 +20,7 @@ use Rattle.stamp_explain.specs.declared.observed.Observation.{Observation}
 use Rattle.stamp_explain.specs.declared.observed.Returned.{Returned}
 use Rattle.stamp_explain.specs.Observed.{IsReturnAt}
 use Rattle.stamp_explain.specs.Search.{AreReturns, AreInOrder}
-use Rattle.stamp_explain.specs.TimelineKeys.{AreListedKeys, AreReturnKeys, IsReturnKey, IsSooner, key_indices}
+use Rattle.stamp_explain.specs.inner.TimelineKeys.{AreListedKeys, AreReturnKeys, IsReturnKey, IsSooner, key_indices}
 use Rattle.stamp_explain.proofs.Lists.{contains_map, each_push, pairs_map}
 
 pub earlier_or_last : (i k : ℕ) → i < k + 1 → (i < k) ⊎ (i ≡ k)

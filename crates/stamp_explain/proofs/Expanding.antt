@@ -26,10 +26,10 @@ use Rattle.stamp_explain.specs.Observed.{ObservedHistory, IsObserved, IsBefore, 
 use Rattle.stamp_explain.specs.Observed.{AllowsReply}
 use Rattle.stamp_explain.specs.Explained.{Effect}
 use Rattle.stamp_explain.specs.Search.{LockState, StateTransition, MayTake, AreReturns, after_call}
-use Rattle.stamp_explain.specs.Node.{IsFirstLeft, AreTaken, StandsFor, Does, IsTransitionOf}
-use Rattle.stamp_explain.specs.Timeline.{IsOpenAt, IsAwaitedAt}
-use Rattle.stamp_explain.specs.Node.{SetsBit}
-use Rattle.stamp_explain.specs.Expand.{Takes}
+use Rattle.stamp_explain.specs.inner.Node.{IsFirstLeft, AreTaken, StandsFor, Does, IsTransitionOf}
+use Rattle.stamp_explain.specs.inner.Timeline.{IsOpenAt, IsAwaitedAt}
+use Rattle.stamp_explain.specs.inner.Node.{SetsBit}
+use Rattle.stamp_explain.specs.inner.Expand.{Takes}
 use Rattle.stamp_explain.proofs.Finding.{no_later, has_returned, not_before_itself}
 use Rattle.stamp_explain.proofs.Standing.{AreOrderly, taken_by_bit, taken_more}
 

@@ -12,7 +12,7 @@ use Rattle.stamp_explain.specs.Explained.{Effect, IsExplained, IsExplainedBy, hi
 use Rattle.stamp_explain.specs.Search.{StateTransition, CanComplete, IsCompletedBy, AreReturns, first_state}
 use Rattle.stamp_explain.specs.Configuration.{Reaches}
 use Rattle.stamp_explain.specs.Configuration.Reaches.{begins}
-use Rattle.stamp_explain.specs.Node.{AreTaken, IsFirstNode, StandsFor, IsReached}
+use Rattle.stamp_explain.specs.inner.Node.{AreTaken, IsFirstNode, StandsFor, IsReached}
 use Rattle.stamp_explain.proofs.Lists.{none_in_empty}
 use Rattle.stamp_explain.specs.ExplainLaws.{JustInTime}
 use Rattle.stamp_explain.proofs.Finding.{IsSoundReturn, completes, finds, legal_runs, runs_legal, sound_return}

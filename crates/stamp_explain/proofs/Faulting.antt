@@ -12,10 +12,11 @@ use Rattle.stamp_explain.specs.declared.observed.Returned.{Returned}
 use Rattle.stamp_explain.specs.Observed.{ObservedHistory, IsObserved, IsReturnAt}
 use Rattle.stamp_explain.specs.Explained.{IsExplained}
 use Rattle.stamp_explain.specs.Cut.{cut_entry, cut_entries, returned_by, cut, seen_at, IsStuck}
-use Rattle.stamp_explain.specs.TimelineKeys.{IsSooner, AreReturnKeys, IsReturnKey}
+use Rattle.stamp_explain.specs.inner.TimelineKeys.{IsSooner, AreReturnKeys, IsReturnKey}
 use Rattle.stamp_explain.specs.Configuration.{GivesUpApart}
-use Rattle.stamp_explain.specs.Linearization.{IsLinearizationOf}
-use Rattle.stamp_explain.specs.Answer.{IsUndecided, IsLastOrGivesUp, IsUnexplained, IsNotFound}
+use Rattle.stamp_explain.specs.inner.Linearization.{IsLinearizationOf}
+use Rattle.stamp_explain.specs.Answer.{IsUndecided, IsLastOrGivesUp, IsUnexplained}
+use Rattle.stamp_explain.specs.inner.Answer.{IsNotFound}
 use Rattle.stamp_explain.proofs.Lists.{none_in_empty}
 use Rattle.stamp_explain.proofs.Cutting.{cuts_stay_explained, explained_by_none}
 use Rattle.stamp_explain.proofs.Seeing.{seen_explains_as_much}

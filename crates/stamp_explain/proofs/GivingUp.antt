@@ -22,13 +22,13 @@ use Rattle.stamp_explain.specs.Search.{LockState, StateTransition, IsCompletedBy
 use Rattle.stamp_explain.specs.Configuration.{AreOne, IsSettledAt, Configuration, GoesOnFrom, IsAlive, IsBeginning}
 use Rattle.stamp_explain.specs.Configuration.{IsTried, MovesFromOne, Reaches, ReachedMore, ReachesMoreBeside}
 use Rattle.stamp_explain.specs.Configuration.Reaches.{begins, goes_past, goes_on_by}
-use Rattle.stamp_explain.specs.Node.{IsFirstNode, IsFirstLeft, IsReached}
-use Rattle.stamp_explain.specs.Timeline.{IsTimeline}
-use Rattle.stamp_explain.specs.Linearization.{IsLastNode}
-use Rattle.stamp_explain.specs.Asking.{AreGotten, Gets, GetsMore, AreMore, IsAim}
-use Rattle.stamp_explain.specs.Expand.{AreLinked, ComesNext, Expands, HasGivenUp, Hope, IsLinkedAt, IsSettled}
-use Rattle.stamp_explain.specs.Expand.{LooksAt, MayGoOn, waiting_from}
-use Rattle.stamp_explain.specs.Store.{BeginsWith}
+use Rattle.stamp_explain.specs.inner.Node.{IsFirstNode, IsFirstLeft, IsReached}
+use Rattle.stamp_explain.specs.inner.Timeline.{IsTimeline}
+use Rattle.stamp_explain.specs.inner.Linearization.{IsLastNode}
+use Rattle.stamp_explain.specs.inner.Asking.{AreGotten, Gets, GetsMore, AreMore, IsAim}
+use Rattle.stamp_explain.specs.inner.Expand.{AreLinked, ComesNext, Expands, HasGivenUp, Hope, IsLinkedAt, IsSettled}
+use Rattle.stamp_explain.specs.inner.Expand.{LooksAt, MayGoOn, waiting_from}
+use Rattle.stamp_explain.specs.inner.Store.{BeginsWith}
 use Rattle.stamp_explain.proofs.Lists.{contains_cases, none_in_empty, pairs_none}
 use Rattle.stamp_explain.proofs.AddingNew.{map_read, read_map}
 use Rattle.stamp_explain.proofs.Answering.{AreAlike, opening_alike, returns_alike}

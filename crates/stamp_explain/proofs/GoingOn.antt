@@ -11,9 +11,9 @@ use Rattle.stamp_explain.specs.declared.node.Node.{Node}
 use Rattle.stamp_explain.specs.declared.node.Next.{Next}
 use Rattle.stamp_explain.specs.Observed.{ObservedHistory}
 use Rattle.stamp_explain.specs.Configuration.{Configuration, GoesOnFrom, MovesOn}
-use Rattle.stamp_explain.specs.Node.{AreTaken, IsFirstLeft, IsReached}
-use Rattle.stamp_explain.specs.Expand.{ComesByMove, ComesNext, PassesTo, ComesByReturn}
-use Rattle.stamp_explain.specs.Expand.PassesTo.{passes_none, passes_more}
+use Rattle.stamp_explain.specs.inner.Node.{AreTaken, IsFirstLeft, IsReached}
+use Rattle.stamp_explain.specs.inner.Expand.{ComesByMove, ComesNext, PassesTo, ComesByReturn}
+use Rattle.stamp_explain.specs.inner.Expand.PassesTo.{passes_none, passes_more}
 use Rattle.stamp_explain.proofs.Lists.{contains_first}
 use Rattle.stamp_explain.proofs.Leading.{come, come_less, reached_past, reached_by}
 use Rattle.stamp_explain.proofs.Counting.{configuration_of}

@@ -12,9 +12,9 @@ use Rattle.stamp_explain.specs.Explained.{Effect}
 use Rattle.stamp_explain.specs.Search.{LockState, StateTransition, IsCompletedBy}
 use Rattle.stamp_explain.specs.Configuration.{Reaches, put_after}
 use Rattle.stamp_explain.specs.Configuration.Reaches.{goes_past, goes_on_by}
-use Rattle.stamp_explain.specs.Node.{StandsFor, IsReached}
-use Rattle.stamp_explain.specs.Expand.{ComesByOneMove, ComesByCall, ComesByReturn, IsLed}
-use Rattle.stamp_explain.specs.Linearization.{ordered_calls, RepliesAt}
+use Rattle.stamp_explain.specs.inner.Node.{StandsFor, IsReached}
+use Rattle.stamp_explain.specs.inner.Expand.{ComesByOneMove, ComesByCall, ComesByReturn, IsLed}
+use Rattle.stamp_explain.specs.inner.Linearization.{ordered_calls, RepliesAt}
 use Rattle.stamp_explain.proofs.Completing.{completed_by_none, before_return, puts_first}
 use Rattle.stamp_explain.proofs.Finding.{ArePending, first_of_pending, past_pending, taken_pending}
 use Rattle.stamp_explain.proofs.Expanding.{one_reply}

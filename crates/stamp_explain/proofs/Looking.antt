@@ -8,8 +8,8 @@ use Rattle.stamp_explain.specs.declared.node.Node.{Node}
 use Rattle.stamp_explain.specs.declared.node.Origin.{Origin}
 use Rattle.stamp_explain.specs.declared.node.Waiting.{Waiting}
 use Rattle.stamp_explain.specs.declared.store.Store.{Store}
-use Rattle.stamp_explain.specs.Store.{Keeps, IsStored}
-use Rattle.stamp_explain.specs.Expand.{LooksAt}
+use Rattle.stamp_explain.specs.inner.Store.{Keeps, IsStored}
+use Rattle.stamp_explain.specs.inner.Expand.{LooksAt}
 
 -- of those that waited the last were visited, and the store is as it was
 pub record Looking (old now : Store) (waited waiting : List Waiting) : Type 0 where

@@ -15,10 +15,10 @@ use Rattle.stamp_explain.specs.declared.observed.Returned.{Returned}
 use Rattle.stamp_explain.specs.declared.linearization.OrderedCall.{OrderedCall}
 use Rattle.stamp_explain.specs.Observed.{ObservedHistory, IsObserved, IsSmall}
 use Rattle.stamp_explain.specs.Explained.{Effect, IsEffectOf, indices_of}
-use Rattle.stamp_explain.specs.Linearization.{IsLinearizationOf}
+use Rattle.stamp_explain.specs.inner.Linearization.{IsLinearizationOf}
 use Rattle.stamp_explain.specs.Points.{IsEntryOf, IsRecordOfObserved, HasPoints, IsLastTold, EndsAsTold, told_until}
-use Rattle.stamp_explain.specs.Points.{told_last_by}
-use Rattle.stamp_explain.specs.Points.{entry_with_point, ends_at, position_at, earlier_at}
+use Rattle.stamp_explain.specs.Points.{told_last_by, ends_at}
+use Rattle.stamp_explain.specs.inner.Points.{entry_with_point, position_at, earlier_at}
 use Rattle.stamp_explain.proofs.Completing.{same_entry}
 use Rattle.stamp_explain.proofs.Expanding.{at_index}
 use Rattle.stamp_explain.proofs.Lists.{zip_all}

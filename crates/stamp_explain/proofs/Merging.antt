@@ -18,7 +18,7 @@ use Rattle.stamp_core.specs.declared.reply.Reply.{Reply}
 use Rattle.stamp_explain.specs.Observed.{IsInterval, is_of_lock, is_of_record}
 use Rattle.stamp_explain.specs.Explained.{Effect, history_of, indices_of, RespectsBefore}
 use Rattle.stamp_explain.specs.Search.{Runs, LockAlone, RecordAlone}
-use Rattle.stamp_explain.specs.Apart.{merge_by}
+use Rattle.stamp_explain.specs.inner.Apart.{merge_by}
 use Rattle.stamp_explain.proofs.Lists.{contains_cases, contains_first, contains_rest, pairs_cons}
 use Rattle.stamp_explain.proofs.Lists.{pairs_head, pairs_tail}
 use Rattle.stamp_explain.proofs.Cutting.{before_some, some_before}

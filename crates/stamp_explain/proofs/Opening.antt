@@ -14,9 +14,9 @@ use Rattle.stamp_explain.specs.declared.observed.Returned.{Returned}
 use Rattle.stamp_explain.specs.declared.timeline.Timeline.{Timeline}
 use Rattle.stamp_explain.specs.Observed.{ObservedHistory, IsReturnAt}
 use Rattle.stamp_explain.specs.Search.{StandsBefore}
-use Rattle.stamp_explain.specs.Timeline.{AreOpen, IsOpenAt, IsTimeline}
-use Rattle.stamp_explain.specs.TimelineKeys.{AreReturnKeys, IsReturnKey, IsSooner, IsOpenUntil, AreOpenOf, AreOpensOf}
-use Rattle.stamp_explain.specs.TimelineKeys.{IsPast, HasReturnedOr, key_indices, return_at}
+use Rattle.stamp_explain.specs.inner.Timeline.{AreOpen, IsOpenAt, IsTimeline}
+use Rattle.stamp_explain.specs.inner.TimelineKeys.{AreReturnKeys, IsReturnKey, IsSooner, IsOpenUntil, AreOpenOf}
+use Rattle.stamp_explain.specs.inner.TimelineKeys.{AreOpensOf, IsPast, HasReturnedOr, key_indices, return_at}
 use Rattle.stamp_explain.proofs.Lists.{contains_map, each_push, none_in_empty, pairs_none}
 use Rattle.stamp_explain.proofs.Ending.{earlier_or_last, indices_once, returns_in_order}
 

@@ -10,8 +10,8 @@ use Rattle.stamp_explain.specs.declared.store.Store.{Store}
 use Rattle.stamp_explain.specs.declared.linearization.OrderedCall.{OrderedCall}
 use Rattle.stamp_explain.specs.Observed.{ObservedHistory}
 use Rattle.stamp_explain.specs.Search.{AreReturns, first_state}
-use Rattle.stamp_explain.specs.Expand.{ComesNext, IsLed, AreLinked}
-use Rattle.stamp_explain.specs.Linearization.{IsOrderedCallAt, IsLinearizationOf, IsLastNode}
+use Rattle.stamp_explain.specs.inner.Expand.{ComesNext, IsLed, AreLinked}
+use Rattle.stamp_explain.specs.inner.Linearization.{IsOrderedCallAt, IsLinearizationOf, IsLastNode}
 use Rattle.stamp_explain.proofs.Finding.{ArePending}
 use Rattle.stamp_explain.proofs.Exploring.{opening_stands, completed_from}
 use Rattle.stamp_explain.proofs.Leading.{EndsFor, Ends, ends_last}

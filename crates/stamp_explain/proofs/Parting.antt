@@ -17,7 +17,7 @@ use Rattle.stamp_explain.specs.Observed.{is_of_lock, is_of_record}
 use Rattle.stamp_explain.specs.Explained.{Effect, IsEffectOf, history_of, indices_of, AreOfTwoEntries, RespectsBefore}
 use Rattle.stamp_explain.specs.Explained.{IsExplained, IsExplainedBy}
 use Rattle.stamp_explain.specs.Search.{Runs, LockAlone, RecordAlone, CanComplete, IsReturnOf, AreReturnsOf}
-use Rattle.stamp_explain.specs.Apart.{merge_by, begins_at}
+use Rattle.stamp_explain.specs.inner.Apart.{merge_by, begins_at}
 use Rattle.stamp_explain.specs.ExplainLaws.{JudgedApart, Locality}
 use Rattle.stamp_explain.proofs.Lists.{contains_filter, contains_from_map, contains_map, none_in_empty}
 use Rattle.stamp_explain.proofs.Completing.{same_entry}

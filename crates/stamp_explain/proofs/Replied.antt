@@ -19,9 +19,9 @@ use Rattle.stamp_explain.specs.declared.observed.Returned.{Returned}
 use Rattle.stamp_explain.specs.declared.node.Node.{Node}
 use Rattle.stamp_explain.specs.Observed.{ObservedHistory}
 use Rattle.stamp_explain.specs.Search.{LockState}
-use Rattle.stamp_explain.specs.Node.{IsStateBy}
-use Rattle.stamp_explain.specs.Expand.{IsLedBy}
-use Rattle.stamp_explain.specs.Linearization.{RepliesAt}
+use Rattle.stamp_explain.specs.inner.Node.{IsStateBy}
+use Rattle.stamp_explain.specs.inner.Expand.{IsLedBy}
+use Rattle.stamp_explain.specs.inner.Linearization.{RepliesAt}
 
 -- a call has one transition after all events that a word represents
 one_transition : (limits : Bounds) (word : LockWord) (events others : List LockEvent) (call : Call) →

@@ -17,7 +17,7 @@ use Rattle.stamp_explain.specs.Cut.{cut_after, seen_at}
 use Rattle.stamp_explain.specs.declared.found.SearchEnd.{SearchEnd}
 use Rattle.stamp_explain.specs.declared.found.SearchEnd.TheVariants.{Linearization, NoOrder, GaveUp}
 use Rattle.stamp_explain.specs.Configuration.{GivesUpApart}
-use Rattle.stamp_explain.specs.Expand.{IsFoundApart}
+use Rattle.stamp_explain.specs.inner.Expand.{IsFoundApart}
 use Rattle.stamp_explain.specs.Possible.{IsPossible, IsUndecidedAtReply, returned_with, with_reply}
 use Rattle.stamp_explain.proofs.Seeing.{seen_explains_as_much}
 

@@ -24,7 +24,7 @@ use Rattle.stamp_explain.specs.Observed.{ObservedHistory, IsBefore, IsObserved, 
 use Rattle.stamp_explain.specs.Explained.{Effect, IsEffectOf, history_of, indices_of, RespectsBefore, AreOfTwoEntries}
 use Rattle.stamp_explain.specs.Explained.{IsExplainedBy, IsExplained}
 use Rattle.stamp_explain.specs.Cut.{cut_entry, cut_entries, cut, begun_by, seen_at, returned_by}
-use Rattle.stamp_explain.specs.Apart.{indices_where}
+use Rattle.stamp_explain.specs.inner.Apart.{indices_where}
 use Rattle.stamp_explain.specs.ExplainLaws.{SeenExplainsAsMuch}
 use Rattle.stamp_explain.proofs.Lists.{all_left, contains_cases, none_in_empty, pairs_drop, pairs_head, pairs_left}
 use Rattle.stamp_explain.proofs.Lists.{zip_all, zip_pairs}

@@ -8,13 +8,11 @@ use Rattle.stamp_explain.specs.declared.node.Next.{Next}
 use Rattle.stamp_explain.specs.declared.linearization.OrderedCall.{OrderedCall}
 use Rattle.stamp_explain.specs.Observed.{ObservedHistory}
 use Rattle.stamp_explain.specs.Search.{IsCompletedBy, StateTransition}
-use Rattle.stamp_explain.specs.Expand.{ComesByReturn, ComesByOneMove, ComesNext, GoesOn, Hope, IsLed, PassesOne}
-use Rattle.stamp_explain.specs.Expand.{PassesTo}
-use Rattle.stamp_explain.specs.Expand.{Suffice}
-use Rattle.stamp_explain.specs.Expand.{IsSettled}
-use Rattle.stamp_explain.specs.Expand.PassesTo.{passes_none, passes_more}
-use Rattle.stamp_explain.specs.Linearization.{RepliesAt}
-use Rattle.stamp_explain.specs.Node.{IsReached}
+use Rattle.stamp_explain.specs.inner.Expand.{ComesByReturn, ComesByOneMove, ComesNext, GoesOn, Hope, IsLed, PassesOne}
+use Rattle.stamp_explain.specs.inner.Expand.{PassesTo, Suffice, IsSettled}
+use Rattle.stamp_explain.specs.inner.Expand.PassesTo.{passes_none, passes_more}
+use Rattle.stamp_explain.specs.inner.Linearization.{RepliesAt}
+use Rattle.stamp_explain.specs.inner.Node.{IsReached}
 use Rattle.stamp_explain.proofs.Lists.{contains_cases, contains_first, none_in_empty}
 use Rattle.stamp_explain.proofs.Completing.{past_return}
 use Rattle.stamp_explain.proofs.Leading.{Ends, come, come_less, ends_past, ends_call, led_by}

@@ -18,8 +18,8 @@ use Rattle.stamp_explain.specs.declared.observed.Observation.{Observation}
 use Rattle.stamp_explain.specs.declared.observed.Returned.{Returned}
 use Rattle.stamp_explain.specs.Observed.{ObservedHistory, IsBefore, IsInterval, DoNotOverlap, IsObserved}
 use Rattle.stamp_explain.specs.Explained.{Effect, IsEffectOf, history_of, indices_of, RespectsBefore, IsExplainedBy}
-use Rattle.stamp_explain.specs.Points.{IsEntryOf, IsRecordOfObserved, entry_with_point, ends_at, position_at}
-use Rattle.stamp_explain.specs.Points.{earlier_at}
+use Rattle.stamp_explain.specs.Points.{IsEntryOf, IsRecordOfObserved, ends_at}
+use Rattle.stamp_explain.specs.inner.Points.{entry_with_point, position_at, earlier_at}
 use Rattle.stamp_explain.specs.ExplainLaws.{ExplainedHasPoints}
 use Rattle.stamp_explain.proofs.Lists.{none_in_empty, contains_cases, pairs_none, pairs_cons, pairs_head, pairs_tail}
 use Rattle.stamp_explain.proofs.Lists.{pairs_map, zip_pairs}

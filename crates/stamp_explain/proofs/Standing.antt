@@ -10,8 +10,7 @@ use Rattle.std.proofs.lemmas.Bool.{cases_eq}
 use Rattle.stamp_explain.specs.declared.observed.Observation.{Observation}
 use Rattle.stamp_explain.specs.declared.observed.Returned.{Returned}
 use Rattle.stamp_explain.specs.Observed.{IsBefore, IsInterval}
-use Rattle.stamp_explain.specs.Node.{IsFirstLeft, HasFirstLeft, AreTaken}
-use Rattle.stamp_explain.specs.Node.{SetsBit, ClearsBit}
+use Rattle.stamp_explain.specs.inner.Node.{IsFirstLeft, HasFirstLeft, AreTaken, SetsBit, ClearsBit}
 use Rattle.stamp_explain.proofs.Lists.{contains_cases, contains_first, contains_rest}
 
 -- what a run's calls are to each other

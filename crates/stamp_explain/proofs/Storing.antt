@@ -16,7 +16,7 @@ use Rattle.std.proofs.lemmas.Bool.{and_parts, eqb-true}
 use Rattle.stamp_explain.specs.declared.node.Node.{Node}
 use Rattle.stamp_explain.specs.declared.node.Origin.{Origin}
 use Rattle.stamp_explain.specs.declared.store.Store.{Store}
-use Rattle.stamp_explain.specs.Store.{Key, key_of, Keeps, IsStored}
+use Rattle.stamp_explain.specs.inner.Store.{Key, key_of, Keeps, IsStored}
 use Rattle.stamp_explain.proofs.Lists.{contains_cases, contains_first, contains_rest}
 
 abbrev pub same_key : Key → Key → Bool

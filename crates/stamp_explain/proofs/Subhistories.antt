@@ -10,7 +10,7 @@ use Rattle.stamp_explain.specs.declared.observed.Observation.{Observation}
 use Rattle.stamp_explain.specs.declared.apart.Subhistory.{Subhistory}
 use Rattle.stamp_explain.specs.Observed.{ObservedHistory, IsObserved, IsSmall, IsLow, is_of_lock, is_of_record}
 use Rattle.stamp_explain.specs.Observed.{of_lock, of_record}
-use Rattle.stamp_explain.specs.Apart.{is_of_object, of_object, indices_where, IsSubhistoryOf}
+use Rattle.stamp_explain.specs.inner.Apart.{is_of_object, of_object, indices_where, IsSubhistoryOf}
 use Rattle.stamp_explain.proofs.Lists.{filter_all, filter_none}
 use Rattle.stamp_explain.proofs.Parting.{part_observed}
 use Rattle.stamp_explain.proofs.Transitions.{suits_some}

@@ -16,19 +16,20 @@ use Rattle.stamp_explain.specs.declared.timeline.Timeline.{Timeline}
 use Rattle.stamp_core.specs.declared.reply.Reply.{Reply}
 use Rattle.stamp_explain.specs.Observed.{ObservedHistory, HasReturned, IsBefore, AllowsReply}
 use Rattle.stamp_explain.specs.Explained.{Effect}
-use Rattle.stamp_explain.specs.Unchanging.{changes_nothing, unchanging_by, is_unchanging, unchanging_in}
-use Rattle.stamp_explain.specs.Unchanging.{is_unchanging_at, question_under_way_in, is_question_under_way_at}
+use Rattle.stamp_explain.specs.Unchanging.{changes_nothing, unchanging_by, is_unchanging}
+use Rattle.stamp_explain.specs.inner.Unchanging.{unchanging_in, is_unchanging_at, question_under_way_in}
+use Rattle.stamp_explain.specs.inner.Unchanging.{is_question_under_way_at}
 use Rattle.stamp_explain.specs.Search.{LockState, StateTransition, MayTake}
 use Rattle.stamp_explain.specs.Search.{StandsBefore}
-use Rattle.stamp_explain.specs.Ahead.{GivesWay}
+use Rattle.stamp_explain.specs.inner.Ahead.{GivesWay}
 use Rattle.stamp_explain.specs.Configuration.{IsAtOnce, IsFirstAtOnce, IsFirstAlike}
-use Rattle.stamp_explain.specs.Node.{StandsFor}
-use Rattle.stamp_explain.specs.Timeline.{IsAwaitedAt, IsOpenAt, AreOpen}
-use Rattle.stamp_explain.specs.Asking.{IsAim}
-use Rattle.stamp_explain.specs.Expand.{GoesOn, Expands, ComesByOneMove, ComesByMove, IsTakenTo, IsTakeOf}
-use Rattle.stamp_explain.specs.Expand.{ComesNext, IsChoiceOf, IsNoChoice, IsSettled, NoneIsAtOnceAt, PassesTo}
-use Rattle.stamp_explain.specs.Expand.{Suffice, MayGoOn, AskedStays}
-use Rattle.stamp_explain.specs.Expand.IsNoChoice.{is_asked, of_other, questions, comes_later, stays}
+use Rattle.stamp_explain.specs.inner.Node.{StandsFor}
+use Rattle.stamp_explain.specs.inner.Timeline.{IsAwaitedAt, IsOpenAt, AreOpen}
+use Rattle.stamp_explain.specs.inner.Asking.{IsAim}
+use Rattle.stamp_explain.specs.inner.Expand.{GoesOn, Expands, ComesByOneMove, ComesByMove, IsTakenTo, IsTakeOf}
+use Rattle.stamp_explain.specs.inner.Expand.{ComesNext, IsChoiceOf, IsNoChoice, IsSettled, NoneIsAtOnceAt, PassesTo}
+use Rattle.stamp_explain.specs.inner.Expand.{Suffice, MayGoOn, AskedStays}
+use Rattle.stamp_explain.specs.inner.Expand.IsNoChoice.{is_asked, of_other, questions, comes_later, stays}
 use Rattle.stamp_core.specs.Call.{is_lock_call}
 use Rattle.stamp_explain.proofs.Replying.{IsAlike}
 use Rattle.stamp_explain.proofs.Answering.{AreAlike, there, other_there, same_there, turned, passes_alike, opens_alike}

@@ -5,7 +5,8 @@ use Rattle.std.specs.Prelude.{take}
 use Rattle.std.specs.List.{All}
 use Rattle.std.proofs.lemmas.List.{get_or-take, get_or_default}
 use Rattle.stamp_explain.specs.declared.observed.Observation.{Observation}
-use Rattle.stamp_explain.specs.Observed.{ObservedHistory, IsObserved, MayBeTold, DoNotOverlap}
+use Rattle.stamp_explain.specs.Observed.{ObservedHistory, IsObserved, DoNotOverlap}
+use Rattle.stamp_explain.specs.inner.Observed.{MayBeTold}
 use Rattle.stamp_explain.proofs.Ending.{earlier_or_last}
 
 -- of each entry below k

@@ -19,8 +19,8 @@ use Rattle.stamp_explain.specs.declared.observed.Observation.{Observation}
 use Rattle.stamp_explain.specs.Observed.{ObservedHistory}
 use Rattle.stamp_explain.specs.Search.{LockState}
 use Rattle.stamp_explain.specs.Configuration.{put_after}
-use Rattle.stamp_explain.specs.Node.{IsStateBy, Does, IsTransitionOf, content_by, words_put, words_put_at}
-use Rattle.stamp_explain.specs.Transition.{LockGoes, RecordGoes}
+use Rattle.stamp_explain.specs.inner.Node.{IsStateBy, Does, IsTransitionOf, content_by, words_put, words_put_at}
+use Rattle.stamp_explain.specs.inner.Transition.{LockGoes, RecordGoes}
 use Rattle.stamp_explain.proofs.Merging.{lock_leaves, record_appends}
 
 -- a call of the lock leaves the record's words

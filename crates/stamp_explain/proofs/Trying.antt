@@ -17,16 +17,16 @@ use Rattle.stamp_explain.specs.declared.timeline.Timeline.{Timeline}
 use Rattle.stamp_explain.specs.Observed.{ObservedHistory, IsBefore, IsReturnAt}
 use Rattle.stamp_explain.specs.Observed.{AreOfOneObject}
 use Rattle.stamp_explain.specs.Explained.{Effect}
-use Rattle.stamp_explain.specs.Unchanging.{question_under_way_by, question_under_way_in, is_question_under_way}
+use Rattle.stamp_explain.specs.Unchanging.{question_under_way_by, is_question_under_way}
+use Rattle.stamp_explain.specs.inner.Unchanging.{question_under_way_in}
 use Rattle.stamp_explain.specs.Search.{IsAlikeNoLater, LockState, StateTransition, MayTake}
-use Rattle.stamp_explain.specs.Ahead.{IsAhead, GivesWay}
+use Rattle.stamp_explain.specs.Ahead.{IsAhead}
+use Rattle.stamp_explain.specs.inner.Ahead.{GivesWay}
 use Rattle.stamp_core.specs.Call.{is_lock_call}
-use Rattle.stamp_explain.specs.Node.{StandsFor}
-use Rattle.stamp_explain.specs.Timeline.{IsAwaitedAt, IsOpenAt, AreOpen}
-use Rattle.stamp_explain.specs.Expand.{Hope, GoesOn, IsTakenTo, IsTakeOf}
-use Rattle.stamp_explain.specs.Expand.{IsNoChoice, PassesTo}
-use Rattle.stamp_explain.specs.Expand.{Suffice}
-use Rattle.stamp_explain.specs.Expand.IsNoChoice.{is_asked, of_other, questions, comes_later, stays}
+use Rattle.stamp_explain.specs.inner.Node.{StandsFor}
+use Rattle.stamp_explain.specs.inner.Timeline.{IsAwaitedAt, IsOpenAt, AreOpen}
+use Rattle.stamp_explain.specs.inner.Expand.{Hope, GoesOn, IsTakenTo, IsTakeOf, IsNoChoice, PassesTo, Suffice}
+use Rattle.stamp_explain.specs.inner.Expand.IsNoChoice.{is_asked, of_other, questions, comes_later, stays}
 use Rattle.stamp_explain.proofs.Alike.{alike_in_as_many, may_take_alike}
 use Rattle.stamp_explain.proofs.Finding.{ArePending, first_of_pending}
 use Rattle.stamp_explain.proofs.Searching.{CompletesIn, GoesPast, GoesOnBy, goes_on}

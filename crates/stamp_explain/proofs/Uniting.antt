@@ -17,10 +17,11 @@ use Rattle.stamp_explain.specs.Observed.{ObservedHistory, IsObserved, IsSmall, I
 use Rattle.stamp_explain.specs.Observed.{is_of_lock, is_of_record}
 use Rattle.stamp_explain.specs.Explained.{Effect, IsExplained}
 use Rattle.stamp_explain.specs.Configuration.{GivesUp}
-use Rattle.stamp_explain.specs.Expand.{IsFoundApart, IsSearched}
-use Rattle.stamp_explain.specs.Linearization.{IsLinearizationOf}
-use Rattle.stamp_explain.specs.Apart.{IsSubhistoryOf, PushesSooner, StandsInWhole, first_of, in_whole, is_of_object}
-use Rattle.stamp_explain.specs.Apart.{begins_at, indices_where, of_object, lesser, merge_by, not_lesser}
+use Rattle.stamp_explain.specs.inner.Expand.{IsFoundApart, IsSearched}
+use Rattle.stamp_explain.specs.inner.Linearization.{IsLinearizationOf}
+use Rattle.stamp_explain.specs.inner.Apart.{IsSubhistoryOf, PushesSooner, StandsInWhole, first_of, in_whole}
+use Rattle.stamp_explain.specs.inner.Apart.{is_of_object, begins_at, indices_where, of_object, lesser, merge_by}
+use Rattle.stamp_explain.specs.inner.Apart.{not_lesser}
 use Rattle.stamp_explain.proofs.Cutting.{explained_by_none}
 use Rattle.stamp_explain.proofs.Expanding.{at_index}
 use Rattle.stamp_explain.proofs.Parting.{begins, judged_apart, merged_explains}

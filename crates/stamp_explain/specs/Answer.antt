@@ -1,6 +1,5 @@
 -- What is answered of an observed history.
-use Rattle.std.specs.Prelude.{ℕ, ◌≡◌, ◌+◌, ◌⊎◌, ◌++◌, Bool, true, false, List, Result, Ok, Err}
-use Rattle.std.specs.Prelude.{codes, decimal}
+use Rattle.std.specs.Prelude.{ℕ, ◌≡◌, ◌+◌, ◌⊎◌, ◌++◌, List, Result, Ok, Err, codes, decimal}
 use Rattle.stamp_core.specs.Record.{Recorded}
 use Rattle.stamp_explain.specs.declared.explaining.ExplainError.{ExplainError}
 use Rattle.stamp_explain.specs.declared.explaining.ExplainError.TheVariants.{Stuck, Unexplained, Undecided, Memory}
@@ -27,11 +26,6 @@ pub record IsUnexplained (h : ObservedHistory) (most i : ℕ) : Type 0 where
   pub explained : IsExplained (cut_before at.return i h)
   pub unexplained : ¬ IsExplained h
   pub gives_up : GivesUpApart (seen_at at.return.last (i + 1) h) most
-
--- no order was found: since none explains it, or since the search gave up
-abbrev pub IsNotFound : ObservedHistory → ℕ → Bool → Type 0
-IsNotFound h most true = ¬ IsExplained h
-IsNotFound h most false = GivesUpApart h most
 
 -- the entry at whose return the history is stuck, or undecided, whether or not it is known to be unexplained
 abbrev pub IsRefusal : ObservedHistory → ℕ → ExplainError → Type 0

@@ -81,12 +81,6 @@ IsInterval e = MatchOption e.returned (Unit {0}) (λ (r : Returned). e.first ≤
 abbrev pub DoNotOverlap : Observation → Observation → Type 0
 DoNotOverlap a b = a.thread ≡ b.thread → IsBefore a b ⊎ IsBefore b a
 
--- what an observer may tell of one call
-pub record MayBeTold (width : ℕ) (e : Observation) : Type 0 where
-  pub interval : IsInterval e
-  pub thread : e.thread < 64
-  pub suits : IsTrue (call_suits width e.call)
-
 -- what an observer may tell
 pub record IsObserved (h : ObservedHistory) : Type 0 where
   pub intervals : All IsInterval h.entries

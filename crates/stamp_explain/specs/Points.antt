@@ -1,12 +1,11 @@
 -- Which recorded histories are of an observed one. A position p becomes the positions 64 p to 64 p + 63: a call
 -- begins at the first and ends at the last that became of its own, and points stand between
 use Rattle.std.specs.Prelude.{ℕ, ◌≡◌, ◌≢◌, ◌≤◌, ◌⊎◌, ◌+◌, ◌*◌, max, List, [], map, slice_get, Option, None, Some}
-use Rattle.std.specs.Prelude.{MatchOption, nat_lt, if◌then◌else◌}
+use Rattle.std.specs.Prelude.{MatchOption}
 use Rattle.std.specs.List.{All, AllPairs, AllZip, Contains}
 use Rattle.stamp_core.specs.Record.{Recorded}
 use Rattle.stamp_core.specs.Linearized.{IsLinearized}
 use Rattle.stamp_core.specs.declared.entry.Entry.{Entry}
-use Rattle.stamp_core.specs.declared.reply.Reply.{Reply}
 use Rattle.stamp_explain.specs.declared.observed.Observation.{Observation}
 use Rattle.stamp_explain.specs.declared.observed.Returned.{Returned}
 use Rattle.stamp_explain.specs.Observed.{ObservedHistory, HasReturned}
@@ -32,28 +31,10 @@ pub record IsRecordOfObserved (h : ObservedHistory) (r : Recorded) : Type 0 wher
   pub once : AllPairs (λ (i j : ℕ). i ≢ j) indices
   pub returned : (i : ℕ) (e : Observation) → slice_get h.entries i ≡ Some e → HasReturned e → Contains indices i
 
--- the position at which a call takes effect, after one at this position: where it begins, if that is later
-abbrev pub position_at : ℕ → ℕ → ℕ
-position_at q first = if nat_lt q first then first else q
-
--- and how many took effect there earlier
-abbrev pub earlier_at : ℕ → ℕ → ℕ → ℕ
-earlier_at q n first = if nat_lt q first then 0 else n
-
 -- the last position of a call; one that is under way has that of the end of the history
 abbrev pub ends_at : Option Returned → ℕ → ℕ
 ends_at None end = 64 * end + 63
 ends_at (Some r) end = 64 * r.last + 63
-
-abbrev pub entry_with_point : Observation → Reply → ℕ → ℕ → Entry
-entry_with_point e reply end p = record {
-  thread = e.thread;
-  call = e.call;
-  reply = reply;
-  first = 64 * e.first;
-  point = p;
-  last = ends_at e.returned end;
-}
 
 -- the last position that is told of a call
 abbrev pub told_last_by : Option Returned → ℕ → ℕ

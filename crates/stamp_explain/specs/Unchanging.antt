@@ -1,5 +1,5 @@
 -- Calls whose reply tells that they change nothing.
-use Rattle.std.specs.Prelude.{ℕ, ◌==◌, ◌||◌, Bool, true, false, List, slice_get, Option, Some, None}
+use Rattle.std.specs.Prelude.{◌==◌, ◌||◌, Bool, true, false, Option, Some, None}
 use Rattle.stamp_core.specs.declared.call.Call.{Call}
 use Rattle.stamp_core.specs.declared.call.Call.TheVariants.{TryWrite, TryRead, WriteLock, Optimistic, Validate}
 use Rattle.stamp_core.specs.declared.call.Call.TheVariants.{UnlockWrite, UnlockRead, Unlock, ToWrite, ToRead}
@@ -9,10 +9,6 @@ use Rattle.stamp_core.specs.declared.reply.Reply.{Reply}
 use Rattle.stamp_explain.specs.declared.observed.Observation.{Observation}
 use Rattle.stamp_explain.specs.declared.observed.Returned.{Returned}
 use Rattle.stamp_core.specs.declared.reply.Reply.TheVariants.{Stamp, No, Mismatch}
-
-abbrev pub is_this_stamp : Reply → ℕ → Bool
-is_this_stamp (Stamp s) stamp = s == stamp
-is_this_stamp _ stamp = false
 
 -- a call that acquires tells by 0 that it did not, a conversion also by its own stamp; a release by a
 -- mismatch or by no; questions change nothing.
@@ -56,14 +52,6 @@ question_under_way_by call (Some r) = false
 abbrev pub is_question_under_way : Observation → Bool
 is_question_under_way e = question_under_way_by e.call e.returned
 
-abbrev pub question_under_way_in : Option Observation → Bool
-question_under_way_in None = false
-question_under_way_in (Some e) = is_question_under_way e
-
--- so is the call of this entry
-abbrev pub is_question_under_way_at : List Observation → ℕ → Bool
-is_question_under_way_at entries i = question_under_way_in (slice_get entries i)
-
 -- the call has returned, and its reply tells that it changed nothing
 abbrev pub unchanging_by : Call → Option Returned → Bool
 unchanging_by call None = false
@@ -71,11 +59,3 @@ unchanging_by call (Some r) = changes_nothing call r.reply
 
 abbrev pub is_unchanging : Observation → Bool
 is_unchanging e = unchanging_by e.call e.returned
-
-abbrev pub unchanging_in : Option Observation → Bool
-unchanging_in None = false
-unchanging_in (Some e) = is_unchanging e
-
--- so does the call of this entry
-abbrev pub is_unchanging_at : List Observation → ℕ → Bool
-is_unchanging_at entries i = unchanging_in (slice_get entries i)

@@ -1,7 +1,8 @@
 //! Calls that are alike, of which the one that returned first takes effect first.
 ghost use Rattle.std.specs.Prelude.{◌≡◌, ◌↔◌, IsTrue};
 ghost use Rattle.stamp_explain.specs.Observed.{IsObserved};
-ghost use Rattle.stamp_explain.specs.Ahead.{IsAhead, GoesAhead, GivesWay};
+ghost use Rattle.stamp_explain.specs.Ahead.{IsAhead};
+ghost use Rattle.stamp_explain.specs.inner.Ahead.{GoesAhead, GivesWay};
 
 use crate::asking::is_asked;
 use crate::node::{Node, has_thread};

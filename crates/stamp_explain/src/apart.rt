@@ -2,8 +2,8 @@
 ghost use Rattle.std.specs.Prelude.{◌≡◌, ◌<◌, ◌≤◌, true, false, length, map, slice_get, IfOk};
 ghost use Rattle.std.specs.List.{All};
 ghost use Rattle.stamp_explain.specs.Observed.{IsObserved};
-ghost use Rattle.stamp_explain.specs.Linearization.{IsLinearizationOf};
-ghost use Rattle.stamp_explain.specs.Apart.{IsSubhistoryOf, StandsInWhole, PushesSooner, begins_at, in_whole};
+ghost use Rattle.stamp_explain.specs.inner.Linearization.{IsLinearizationOf};
+ghost use Rattle.stamp_explain.specs.inner.Apart.{IsSubhistoryOf, StandsInWhole, PushesSooner, begins_at, in_whole};
 
 use crate::linearization::OrderedCall;
 use crate::observed::{END_OF_POSITIONS, Observation, Observed};

@@ -1,7 +1,7 @@
 //! What the call gets that a search asks, if it asks one.
 ghost use Rattle.std.specs.Prelude.{◌≡◌, ◌↔◌, IfOk, IsTrue, Some};
-ghost use Rattle.stamp_explain.specs.Expand.{IsAskedAt, MayGoOn};
-ghost use Rattle.stamp_explain.specs.Asking.{Adds};
+ghost use Rattle.stamp_explain.specs.inner.Expand.{IsAskedAt, MayGoOn};
+ghost use Rattle.stamp_explain.specs.inner.Asking.{Adds};
 
 use crate::node::Node;
 use crate::observed::{Observed, is_before};

@@ -1,7 +1,8 @@
 //! The recorded history of an order that explains an observed history, or the return at which none does.
 ghost use Rattle.std.specs.Prelude.{◌≡◌};
 ghost use Rattle.stamp_explain.specs.Observed.{IsObserved};
-ghost use Rattle.stamp_explain.specs.Answer.{IsAnswer, IsNotFound};
+ghost use Rattle.stamp_explain.specs.Answer.{IsAnswer};
+ghost use Rattle.stamp_explain.specs.inner.Answer.{IsNotFound};
 
 use crate::found::{SearchEnd, find};
 use crate::observed::Observed;

@@ -1,7 +1,7 @@
 //! What is found of a history: lock and record are searched apart.
 ghost use Rattle.std.specs.Prelude.{IfOk};
 ghost use Rattle.stamp_explain.specs.Observed.{IsObserved};
-ghost use Rattle.stamp_explain.specs.Expand.{IsFoundApart, IsSearched};
+ghost use Rattle.stamp_explain.specs.inner.Expand.{IsFoundApart, IsSearched};
 
 use crate::apart::{merged, subhistory_of};
 use crate::linearization::OrderedCall;

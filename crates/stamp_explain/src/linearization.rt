@@ -1,10 +1,10 @@
 //! The linearization that a search found: an order of calls that explains the history.
 ghost use Rattle.std.specs.Prelude.{ℕ, ◌≡◌, ◌≤◌, ◌<◌, IfOk, Some, slice_get, length};
 ghost use Rattle.stamp_explain.specs.Observed.{IsObserved};
-ghost use Rattle.stamp_explain.specs.Node.{IsReached};
-ghost use Rattle.stamp_explain.specs.Timeline.{IsTimeline};
-ghost use Rattle.stamp_explain.specs.Expand.{AreLinked, IsLed, IsLedBy};
-ghost use Rattle.stamp_explain.specs.Linearization.{IsLinearizationOf, IsOrderedCallAt, IsLastNode, RepliesAt};
+ghost use Rattle.stamp_explain.specs.inner.Node.{IsReached};
+ghost use Rattle.stamp_explain.specs.inner.Timeline.{IsTimeline};
+ghost use Rattle.stamp_explain.specs.inner.Expand.{AreLinked, IsLed, IsLedBy};
+ghost use Rattle.stamp_explain.specs.inner.Linearization.{IsLinearizationOf, IsOrderedCallAt, IsLastNode, RepliesAt};
 
 use crate::node::Node;
 use crate::observed::Observed;

@@ -1,7 +1,7 @@
 //! Where a search for an order is.
 ghost use Rattle.std.specs.Prelude.{◌≡◌, ◌<◌, ◌↔◌, IsTrue};
 ghost use Rattle.std.specs.Int.{bit_at};
-ghost use Rattle.stamp_explain.specs.Node.{SetsBit, ClearsBit};
+ghost use Rattle.stamp_explain.specs.inner.Node.{SetsBit, ClearsBit};
 
 use stamp_core::Reply;
 

@@ -3,8 +3,9 @@ ghost use Rattle.std.specs.Prelude.{◌≡◌, ◌≤◌, ◌<◌, [], IfOk};
 ghost use Rattle.std.specs.List.{All};
 ghost use Rattle.stamp_core.specs.Record.{recorded, IsRecorded};
 ghost use Rattle.stamp_explain.specs.Observed.{IsObserved, IsLow};
-ghost use Rattle.stamp_explain.specs.Linearization.{IsLinearizationOf};
-ghost use Rattle.stamp_explain.specs.Points.{HasPoints, IsLastTold, told_until, entry_with_point, position_at, earlier_at};
+ghost use Rattle.stamp_explain.specs.inner.Linearization.{IsLinearizationOf};
+ghost use Rattle.stamp_explain.specs.Points.{HasPoints, IsLastTold, told_until};
+ghost use Rattle.stamp_explain.specs.inner.Points.{entry_with_point, position_at, earlier_at};
 
 use crate::linearization::OrderedCall;
 use crate::observed::{Observation, Observed};

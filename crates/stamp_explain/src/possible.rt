@@ -3,7 +3,7 @@ ghost use Rattle.std.specs.Prelude.{◌≡◌, ◌↔◌, ◌<◌, ◌++◌, ◌
 ghost use Rattle.std.specs.Option.{IfNone};
 ghost use Rattle.stamp_explain.specs.Observed.{IsObserved, IsReturnAt};
 ghost use Rattle.stamp_explain.specs.Possible.{AreAllPossible, ArePossible, IsPossible, IsUndecidedAtAny, IsUndecidedAtReply, IsUndecidedAtSome, IsUndecidedWithout, with_reply};
-ghost use Rattle.stamp_explain.specs.Asking.{AreRepliesAt};
+ghost use Rattle.stamp_explain.specs.inner.Asking.{AreRepliesAt};
 ghost use Rattle.stamp_explain.specs.Cut.{index_then};
 
 use crate::cut::seen_at;

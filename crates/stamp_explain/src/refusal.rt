@@ -2,9 +2,10 @@
 ghost use Rattle.std.specs.Prelude.{◌≡◌, ◌≤◌, ◌<◌, ◌+◌, IfOk, length};
 ghost use Rattle.stamp_explain.specs.Cut.{seen_at};
 ghost use Rattle.stamp_explain.specs.Observed.{IsObserved};
-ghost use Rattle.stamp_explain.specs.TimelineKeys.{AreReturnKeys};
-ghost use Rattle.stamp_explain.specs.Expand.{IsFoundApart};
-ghost use Rattle.stamp_explain.specs.Answer.{IsNotFound, IsRefusal};
+ghost use Rattle.stamp_explain.specs.inner.TimelineKeys.{AreReturnKeys};
+ghost use Rattle.stamp_explain.specs.inner.Expand.{IsFoundApart};
+ghost use Rattle.stamp_explain.specs.Answer.{IsRefusal};
+ghost use Rattle.stamp_explain.specs.inner.Answer.{IsNotFound};
 
 use crate::cut::seen_at;
 use crate::explaining::ExplainError;

@@ -1,6 +1,6 @@
 //! The configurations that a search has visited.
 ghost use Rattle.std.specs.Prelude.{◌≡◌, IfOk};
-ghost use Rattle.stamp_explain.specs.Store.{BeginsWith, Keeps, IsStored, key_of};
+ghost use Rattle.stamp_explain.specs.inner.Store.{BeginsWith, Keeps, IsStored, key_of};
 
 use crate::node::{Node, Origin};
 use std::alloc::{AllocError, Global};

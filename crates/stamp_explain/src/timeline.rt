@@ -1,9 +1,10 @@
 //! What a search is given of a history: when calls returned, and which are open then.
 ghost use Rattle.std.specs.Prelude.{ℕ, ◌≡◌, ◌≤◌, IfOk, length, []};
 ghost use Rattle.std.specs.List.{All, AllPairs};
-ghost use Rattle.stamp_explain.specs.TimelineKeys.{AreListedKeys, AreReturnKeys, IsSooner, IsOpenUntil, AreOpensOf, IsPast, HasReturnedOr, key_indices};
+ghost use Rattle.stamp_explain.specs.inner.TimelineKeys.{AreListedKeys, AreReturnKeys, IsSooner, IsOpenUntil};
+ghost use Rattle.stamp_explain.specs.inner.TimelineKeys.{AreOpensOf, IsPast, HasReturnedOr, key_indices};
 ghost use Rattle.stamp_explain.specs.Observed.{IsObserved, HasReturned};
-ghost use Rattle.stamp_explain.specs.Timeline.{IsTimeline};
+ghost use Rattle.stamp_explain.specs.inner.Timeline.{IsTimeline};
 
 use crate::observed::{Observation, Observed};
 use std::alloc::{AllocError, Global};

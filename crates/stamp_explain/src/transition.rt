@@ -4,8 +4,8 @@ ghost use Rattle.stamp_core.specs.Word.{IsAdmitted, word_at};
 ghost use Rattle.stamp_core.specs.Call.{is_lock_call, call_suits};
 ghost use Rattle.stamp_core.specs.Decision.{IsTransition};
 ghost use Rattle.stamp_explain.specs.Observed.{AllowsReply};
-ghost use Rattle.stamp_explain.specs.Transition.{LockGoes, RecordGoes, transition_as};
-ghost use Rattle.stamp_explain.specs.Node.{content_by, IsTransitionOf, IsStateBy};
+ghost use Rattle.stamp_explain.specs.inner.Transition.{LockGoes, RecordGoes, transition_as};
+ghost use Rattle.stamp_explain.specs.inner.Node.{content_by, IsTransitionOf, IsStateBy};
 ghost use Rattle.stamp_explain.specs.Search.{LockState};
 
 use crate::node::CallTransition;

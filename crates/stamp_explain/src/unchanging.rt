@@ -1,7 +1,8 @@
 //! Calls whose reply tells that they changed nothing.
 ghost use Rattle.std.specs.Prelude.{◌≡◌, ◌==◌};
 ghost use Rattle.stamp_core.specs.declared.reply.Reply.TheVariants.{Stamp};
-ghost use Rattle.stamp_explain.specs.Unchanging.{is_this_stamp, changes_nothing, is_question, is_question_under_way, is_question_under_way_at, is_unchanging, is_unchanging_at};
+ghost use Rattle.stamp_explain.specs.Unchanging.{changes_nothing, is_question, is_question_under_way, is_unchanging};
+ghost use Rattle.stamp_explain.specs.inner.Unchanging.{is_this_stamp, is_question_under_way_at, is_unchanging_at};
 
 use crate::observed::{Observation, Observed};
 use stamp_core::{Call, Reply};

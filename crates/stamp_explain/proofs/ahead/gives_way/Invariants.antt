@@ -1,7 +1,7 @@
 use Rattle.std.proofs.Common.{ℕ, ◌≢◌, Some}
 use Rattle.std.specs.Prelude.{take}
 use Rattle.std.specs.List.{All}
-use Rattle.stamp_explain.specs.Ahead.{GoesAhead}
+use Rattle.stamp_explain.specs.inner.Ahead.{GoesAhead}
 use Rattle.stamp_explain.proofs.ahead.gives_way.Given as goal
 
 abbrev pub invariant-loop-first : goal.invariant-loop-first

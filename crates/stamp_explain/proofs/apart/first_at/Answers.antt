@@ -1,7 +1,7 @@
 use Rattle.std.proofs.Common.{length, refl, sym, ap, ◌∙◌}
 use Rattle.std.proofs.lemmas.Option.{slice_get_read}
 use Rattle.stamp_explain.specs.declared.observed.Observation.{Observation}
-use Rattle.stamp_explain.specs.Apart.{begins_at}
+use Rattle.stamp_explain.specs.inner.Apart.{begins_at}
 use Rattle.stamp_explain.proofs.apart.first_at.Goals as goal
 
 pub returns : goal.returns

@@ -1,7 +1,7 @@
 use Rattle.std.proofs.Common.{true, false, arith}
 use Rattle.std.proofs.lemmas.List.{length-map}
 use Rattle.std.specs.List.{All}
-use Rattle.stamp_explain.specs.Apart.{StandsInWhole, in_whole}
+use Rattle.stamp_explain.specs.inner.Apart.{StandsInWhole, in_whole}
 use Rattle.stamp_explain.proofs.Uniting.{all_low, calls_of, merges_all, merges_one, next_call, stand_in_whole}
 use Rattle.stamp_explain.proofs.Uniting.{stands_at, united}
 use Rattle.stamp_explain.proofs.apart.merged.Goals as goal

@@ -1,6 +1,6 @@
 use Rattle.std.proofs.Common.{◌≡◌, ◌+◌, ◌∷◌, inl, inr, sym, subst, arith, length, map, drop}
 use Rattle.std.proofs.lemmas.List.{length-map}
-use Rattle.stamp_explain.specs.Apart.{StandsInWhole, in_whole}
+use Rattle.stamp_explain.specs.inner.Apart.{StandsInWhole, in_whole}
 use Rattle.stamp_explain.proofs.Uniting.{next_call, pushes_all, pushes_one}
 use Rattle.stamp_explain.proofs.apart.push_sooner.Goals as goal
 use Rattle.stamp_explain.proofs.apart.push_sooner.Goals.{After-index-order-next, After-in_whole-call}

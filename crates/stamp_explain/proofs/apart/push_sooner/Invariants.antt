@@ -1,5 +1,5 @@
 use Rattle.std.proofs.Common.{map}
-use Rattle.stamp_explain.specs.Apart.{in_whole}
+use Rattle.stamp_explain.specs.inner.Apart.{in_whole}
 use Rattle.stamp_explain.proofs.Uniting.{IsPushing}
 use Rattle.stamp_explain.proofs.apart.push_sooner.Given as goal
 

@@ -3,7 +3,7 @@ use Rattle.std.proofs.lemmas.Bool.{false≢true}
 use Rattle.stamp_core.specs.Limits.{Bounds}
 use Rattle.stamp_explain.specs.declared.observed.Observation.{Observation}
 use Rattle.stamp_explain.specs.Observed.{IsSmall, observed_as}
-use Rattle.stamp_explain.specs.Apart.{of_object, is_of_object}
+use Rattle.stamp_explain.specs.inner.Apart.{of_object, is_of_object}
 use Rattle.stamp_explain.proofs.Subhistories.{all_read, of_object_small}
 use Rattle.stamp_explain.proofs.apart.subhistory_of.Goals as goal
 

@@ -1,4 +1,4 @@
-use Rattle.stamp_explain.specs.Apart.{is_of_object}
+use Rattle.stamp_explain.specs.inner.Apart.{is_of_object}
 use Rattle.stamp_explain.proofs.Subhistories.{ReadSoFar}
 use Rattle.stamp_explain.proofs.apart.subhistory_of.Given as goal
 

@@ -2,7 +2,7 @@ use Rattle.std.proofs.Common.{List, sym, subst, arith}
 use Rattle.std.specs.List.{Contains}
 use Rattle.std.proofs.lemmas.List.{take_all}
 use Rattle.stamp_core.specs.declared.reply.Reply.{Reply}
-use Rattle.stamp_explain.specs.Asking.{Adds}
+use Rattle.stamp_explain.specs.inner.Asking.{Adds}
 use Rattle.stamp_explain.proofs.Beside.{adds_one}
 use Rattle.stamp_explain.proofs.asking.add.Goals as goal
 

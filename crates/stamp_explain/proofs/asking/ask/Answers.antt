@@ -7,7 +7,7 @@ use Rattle.stamp_explain.specs.declared.observed.Observation.{Observation}
 use Rattle.stamp_explain.specs.declared.node.Node.{Node}
 use Rattle.stamp_explain.specs.declared.timeline.Timeline.{Timeline}
 use Rattle.stamp_explain.specs.Observed.{IsBefore, IsReturnAt, ObservedHistory}
-use Rattle.stamp_explain.specs.Expand.{IsAskedAt, MayGoOn}
+use Rattle.stamp_explain.specs.inner.Expand.{IsAskedAt, MayGoOn}
 use Rattle.stamp_explain.proofs.Awaiting.{awaits_read}
 use Rattle.stamp_explain.proofs.Beside.{asked_not_begun, asked_replies, asked_waits}
 use Rattle.stamp_explain.proofs.Expanding.{at_index}

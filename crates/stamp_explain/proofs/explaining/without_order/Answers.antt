@@ -2,7 +2,7 @@ use Rattle.std.proofs.Common.{◌≡◌, ℕ, List, ◌∙◌, sym, subst, true,
 use Rattle.std.specs.Prelude.{◌==◌}
 use Rattle.std.proofs.lemmas.Bool.Decides.{nat_tests}
 use Rattle.stamp_explain.specs.declared.observed.Observation.{Observation}
-use Rattle.stamp_explain.specs.TimelineKeys.{AreReturnKeys}
+use Rattle.stamp_explain.specs.inner.TimelineKeys.{AreReturnKeys}
 use Rattle.stamp_explain.proofs.Faulting.{order_of_none}
 use Rattle.stamp_explain.proofs.explaining.without_order.Goals as goal
 

@@ -1,7 +1,7 @@
 use Rattle.std.proofs.Common.{false, true, sym, ◌∙◌, subst}
 use Rattle.std.proofs.lemmas.Result.{IfOk-weaker}
 use Rattle.stamp_explain.specs.declared.found.SearchEnd.{SearchEnd}
-use Rattle.stamp_explain.specs.Expand.{IsFoundApart, IsSearched}
+use Rattle.stamp_explain.specs.inner.Expand.{IsFoundApart, IsSearched}
 use Rattle.stamp_explain.proofs.Subhistories.{subhistory_observed}
 use Rattle.stamp_explain.proofs.Uniting.{found_alone, none_of_one}
 use Rattle.stamp_explain.proofs.found.find.Goals as goal

@@ -1,6 +1,6 @@
 use Rattle.std.proofs.Common.{◌≡◌, ◌<◌, ℕ, List, sym, subst, arith}
 use Rattle.stamp_explain.specs.declared.linearization.OrderedCall.{OrderedCall}
-use Rattle.stamp_explain.specs.Linearization.{IsLinearizationOf}
+use Rattle.stamp_explain.specs.inner.Linearization.{IsLinearizationOf}
 use Rattle.stamp_explain.proofs.Ordering.{GoesBack, Reads, back_last, back_past, back_call, back_first}
 use Rattle.stamp_explain.proofs.Ordering.{origin_inside, node_inside, reads_there}
 use Rattle.stamp_explain.proofs.linearization.linearization_to.Goals as goal

@@ -2,8 +2,8 @@ use Rattle.std.proofs.Common.{ℕ, Option, Some, refl, sym, ◌∙◌, ap, subst
 use Rattle.stamp_core.specs.Limits.{AreInRange}
 use Rattle.stamp_explain.specs.declared.observed.Observation.{Observation}
 use Rattle.stamp_explain.specs.declared.linearization.OrderedCall.{OrderedCall}
-use Rattle.stamp_explain.specs.Expand.{IsLed}
-use Rattle.stamp_explain.specs.Linearization.{IsOrderedCallAt}
+use Rattle.stamp_explain.specs.inner.Expand.{IsLed}
+use Rattle.stamp_explain.specs.inner.Linearization.{IsOrderedCallAt}
 use Rattle.stamp_explain.proofs.Replied.{replied_read}
 use Rattle.stamp_explain.proofs.linearization.ordered_call_at.Goals as goal
 

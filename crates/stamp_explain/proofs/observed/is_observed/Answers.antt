@@ -3,7 +3,8 @@ use Rattle.std.proofs.lemmas.Bool.{false≢true}
 use Rattle.std.specs.Prelude.{take}
 use Rattle.std.specs.List.{All}
 use Rattle.stamp_explain.specs.declared.observed.Observation.{Observation}
-use Rattle.stamp_explain.specs.Observed.{MayBeTold, DoNotOverlap}
+use Rattle.stamp_explain.specs.Observed.{DoNotOverlap}
+use Rattle.stamp_explain.specs.inner.Observed.{MayBeTold}
 use Rattle.stamp_explain.proofs.Telling.{one_below, not_alone, not_apart}
 use Rattle.stamp_explain.proofs.observed.is_observed.Goals as goal
 

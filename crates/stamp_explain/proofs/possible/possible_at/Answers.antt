@@ -4,7 +4,7 @@ use Rattle.std.specs.Option.{IfNone}
 use Rattle.std.proofs.lemmas.Result.{IfOk-weaker}
 use Rattle.stamp_core.specs.declared.reply.Reply.{Reply}
 use Rattle.stamp_explain.specs.Possible.{ArePossible, AreAllPossible, IsUndecidedWithout}
-use Rattle.stamp_explain.specs.Asking.{AreRepliesAt}
+use Rattle.stamp_explain.specs.inner.Asking.{AreRepliesAt}
 use Rattle.stamp_explain.proofs.Answered.{all_possible, undecided_by}
 use Rattle.stamp_explain.proofs.possible.possible_at.Goals as goal
 

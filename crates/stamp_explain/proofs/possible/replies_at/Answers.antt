@@ -4,7 +4,7 @@ use Rattle.stamp_explain.specs.declared.observed.Observation.{Observation}
 use Rattle.stamp_explain.specs.Observed.{IsReturnAt}
 use Rattle.stamp_explain.specs.Configuration.{ReachesMoreBeside}
 use Rattle.stamp_explain.specs.Cut.{index_then}
-use Rattle.stamp_explain.specs.Expand.{IsSearchedFor}
+use Rattle.stamp_explain.specs.inner.Expand.{IsSearchedFor}
 use Rattle.stamp_explain.proofs.Answered.{IsSeenAt, seen_observed, seen_replies, seen_return, seen_undecided}
 use Rattle.stamp_explain.proofs.GivingUp.{one_reached}
 use Rattle.stamp_explain.proofs.Replying.{read_at}

@@ -1,7 +1,7 @@
 use Rattle.std.proofs.Common.{◌≡◌, ◌<◌, ◌+◌, ◌-◌, ℕ, List, [], ◌∷◌, ◌++◌, length, get_or, sym, ◌∙◌, ap}
 use Rattle.std.proofs.Common.{subst, arith, Vec, Global}
 use Rattle.stamp_explain.specs.declared.node.Next.{Next}
-use Rattle.stamp_explain.specs.Timeline.{AreOpen, IsOpenAt}
+use Rattle.stamp_explain.specs.inner.Timeline.{AreOpen, IsOpenAt}
 use Rattle.stamp_explain.proofs.Awaiting.{awaited_inside, index_read, open_read, open_within, opens_read}
 use Rattle.stamp_explain.proofs.Succeeding.{Chooses, chooses_none, chooses_not, chooses_one, expands_choices}
 use Rattle.stamp_explain.proofs.search.choices.Goals as goal

@@ -1,5 +1,5 @@
 use Rattle.std.specs.Prelude.{◌≡◌, ◌++◌, take}
-use Rattle.stamp_explain.specs.Expand.{waiting_from}
+use Rattle.stamp_explain.specs.inner.Expand.{waiting_from}
 use Rattle.stamp_explain.proofs.search.leave.Given as goal
 
 abbrev pub invariant-loop-next : goal.invariant-loop-next

@@ -1,5 +1,5 @@
 use Rattle.std.proofs.Common.{Bool, subst}
-use Rattle.stamp_explain.specs.Store.{IsStored}
+use Rattle.stamp_explain.specs.inner.Store.{IsStored}
 use Rattle.stamp_explain.proofs.Looking.{looking_past}
 use Rattle.stamp_explain.proofs.search.look.Goals as goal
 

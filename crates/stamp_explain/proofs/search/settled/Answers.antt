@@ -3,8 +3,8 @@ use Rattle.std.specs.Int.{bit_at}
 use Rattle.std.proofs.lemmas.Option.{same_Some}
 use Rattle.std.proofs.lemmas.Bool.{false≢true}
 use Rattle.stamp_explain.specs.declared.observed.Observation.{Observation}
-use Rattle.stamp_explain.specs.Expand.PassesTo.{passes_none, passes_more}
-use Rattle.stamp_explain.specs.Expand.{ComesByOneMove}
+use Rattle.stamp_explain.specs.inner.Expand.PassesTo.{passes_none, passes_more}
+use Rattle.stamp_explain.specs.inner.Expand.{ComesByOneMove}
 use Rattle.stamp_explain.proofs.Awaiting.{Awaits, awaits_of, leads_past, past_of}
 use Rattle.stamp_explain.proofs.search.settled.Goals as goal
 use Rattle.stamp_explain.proofs.search.settled.Goals.{else-loop-node-test, then-loop-node-test+then-not-has_thread}

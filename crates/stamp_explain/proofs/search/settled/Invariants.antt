@@ -1,5 +1,5 @@
 use Rattle.std.proofs.Common.{◌-◌, length}
-use Rattle.stamp_explain.specs.Expand.{PassesTo}
+use Rattle.stamp_explain.specs.inner.Expand.{PassesTo}
 use Rattle.stamp_explain.proofs.search.settled.Given as goal
 
 abbrev pub invariant-loop-node : goal.invariant-loop-node

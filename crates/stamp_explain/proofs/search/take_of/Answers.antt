@@ -5,7 +5,7 @@ use Rattle.std.proofs.lemmas.Bool.{false≢true}
 use Rattle.stamp_core.specs.Call.{call_suits}
 use Rattle.stamp_explain.specs.declared.observed.Observation.{Observation}
 use Rattle.stamp_explain.specs.Observed.{AllowsReply}
-use Rattle.stamp_explain.specs.Node.{SetsBit}
+use Rattle.stamp_explain.specs.inner.Node.{SetsBit}
 use Rattle.stamp_explain.proofs.Expanding.{at_index, entry_is, none_by_bit, none_by_reply, none_by_wait, taken_to}
 use Rattle.stamp_explain.proofs.Expanding.{trying}
 use Rattle.stamp_explain.proofs.search.take_of.Goals as goal

@@ -2,7 +2,7 @@ use Rattle.std.proofs.Common.{◌≡◌, ◌<◌, ℕ, get_or, length, Some, ari
 use Rattle.std.specs.Prelude.{slice_get}
 use Rattle.std.proofs.lemmas.Option.{get_or_from_slice_get}
 use Rattle.std.proofs.lemmas.List.{get_or-map}
-use Rattle.stamp_explain.specs.TimelineKeys.{IsReturnKey}
+use Rattle.stamp_explain.specs.inner.TimelineKeys.{IsReturnKey}
 use Rattle.stamp_explain.proofs.Opening.{none_open, returned_more}
 use Rattle.stamp_explain.proofs.timeline.open_returned.Goals as goal
 

@@ -1,4 +1,4 @@
-use Rattle.stamp_explain.specs.TimelineKeys.{AreOpensOf, IsPast}
+use Rattle.stamp_explain.specs.inner.TimelineKeys.{AreOpensOf, IsPast}
 use Rattle.stamp_explain.proofs.timeline.open_returned.Given as goal
 
 abbrev pub invariant-loop-past : goal.invariant-loop-past

@@ -2,7 +2,7 @@ use Rattle.std.proofs.Common.{◌≡◌, length, refl, ap, List, Some, arith}
 use Rattle.std.specs.Prelude.{slice_get}
 use Rattle.std.proofs.lemmas.Option.{slice_get_read}
 use Rattle.stamp_explain.specs.declared.observed.Observation.{Observation}
-use Rattle.stamp_explain.specs.TimelineKeys.{HasReturnedOr, IsPast}
+use Rattle.stamp_explain.specs.inner.TimelineKeys.{HasReturnedOr, IsPast}
 use Rattle.stamp_explain.proofs.Opening.{past_or_returned, seen_so, under_way_more, under_way_same}
 use Rattle.stamp_explain.proofs.timeline.open_under_way.Goals as goal
 use Rattle.stamp_explain.proofs.timeline.open_under_way.Goals.{then-is_none+in_ok-open_until, else-is_none}

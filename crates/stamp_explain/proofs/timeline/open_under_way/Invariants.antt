@@ -1,4 +1,4 @@
-use Rattle.stamp_explain.specs.TimelineKeys.{AreOpensOf, HasReturnedOr}
+use Rattle.stamp_explain.specs.inner.TimelineKeys.{AreOpensOf, HasReturnedOr}
 use Rattle.stamp_explain.proofs.timeline.open_under_way.Given as goal
 
 abbrev pub invariant-loop-i : goal.invariant-loop-i

@@ -1,4 +1,4 @@
-use Rattle.stamp_explain.specs.TimelineKeys.{AreListedKeys}
+use Rattle.stamp_explain.specs.inner.TimelineKeys.{AreListedKeys}
 use Rattle.stamp_explain.proofs.timeline.return_keys_of.Given as goal
 
 abbrev pub invariant-loop-i : goal.invariant-loop-i

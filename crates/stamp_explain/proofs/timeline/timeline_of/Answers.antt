@@ -1,7 +1,7 @@
 use Rattle.std.proofs.Common.{◌≡◌, ℕ, List, length, Vec, Global, arith}
 use Rattle.std.specs.Vec.{with_items}
 use Rattle.std.proofs.lemmas.List.{with_items_is}
-use Rattle.stamp_explain.specs.TimelineKeys.{AreOpensOf, AreReturnKeys, HasReturnedOr}
+use Rattle.stamp_explain.specs.inner.TimelineKeys.{AreOpensOf, AreReturnKeys, HasReturnedOr}
 use Rattle.stamp_explain.proofs.timeline.timeline_of.Goals as goal
 use Rattle.stamp_explain.proofs.Opening.{timeline_is_made}
 

@@ -3,7 +3,7 @@ use Rattle.std.proofs.Common.{Some, None, refl}
 use Rattle.std.specs.Prelude.{slice_get}
 use Rattle.std.proofs.lemmas.Option.{same_Some, slice_get_read}
 use Rattle.stamp_explain.specs.declared.observed.Observation.{Observation}
-use Rattle.stamp_explain.specs.Node.{IsTransitionOf, Does}
+use Rattle.stamp_explain.specs.inner.Node.{IsTransitionOf, Does}
 use Rattle.stamp_explain.proofs.Transitions.{record_went, record_did_not, suits_some}
 use Rattle.stamp_explain.proofs.transition.transition_of.Goals as goal
 

@@ -3,7 +3,7 @@ use Rattle.std.specs.Prelude.{not}
 use Rattle.std.specs.Bool.{MatchBool}
 use Rattle.std.specs.List.{list_any, Contains}
 use Rattle.std.specs.List.Sorted.{IsPermutation}
-use Rattle.stamp_explain.specs.Store.{Key}
+use Rattle.stamp_explain.specs.inner.Store.{Key}
 use Rattle.stamp_explain.proofs.Storing.{same_key, found_again, found_not, stored, not_stored}
 use Rattle.stamp_explain.proofs.store.Store.add.Goals as goal
 

@@ -5,7 +5,7 @@ use Rattle.std.specs.List.{All, AllPairs, Contains}
 use Rattle.stamp_explain.specs.declared.observed.Observation.{Observation}
 use Rattle.stamp_explain.specs.Observed.{ObservedHistory, IsReturnAt}
 use Rattle.stamp_explain.specs.Search.{StandsBefore}
-use Rattle.stamp_explain.specs.Timeline.{IsOpenAt}
+use Rattle.stamp_explain.specs.inner.Timeline.{IsOpenAt}
 
 -- the call of this index returned, at this position
 pub record IsReturnKey (entries : List Observation) (p : ℕ × ℕ) : Type 0 where

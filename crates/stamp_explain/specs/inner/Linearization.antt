@@ -8,7 +8,7 @@ use Rattle.stamp_explain.specs.declared.linearization.OrderedCall.{OrderedCall}
 use Rattle.stamp_explain.specs.Observed.{ObservedHistory}
 use Rattle.stamp_explain.specs.Explained.{Effect, IsExplainedBy}
 use Rattle.stamp_explain.specs.Search.{LockState}
-use Rattle.stamp_explain.specs.Node.{IsStateBy}
+use Rattle.stamp_explain.specs.inner.Node.{IsStateBy}
 
 -- the indices and replies of an order
 abbrev pub ordered_calls : List Effect → List OrderedCall

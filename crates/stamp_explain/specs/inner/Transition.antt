@@ -12,7 +12,7 @@ use Rattle.stamp_core.specs.declared.call.Call.{Call}
 use Rattle.stamp_core.specs.declared.reply.Reply.{Reply}
 use Rattle.stamp_explain.specs.declared.observed.Observation.{Observation}
 use Rattle.stamp_explain.specs.Configuration.{put_after}
-use Rattle.stamp_explain.specs.Node.{content_by}
+use Rattle.stamp_explain.specs.inner.Node.{content_by}
 
 -- a transition of the lock, with its reply as one of lock or record
 abbrev pub transition_as : Option (LockWord × LockReply) → Option (LockWord × Reply)

@@ -15,17 +15,17 @@ use Rattle.stamp_explain.specs.declared.found.SearchEnd.{SearchEnd}
 use Rattle.stamp_explain.specs.declared.found.SearchEnd.TheVariants.{Linearization, NoOrder, GaveUp}
 use Rattle.stamp_explain.specs.declared.timeline.Timeline.{Timeline}
 use Rattle.stamp_explain.specs.Observed.{ObservedHistory, IsObserved, IsReturnAt, AreOfOneObject}
-use Rattle.stamp_explain.specs.Asking.{AreReplies, GetsMore, IsAim}
-use Rattle.stamp_explain.specs.Unchanging.{is_question_under_way_at}
-use Rattle.stamp_explain.specs.Ahead.{GivesWay}
+use Rattle.stamp_explain.specs.inner.Asking.{AreReplies, GetsMore, IsAim}
+use Rattle.stamp_explain.specs.inner.Unchanging.{is_question_under_way_at}
+use Rattle.stamp_explain.specs.inner.Ahead.{GivesWay}
 use Rattle.stamp_explain.specs.Explained.{Effect, IsEffectOf, IsExplained}
 use Rattle.stamp_explain.specs.Search.{LockState, StateTransition, MayTake, IsCompletedBy}
 use Rattle.stamp_explain.specs.Configuration.{GivesUp, GivesUpApart, IsTried, NoneIsAtOnce, ReachesMoreBeside}
 use Rattle.stamp_explain.specs.Configuration.{put_after}
-use Rattle.stamp_explain.specs.Node.{IsStateBy, StandsFor, IsReached, IsFirstNode}
-use Rattle.stamp_explain.specs.Timeline.{IsTimeline, IsAwaitedAt}
-use Rattle.stamp_explain.specs.Store.{IsStored}
-use Rattle.stamp_explain.specs.Linearization.{IsLinearizationOf}
+use Rattle.stamp_explain.specs.inner.Node.{IsStateBy, StandsFor, IsReached, IsFirstNode}
+use Rattle.stamp_explain.specs.inner.Timeline.{IsTimeline, IsAwaitedAt}
+use Rattle.stamp_explain.specs.inner.Store.{IsStored}
+use Rattle.stamp_explain.specs.inner.Linearization.{IsLinearizationOf}
 
 -- an order completes what the node stands for, in so many moves: returns and calls that take effect
 pub record Hope (h : ObservedHistory) (returns : List ℕ) (node : Node) (n : ℕ) : Type 0 where
