@@ -2,6 +2,7 @@ pub mod inner
 pub mod LockCall
 pub mod Foretold
 pub mod Watch
+pub mod Verdict
 pub mod Run
 pub mod Ahead
 pub mod Form

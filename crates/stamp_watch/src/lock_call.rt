@@ -2,8 +2,9 @@
 ghost use Rattle.std.specs.Prelude.{◌≡◌, IsTrue, MatchOption, false};
 ghost use Rattle.stamp_core.specs.Call.{is_lock_call};
 ghost use Rattle.stamp_core.specs.LockDecision.{reply_as};
-ghost use Rattle.stamp_explain.specs.Unchanging.{changes_nothing, is_this_stamp};
+ghost use Rattle.stamp_explain.specs.Unchanging.{changes_nothing};
 ghost use Rattle.stamp_watch.specs.LockCall.{call_as};
+ghost use Rattle.stamp_watch.specs.inner.Stamps.{is_this_stamp};
 
 use stamp_core::{Call, LockReply};
 
