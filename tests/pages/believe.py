@@ -511,7 +511,8 @@ def rows(items):
     for path in paths:
         here = [it for it in in_order(items) if it.path == path]
         names = ", ".join(re.sub(r"(\S+)$", r"`\1`", it.name) + f" {it.line}" for it in here)
-        yield f"| `{os.path.basename(path)}` ({here[0].crate}) | {names} | {sum(it.lines for it in here)} |"
+        link = f"[{os.path.basename(path)}](../{path}) ({here[0].crate})"
+        yield f"| {link} | {names} | {sum(it.lines for it in here)} |"
 
 
 def sum_of(items):
@@ -561,7 +562,7 @@ def written(public, items_of_all):
         everything |= items
         table.append(f"| {title} | {len(items)} | {sum(it.lines for it in items)} |")
         parts += section(title, contracts, items, others)
-    table.append(f"| all six | {len(everything)} | {sum(it.lines for it in everything)} |")
+    table.append(f"| all six, each definition once | {len(everything)} | {sum(it.lines for it in everything)} |")
     head = ["| Promise | Definitions | Lines |", "|---|---|---|", *table, ""]
     return "\n".join([BEGIN, "", *head, *parts, *by_crate(items_of_all), "", END])
 
