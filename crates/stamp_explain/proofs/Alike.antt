@@ -51,7 +51,8 @@ replaced_pairs R {x} {y} (later {w} {ys} {zs} r) before after all =
 
 replaced_apart : {x y : Effect} {ys zs : List Effect} → Replaces x y ys zs → AreOfTwoEntries y x →
     AllPairs AreOfTwoEntries ys → All (AreOfTwoEntries y) zs
-replaced_apart {x} {y} (here {ys}) other all = All-cons (AreOfTwoEntries y) x ys other (pairs_head AreOfTwoEntries y ys all)
+replaced_apart {x} {y} (here {ys}) other all = All-cons (AreOfTwoEntries y) x ys other (pairs_head AreOfTwoEntries y
+    ys all)
 replaced_apart {y} (later {w} {ys} {zs} r) other all =
     All-cons (AreOfTwoEntries y) w zs (λ e. was_there (AreOfTwoEntries w) r (pairs_head AreOfTwoEntries w ys all)
     (sym e)) (replaced_apart r other (pairs_tail AreOfTwoEntries w ys all))

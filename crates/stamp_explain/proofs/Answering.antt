@@ -239,7 +239,8 @@ returned_alike {e} {f} alike has = by e.returned f.returned refl alike.returned 
 
 later_alike : {a b e f : Observation} → IsAlike a e → IsAlike b f → ReturnsNoLater a b → ReturnsNoLater e f
 unfolding IsAlikeBy
-later_alike {a} {b} {e} {f} alike other is = by a.returned e.returned b.returned f.returned alike.returned other.returned is
+later_alike {a} {b} {e} {f} alike other is = by a.returned e.returned b.returned f.returned alike.returned
+    other.returned is
   where
     by : (o p u v : Option Returned) → IsAlikeBy o p → IsAlikeBy u v → MatchOption o ⊥
         (λ (q : Returned). MatchOption u (Unit {0}) (λ (r : Returned). q.last ≤ r.last)) →

@@ -1,5 +1,6 @@
 -- An order is found one call at a time, each no sooner than a return asks for it.
-use Rattle.std.proofs.Common.{◌≡◌, ◌≢◌, ◌⊎◌, ℕ, suc, List, [], ◌∷◌, length, get_or, refl, sym, ap, inl, inr, Some, arith}
+use Rattle.std.proofs.Common.{◌≡◌, ◌≢◌, ◌⊎◌, ℕ, suc, List, [], ◌∷◌}
+use Rattle.std.proofs.Common.{length, get_or, refl, sym, ap, inl, inr, Some, arith}
 use Rattle.std.specs.Prelude.{slice_get}
 use Rattle.std.specs.List.{All, AllPairs, Contains}
 use Rattle.std.proofs.lemmas.List.Elements.{All-nil, All-cons, All-head, All-tail, All-weaker}
@@ -115,7 +116,8 @@ module _ {S : Type 0} (Goes : S → Call × Reply → S → Type 0) {entries : L
   }
 
   -- a call in effect may return
-  other_returns : {returns more : List ℕ} {s : S} {taken : List ℕ} {rest : List Effect} → All (IsDone taken rest) more →
+  other_returns : {returns more : List ℕ} {s : S} {taken : List ℕ} {rest : List Effect} →
+      All (IsDone taken rest) more →
       IsCompletedBy Goes entries returns s taken rest → IsCompletedBy Goes entries more s taken rest
   other_returns returned by = record {
     effects = by.effects;

@@ -247,7 +247,7 @@ module _ (h : ObservedHistory) (asked : Option ℕ) (returns : List ℕ) where
             leads = expands.each from.0 (contains_at nexts (i - length waiting) from.0 from.1.0);
           })
 
-  -- what waits last was looked at: no order completes it, since what comes from it would wait above it. So it is passed
+  -- what waits last was looked at: no order completes it, since what comes from it would wait above it: it is passed
   -- over
   passed_over : (replies : List Reply) (store : Store) (waiting : List Waiting) (top : Waiting) (expanded : ℕ) →
       Deepens replies store (waiting ++ top ∷ []) expanded → Contains store.nodes.items top.node →

@@ -74,7 +74,8 @@ pub sooner_past : {entries : List Observation} {returns : List ℕ} (past : ℕ)
     AreReturns entries returns → past < length returns → slice_get entries (get_or returns past 0) ≡ Some a →
     (j : ℕ) (f x : Observation) → slice_get entries j ≡ Some f → IsBefore f x → ¬ IsBefore a x →
     Contains (take past returns) j
-sooner_past {entries} {returns} past a are lt at j f x at_j before not = by (are.whole j f at_j (has_returned f x before))
+sooner_past {entries} {returns} past a are lt at j f x at_j before not = by (are.whole j f at_j (has_returned f x
+    before))
   where
     by : Contains returns j → Contains (take past returns) j
     by (k, within, is) = which (cases_order k past)

@@ -1,5 +1,5 @@
 -- What an order of the whole is to a search, and where one begins.
-use Rattle.std.proofs.Common.{◌≡◌, ◌⊎◌, ℕ, ◌+◌, ◌≤◌, List, [], length, get_or, sym, subst, inl, inr, arith, Option, None}
+use Rattle.std.proofs.Common.{◌≡◌, ◌⊎◌, ℕ, ◌+◌, List, [], length, get_or, sym, subst, inl, inr, arith, Option, None}
 use Rattle.std.specs.Prelude.{take, drop}
 use Rattle.std.specs.List.{Contains}
 use Rattle.std.specs.Int.{bit_at}

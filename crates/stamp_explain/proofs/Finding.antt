@@ -1,13 +1,13 @@
 -- Just in time: an order is found exactly where there is one.
-use Rattle.std.proofs.Common.{◌≡◌, ◌⊎◌, ℕ, ◌+◌, ◌<◌, ◌≤◌, zero, suc, List, [], ◌∷◌, ◌++◌, length, get_or, refl}
+use Rattle.std.proofs.Common.{◌≡◌, ◌⊎◌, ℕ, ◌+◌, ◌<◌, ◌≤◌, zero, suc, List, [], ◌∷◌, ◌++◌, length, refl}
 use Rattle.std.proofs.Common.{sym, ◌∙◌, ap, subst, inl, inr, arith, Option, None, Some}
 use Rattle.std.specs.Prelude.{slice_get, MatchOption}
 use Rattle.std.specs.List.{All, AllPairs, Contains}
-use Rattle.std.proofs.lemmas.List.Elements.{All-head, All-tail, All-weaker, All-contains}
+use Rattle.std.proofs.lemmas.List.Elements.{All-head, All-tail, All-contains}
 use Rattle.std.proofs.lemmas.Option.{get_or_from_slice_get, slice_get_within, same_Some}
 use Rattle.stamp_core.specs.LockEvent.{LockEvent}
 use Rattle.stamp_core.specs.Limits.{Bounds}
-use Rattle.stamp_core.specs.Content.{zeros, content_next}
+use Rattle.stamp_core.specs.Content.{content_next}
 use Rattle.stamp_core.specs.Transition.{transition}
 use Rattle.stamp_core.specs.History.{History, IsLegalFrom, appended_by}
 use Rattle.stamp_core.specs.declared.call.Call.{Call}
@@ -15,12 +15,11 @@ use Rattle.stamp_core.specs.declared.reply.Reply.{Reply}
 use Rattle.stamp_explain.specs.declared.observed.Observation.{Observation}
 use Rattle.stamp_explain.specs.declared.observed.Returned.{Returned}
 use Rattle.stamp_explain.specs.Observed.{ObservedHistory, IsBefore, HasReturned, IsInterval, IsObserved, IsReturnAt}
-use Rattle.stamp_explain.specs.Explained.{Effect, history_of, indices_of, IsExplained}
+use Rattle.stamp_explain.specs.Explained.{Effect}
 use Rattle.stamp_explain.specs.Search.{Runs, IsCompletedBy, CanComplete, FindsOrder, ReturnsNoLater, AreInOrder}
-use Rattle.stamp_explain.specs.Search.{IsFirstReturn, LockState, first_state, after_call, StateTransition}
+use Rattle.stamp_explain.specs.Search.{IsFirstReturn, LockState, after_call, StateTransition}
 use Rattle.stamp_explain.specs.Search.FindsOrder.{at_end, returns, takes}
-use Rattle.stamp_explain.specs.ExplainLaws.{JustInTime}
-use Rattle.stamp_explain.proofs.Lists.{none_in_empty, contains_cases, contains_rest, pairs_head, pairs_tail, either_in}
+use Rattle.stamp_explain.proofs.Lists.{contains_cases, contains_rest, pairs_head, pairs_tail, either_in}
 use Rattle.stamp_explain.proofs.Completing.{IsAwaited, completed_by_none, past_return}
 use Rattle.stamp_explain.proofs.Completing.{before_return, takes_first, never_empty, puts_first}
 

@@ -1,15 +1,13 @@
 -- The next node of a search: the last of those that wait and were not visited.
-use Rattle.std.proofs.Common.{◌≡◌, true, false, List, [], ◌∷◌, ◌++◌, ◌∙◌, ap}
+use Rattle.std.proofs.Common.{◌≡◌, false, List, [], ◌∷◌, ◌++◌, ◌∙◌, ap}
 use Rattle.std.proofs.Common.{subst}
 use Rattle.std.specs.List.{All, Contains}
 use Rattle.std.proofs.lemmas.List.{append_assoc}
 use Rattle.std.proofs.lemmas.List.Elements.{All-cons}
 use Rattle.stamp_explain.specs.declared.node.Node.{Node}
-use Rattle.stamp_explain.specs.declared.node.Origin.{Origin}
 use Rattle.stamp_explain.specs.declared.node.Waiting.{Waiting}
 use Rattle.stamp_explain.specs.declared.store.Store.{Store}
 use Rattle.stamp_explain.specs.inner.Store.{Keeps, IsStored}
-use Rattle.stamp_explain.specs.inner.Expand.{LooksAt}
 
 -- of those that waited the last were visited, and the store is as it was
 pub record Looking (old now : Store) (waited waiting : List Waiting) : Type 0 where

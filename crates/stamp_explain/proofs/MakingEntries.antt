@@ -1,5 +1,6 @@
 -- The recorded history of an order.
-use Rattle.std.proofs.Common.{◌≡◌, ◌⊎◌, ℕ, ◌+◌, ◌*◌, ◌<◌, ◌≤◌, zero, suc, List, [], ◌∷◌, ◌++◌, length, get_or, map, refl}
+use Rattle.std.proofs.Common.{◌≡◌, ◌⊎◌, ℕ, ◌+◌, ◌*◌, ◌<◌, ◌≤◌, zero}
+use Rattle.std.proofs.Common.{suc, List, [], ◌∷◌, ◌++◌, length, get_or, map, refl}
 use Rattle.std.proofs.Common.{sym, ◌∙◌, ap, arith, inl, inr, Option, None, Some}
 use Rattle.std.specs.Prelude.{drop, take, slice_get, IsTrue, max}
 use Rattle.std.specs.List.{All, AllZip}
@@ -166,7 +167,8 @@ ends_as_told hs end q n (x ∷ xs) effects = (
 )
 
 pub all_made : (h : ObservedHistory) (calls : List OrderedCall) (end k : ℕ) (entries : List Entry) (q n : ℕ)
-    (o : IsLinearizationOf h calls) → MakesEntries o.order end k entries q n → length calls ≤ k → entries ≡ points_from end 0 0 o.order
+    (o : IsLinearizationOf h calls) → MakesEntries o.order end k entries q n → length calls ≤ k →
+        entries ≡ points_from end 0 0 o.order
 all_made h calls end k entries q n o is over =
     let none : drop k o.order ≡ [] = drop_all k o.order (omega (
       arith,

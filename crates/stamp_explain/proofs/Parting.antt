@@ -23,7 +23,8 @@ use Rattle.stamp_explain.proofs.Lists.{contains_filter, contains_from_map, conta
 use Rattle.stamp_explain.proofs.Completing.{same_entry}
 use Rattle.stamp_explain.proofs.Expanding.{at_index}
 use Rattle.stamp_explain.proofs.Merging.{IsTimed, Merges, all_left, all_locks, all_records, filter_merge}
-use Rattle.stamp_explain.proofs.Merging.{split_legal, flipped, left_index, merge_all, merge_legal, merge_pairs, merges, not_is}
+use Rattle.stamp_explain.proofs.Merging.{split_legal, flipped, left_index, merge_all}
+use Rattle.stamp_explain.proofs.Merging.{merge_legal, merge_pairs, merges, not_is}
 use Rattle.stamp_explain.proofs.Seeing.{AllPass, IsOrderOf, parted, restored}
 
 -- it may be observed
@@ -110,7 +111,8 @@ module _ (h : ObservedHistory) where
         (record_runs ys records.passes records.by.legal);
   }
     where
-      apart : (x y : Effect) → IsOf h.entries is_of_lock x → IsOf h.entries is_of_record y → AreOfTwoEntries x y × AreOfTwoEntries y x
+      apart : (x y : Effect) → IsOf h.entries is_of_lock x → IsOf h.entries is_of_record y → AreOfTwoEntries x y ×
+          AreOfTwoEntries y x
       apart x y x_is y_is = (λ same. differ same, λ same. differ (sym same))
         where
           differ : x.index ≡ y.index → ⊥

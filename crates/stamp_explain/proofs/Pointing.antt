@@ -29,7 +29,8 @@ record AreOfEntries (hs : List Observation) (is : List ℕ) (es : List Entry) : 
   history : entries_history es ≡ history_of order
   each : AllZip (IsOfEntry hs) es order
 
-order_of : (hs : List Observation) (is : List ℕ) (es : List Entry) → AllZip (IsEntryOf hs) is es → AreOfEntries hs is es
+order_of : (hs : List Observation) (is : List ℕ) (es : List Entry) → AllZip (IsEntryOf hs) is es →
+    AreOfEntries hs is es
 order_of hs [] [] z = record { order = []; indices = refl; history = refl; each = tt }
 order_of hs [] (e ∷ es) z = absurd z
 order_of hs (i ∷ is) [] z = absurd z

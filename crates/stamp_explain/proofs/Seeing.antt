@@ -1,7 +1,8 @@
 -- What an observer has seen by a position explains as much as the cut there.
 use Rattle.std.proofs.Common.{◌≡◌, ℕ, ◌+◌, ◌<◌, ◌≤◌, zero, suc, Bool, true, false, List, [], ◌∷◌, ◌++◌, map}
 use Rattle.std.proofs.Common.{length, get_or, refl, sym, ◌∙◌, ap, inl, inr, arith, Option, None, Some}
-use Rattle.std.specs.Prelude.{slice_get, if◌then◌else◌, nat_lt, filter, not, cond, ◌==◌, ◌&&◌, ◌||◌, IsTrue, drop, MatchOption}
+use Rattle.std.specs.Prelude.{slice_get, if◌then◌else◌, nat_lt, filter, not, cond}
+use Rattle.std.specs.Prelude.{◌==◌, ◌&&◌, ◌||◌, IsTrue, drop, MatchOption}
 use Rattle.std.specs.List.{All, AllPairs, AllZip, Contains}
 use Rattle.std.proofs.Math.Seq.{drop-append_seam}
 use Rattle.std.proofs.lemmas.List.Elements.{All-cons, All-drop, All-filter, All-map, All-nil, Contains-append_cases}

@@ -34,7 +34,8 @@ hope_past {h} {returns} {u} {w} step hope = record {
     taken = hope.taken;
     stands = l.stands;
     rest = hope.rest;
-    by = past_return (StateTransition h.limits) (slice_index returns u.past) (subst (λ (rest : List ℕ). IsCompleted rest) to_come hope.by);
+    by = past_return (StateTransition h.limits) (slice_index returns u.past) (subst (λ (rest : List ℕ). IsCompleted
+        rest) to_come hope.by);
     moves = refl;
   };
 }

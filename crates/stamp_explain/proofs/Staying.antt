@@ -1,6 +1,6 @@
 -- Calls whose reply tells that they change nothing change nothing.
-use Rattle.std.proofs.Common.{◌≡◌, ◌⊎◌, ℕ, ◌<◌, ◌≤◌, ◌==◌, Bool, true, false, List, [], ◌++◌, refl, sym, ◌∙◌, ap, arith}
-use Rattle.std.specs.Prelude.{nat_lt, ◌||◌}
+use Rattle.std.proofs.Common.{◌≡◌, ℕ, ◌<◌, ◌≤◌, ◌==◌, Bool, true, false, List, [], refl, sym, ◌∙◌, ap, arith}
+use Rattle.std.specs.Prelude.{◌||◌}
 use Rattle.std.specs.Bool.{MatchBool}
 use Rattle.std.proofs.lemmas.List.{append-nil}
 use Rattle.std.proofs.lemmas.Bool.Decides.{nat_tests}
@@ -14,14 +14,14 @@ use Rattle.stamp_core.specs.Transition.{transition, row}
 use Rattle.stamp_core.specs.History.{appended_by, Replies, IsReply}
 use Rattle.stamp_core.specs.declared.layout.Layout.{Layout}
 use Rattle.stamp_core.specs.declared.call.Call.{Call}
-use Rattle.stamp_core.specs.declared.call.Call.TheVariants.{TryWrite, TryRead, WriteLock, ReadLock, Optimistic}
-use Rattle.stamp_core.specs.declared.call.Call.TheVariants.{Validate, UnlockWrite, UnlockRead, Unlock, ToWrite}
+use Rattle.stamp_core.specs.declared.call.Call.TheVariants.{TryWrite, TryRead, WriteLock, ReadLock}
+use Rattle.stamp_core.specs.declared.call.Call.TheVariants.{UnlockWrite, UnlockRead, Unlock, ToWrite}
 use Rattle.stamp_core.specs.declared.call.Call.TheVariants.{ToRead, ToOptimistic, TryUnlockWrite, TryUnlockRead}
-use Rattle.stamp_core.specs.declared.call.Call.TheVariants.{IsWriteLocked, IsReadLocked, ReadCount, Get, Put}
+use Rattle.stamp_core.specs.declared.call.Call.TheVariants.{Get, Put}
 use Rattle.stamp_core.specs.declared.call.Call.TheVariants.{PutIf}
 use Rattle.stamp_core.specs.declared.reply.Reply.{Reply}
 use Rattle.stamp_core.specs.declared.reply.Reply.TheVariants.{Stamp, Yes, No, Mismatch}
-use Rattle.stamp_core.proofs.TwoLayouts.{AreUnits, either_layout}
+use Rattle.stamp_core.proofs.TwoLayouts.{either_layout}
 use Rattle.stamp_explain.specs.Unchanging.{changes_nothing}
 use Rattle.stamp_explain.specs.ExplainLaws.{UnchangingCallsChangeNothing}
 

@@ -41,7 +41,8 @@ use Rattle.stamp_explain.proofs.AtOnce.{TakesAtOnce, takes_at_once}
 use Rattle.stamp_explain.proofs.Settling.{follows_of, suffices_settled}
 use Rattle.stamp_explain.proofs.Expanding.{next_open, open_may}
 use Rattle.stamp_explain.proofs.Lists.{none_in_empty, each_push, either_in}
-use Rattle.stamp_explain.proofs.Awaiting.{Awaits, AwaitsOne, awaited_at, leads_by_call, goes_on_to, alone, only_one, due}
+use Rattle.stamp_explain.proofs.Awaiting.{Awaits, AwaitsOne, awaited_at, leads_by_call}
+use Rattle.stamp_explain.proofs.Awaiting.{goes_on_to, alone, only_one, due}
 use Rattle.stamp_explain.proofs.Trying.{Tries, none_tried, tried_none, tried_some, tried_not, suffice_taken}
 
 -- of the first k of these calls none takes effect at once
@@ -109,7 +110,8 @@ first_at_once : {h : ObservedHistory} {asked : Option ℕ} {timeline : Timeline}
     StandsFor h timeline.returns.items node s taken → AreOpen h timeline.returns.items node.past calls →
     NoneOfFirst h asked timeline.returns.items node calls k → k < length calls → get_or calls k 0 ≡ x.index →
     IsAtOnce asked x → IsFirstAtOnce h asked timeline.returns.items a s taken x
-first_at_once {h} {asked} {timeline} {a} {s} {taken} {calls} {k} {x} is stands are before inside here at_once = record {
+first_at_once {h} {asked} {timeline} {a} {s} {taken} {calls} {k} {x} is stands are before inside here at_once = record
+    {
   at_once = at_once;
   first = λ y t too may. by y t too may (are.whole y.index (open_may is.at stands.in_effect may));
 }
@@ -213,7 +215,8 @@ pub leads_at_once : {h : ObservedHistory} {asked : Option ℕ} {timeline : Timel
     k < length calls → is_unchanging_at h.entries (get_or calls k 0) ≡ true → asked ≢ Some (get_or calls k 0) →
     IsTakeOf h timeline.returns.items node (get_or calls k 0) (Some w) → ComesByOneMove h asked timeline.returns.items
     node w
-leads_at_once {h} {asked} {timeline} {node} {a} {calls} {k} {w} is bit are before inside unchanging other took = record {
+leads_at_once {h} {asked} {timeline} {node} {a} {calls} {k} {w} is bit are before inside unchanging other took =
+    record {
   inside = is.inside;
   leads = λ s taken stands. by s taken stands (took.takes a s taken (awaited_at is) stands);
 }
@@ -270,7 +273,8 @@ pub expands_at_once : {h : ObservedHistory} {asked : Option ℕ} {timeline : Tim
     k < length calls → (asked ≢ Some (get_or calls k 0)) × (is_unchanging_at h.entries (get_or calls k 0) ≡ true) →
     IsTakeOf h timeline.returns.items node (get_or calls k 0) (Some w) → Settles h timeline.returns.items w next →
     Expands h asked timeline.returns.items node replies (next ∷ [])
-expands_at_once {h} {asked} {timeline} {node} {replies} {calls} {k} w next may are before inside test takes to = record {
+expands_at_once {h} {asked} {timeline} {node} {replies} {calls} {k} w next may are before inside test takes to =
+    record {
   each = λ v has. subst (ComesNext h asked timeline.returns.items node) (only_one next v has)
       (follows_of (leads_at_once here.awaits here.bit are before inside test.1 test.0 takes) to.passes to.took
       to.settled);
@@ -307,7 +311,8 @@ pub chooses_one : {h : ObservedHistory} {asked : Option ℕ} {timeline : Timelin
     {awaited : ℕ} → get_or timeline.returns.items node.past 0 ≡ awaited → IsChoiceOf h asked timeline.returns.items
     node calls awaited (get_or calls (length calls - 1 - k) 0) w → Settles h timeline.returns.items w next →
     Chooses h asked timeline.returns.items node calls (k + 1) (nexts ++ next ∷ [])
-chooses_one {h} {asked} {timeline} {node} {calls} {k} {nexts} {w} next may none are chooses more same choice to = record {
+chooses_one {h} {asked} {timeline} {node} {calls} {k} {nexts} {w} next may none are chooses more same choice to =
+    record {
   led = each_push (ComesNext h asked timeline.returns.items node) nexts next chooses.led
       (follows_of (choice_leads here.awaits here.bit none are (ap (λ (n : ℕ). slice_get h.entries n) (sym same) ∙
       here.awaits.at) choice) to.passes to.took to.settled);

@@ -3,7 +3,7 @@ use Rattle.std.proofs.Common.{◌≡◌, ℕ, ◌<◌, Bool, true, false, List, 
 use Rattle.std.proofs.Common.{Option, None, Some}
 use Rattle.std.specs.Prelude.{IsTrue, slice_get}
 use Rattle.std.specs.Bool.{MatchBool}
-use Rattle.std.proofs.lemmas.Bool.{MatchBool-at_true, MatchBool-at_false, false≢true}
+use Rattle.std.proofs.lemmas.Bool.{MatchBool-at_false, false≢true}
 use Rattle.std.proofs.lemmas.Bool.Decides.{nat_tests}
 use Rattle.stamp_core.specs.LockEvent.{LockEvent}
 use Rattle.stamp_core.specs.Call.{is_lock_call, call_suits}
@@ -20,8 +20,8 @@ use Rattle.stamp_explain.specs.Observed.{ObservedHistory}
 use Rattle.stamp_explain.specs.Search.{LockState}
 use Rattle.stamp_explain.specs.Configuration.{put_after}
 use Rattle.stamp_explain.specs.inner.Node.{IsStateBy, Does, IsTransitionOf, content_by, words_put, words_put_at}
-use Rattle.stamp_explain.specs.inner.Transition.{LockGoes, RecordGoes}
-use Rattle.stamp_explain.proofs.Merging.{lock_leaves, record_appends}
+use Rattle.stamp_explain.specs.inner.Transition.{RecordGoes}
+use Rattle.stamp_explain.proofs.Merging.{record_appends}
 
 -- a call of the lock leaves the record's words
 lock_puts_none : (put : Option ℕ) (i : ℕ) (call : Call) (reply : Reply) → is_lock_call call ≡ true →

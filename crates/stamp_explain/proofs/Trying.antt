@@ -259,7 +259,8 @@ pub goes_or_waits : {h : ObservedHistory} {asked : Option ℕ} {timeline : Timel
     suc left ≤ most → Completes h timeline node a s taken u left x → ((y : Effect) →
     suc (bound y.entry.returned) ≤ bound x.entry.returned → Completes h timeline node a s taken u left y →
     GoesOn h timeline.returns.items nexts most) → GoesOn h timeline.returns.items nexts most
-goes_or_waits {h} {asked} {timeline} {node} {a} {calls} {nexts} {s} {taken} {most} {u} {left} {x} is are all stands tries fewer it again =
+goes_or_waits {h} {asked} {timeline} {node} {a} {calls} {nexts} {s} {taken} {most} {u} {left} {x} is are all stands
+    tries fewer it again =
     by (tries.tried a s taken (awaited_at is) stands x u it.may it.object it.no_question at.0 at.1 (omega (arith, all))
     (get_or_default calls at.0 0 x.index at.1 ∙ at.2))
   where

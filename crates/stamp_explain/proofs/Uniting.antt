@@ -62,7 +62,8 @@ pub next_call : (indices : List ℕ) (order : List OrderedCall) (k : ℕ) (t : O
     t ≡ get_or order k t → drop k (map (in_whole indices) order) ≡
     in_whole indices t ∷ drop (k + 1) (map (in_whole indices) order)
 next_call indices order k t lt read =
-    drop_more (map (in_whole indices) order) k (in_whole indices t) (omega (arith, length-map order (in_whole indices))) ∙
+    drop_more (map (in_whole indices) order) k (in_whole indices t) (omega (arith, length-map order (in_whole
+        indices))) ∙
     ap (λ (c : OrderedCall). c ∷ drop (k + 1) (map (in_whole indices) order))
     (get_or-map (in_whole indices) order k t (in_whole indices t) lt ∙ ap (in_whole indices) (sym read))
 
@@ -240,3 +241,8 @@ none_of_one h true sub observed is misses explained =
     misses (rw is.history ((judged_apart h observed).1.0 explained).0)
 none_of_one h false sub observed is misses explained =
     misses (rw is.history ((judged_apart h observed).1.0 explained).1)
+
+pub found_by_one : (h : ObservedHistory) (lock : Bool) (sub : Subhistory) (most : ℕ) (end : SearchEnd) → IsObserved h →
+    IsSubhistoryOf h lock sub → IsSearched sub.history most end → end ≡ NoOrder → IsFoundApart h most end
+found_by_one h lock sub most end observed is found none =
+    rw none (none_of_one h lock sub observed is (rw none at found))

@@ -74,6 +74,7 @@ fn without_order(
     observed: &Observed,
     most: u64,
     unexplained: bool,
+    furthest: u64,
 ) -> Result<Record, ExplainError>
     requires observed { IsObserved observed.now }
     requires found { IsNotFound observed.now most unexplained }
@@ -83,7 +84,8 @@ fn without_order(
     if return_keys.is_empty() {
         return Ok(recorded_with_points(alloc, observed, &[])?);
     }
-    Err(refusal_of(alloc, observed, return_keys.as_slice(), most, unexplained)?)
+    let return_keys = return_keys.as_slice();
+    Err(refusal_of(alloc, observed, return_keys, most, unexplained, furthest)?)
 }
 
 /// Finds an order that explains an observed history, and answers a recorded history of it. In that
@@ -97,13 +99,14 @@ pub fn explain(alloc: Global, observed: &Observed, most: u64) -> Result<Record, 
     requires { IsObserved observed.now }
     ensures { IsAnswer observed.now most result }
 {
-    match find(alloc, observed, most)? {
+    let found = find(alloc, observed, most)?;
+    match found.end {
         SearchEnd::Linearization(order) => Ok(recorded_with_points(
             alloc,
             observed,
             order.as_slice(),
         )?),
-        SearchEnd::NoOrder => without_order(alloc, observed, most, true),
-        SearchEnd::GaveUp => without_order(alloc, observed, most, false),
+        SearchEnd::NoOrder => without_order(alloc, observed, most, true, found.furthest),
+        SearchEnd::GaveUp => without_order(alloc, observed, most, false, found.furthest),
     }
 }

@@ -7,7 +7,8 @@ use crate::apart::{merged, subhistory_of};
 use crate::linearization::OrderedCall;
 use crate::observed::Observed;
 use crate::search::search;
-use crate::timeline::timeline_of;
+use crate::timeline::{Timeline, timeline_of};
+use stamp_core::Reply;
 use std::alloc::{AllocError, Global};
 
 /// What a search finds.
@@ -21,46 +22,79 @@ pub(crate) enum SearchEnd {
     GaveUp,
 }
 
+/// What a search finds, with the replies of the call that is asked, and how many returns were past where most were.
+#[derive(Drop)]
+pub(crate) struct Searched {
+    pub(crate) end: SearchEnd,
+    pub(crate) replies: Vec<Reply>,
+    pub(crate) past: usize,
+}
+
+/// What is found of a history, and the position of the furthest return that was awaited: where no order is found,
+/// the first return that none explains is mostly there.
+#[derive(Drop)]
+pub(crate) struct Found {
+    pub(crate) end: SearchEnd,
+    pub(crate) furthest: u64,
+}
+
+/// The position of the return before which so many are past, if there is one.
+fn awaited_at(observed: &Observed, timeline: &Timeline, past: usize) -> Option<u64> {
+    let awaited = timeline.returns.get(past)?;
+    let entry = observed.entries().get(*awaited)?;
+    Some(entry.returned?.last)
+}
+
 /// What one search finds of all calls of a history.
-fn find_alone(alloc: Global, observed: &Observed, most: u64) -> Result<SearchEnd, AllocError>
+fn find_alone(alloc: Global, observed: &Observed, most: u64) -> Result<Found, AllocError>
     requires { IsObserved observed.now }
-    ensures { IfOk result (λ found. IsSearched observed.now most found) }
+    ensures { IfOk result (λ found. IsSearched observed.now most found.end) }
 {
     let timeline = timeline_of(alloc, observed)?;
-    let (end, _) = search(alloc, observed, &timeline, None, most)?;
-    Ok(end)
+    let searched = search(alloc, observed, &timeline, None, most)?;
+    let furthest = awaited_at(observed, &timeline, searched.past).unwrap_or(u64::MAX);
+    Ok(Found {
+        end: searched.end,
+        furthest,
+    })
 }
 
 /// Looks for an order that explains the history. Lock and record are searched apart, and each search gives
 /// up once it has looked at more than `most` configurations.
-pub(crate) fn find(alloc: Global, observed: &Observed, most: u64) -> Result<SearchEnd, AllocError>
+pub(crate) fn find(alloc: Global, observed: &Observed, most: u64) -> Result<Found, AllocError>
     requires { IsObserved observed.now }
-    ensures { IfOk result (λ found. IsFoundApart observed.now most found) }
+    ensures { IfOk result (λ found. IsFoundApart observed.now most found.end) }
 {
     if observed.width() == 0 {
         return find_alone(alloc, observed, most);
     }
     let lock_calls = subhistory_of(alloc, observed, true)?;
     let record_calls = subhistory_of(alloc, observed, false)?;
-    let lock_end = find_alone(alloc, &lock_calls.history, most)?;
-    let record_end = find_alone(alloc, &record_calls.history, most)?;
-    match lock_end {
-        SearchEnd::NoOrder => Ok(SearchEnd::NoOrder),
-        SearchEnd::GaveUp => match record_end {
-            SearchEnd::NoOrder => Ok(SearchEnd::NoOrder),
-            SearchEnd::Linearization(_) | SearchEnd::GaveUp => Ok(SearchEnd::GaveUp),
-        },
-        SearchEnd::Linearization(lock_order) => match record_end {
-            SearchEnd::NoOrder => Ok(SearchEnd::NoOrder),
-            SearchEnd::GaveUp => Ok(SearchEnd::GaveUp),
-            SearchEnd::Linearization(record_order) => Ok(SearchEnd::Linearization(merged(
+    let lock_found = find_alone(alloc, &lock_calls.history, most)?;
+    if matches!(lock_found.end, SearchEnd::NoOrder) {
+        return Ok(lock_found);
+    }
+    let record_found = find_alone(alloc, &record_calls.history, most)?;
+    if matches!(record_found.end, SearchEnd::NoOrder) {
+        return Ok(record_found);
+    }
+    let furthest = lock_found.furthest.min(record_found.furthest);
+    match (lock_found.end, record_found.end) {
+        (SearchEnd::Linearization(lock_order), SearchEnd::Linearization(record_order)) => {
+            let order = merged(
                 alloc,
                 observed,
                 &lock_calls,
                 lock_order.as_slice(),
                 &record_calls,
                 record_order.as_slice(),
-            )?)),
-        },
+            )?;
+            let end = SearchEnd::Linearization(order);
+            Ok(Found { end, furthest })
+        }
+        _ => Ok(Found {
+            end: SearchEnd::GaveUp,
+            furthest,
+        }),
     }
 }

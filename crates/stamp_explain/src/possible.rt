@@ -100,7 +100,7 @@ fn is_possible(
     };
     let tried = with_reply(alloc, observed, entry, *observation, *returned, reply)?;
     let seen = seen_at(alloc, &tried, returned.last, entry + 1)?;
-    match find(alloc, &seen, most)? {
+    match find(alloc, &seen, most)?.end {
         SearchEnd::Linearization(_) => Ok(true),
         SearchEnd::NoOrder => Ok(false),
         SearchEnd::GaveUp => Err(PossibleError::Undecided),
@@ -193,10 +193,10 @@ fn replies_at(
     if most == 0 {
         return Ok(None);
     }
-    let (end, replies) = search(alloc, &seen, &timeline, Some(index), most - 1)?;
-    match end {
+    let searched = search(alloc, &seen, &timeline, Some(index), most - 1)?;
+    match searched.end {
         SearchEnd::Linearization(_) => unreachable!(),
-        SearchEnd::NoOrder => Ok(Some(replies)),
+        SearchEnd::NoOrder => Ok(Some(searched.replies)),
         SearchEnd::GaveUp => Ok(None),
     }
 }

@@ -17,7 +17,7 @@ ghost use Rattle.stamp_explain.specs.inner.Expand.{IsSettled, NoneIsAtOnceAt, Is
 
 use crate::ahead::gives_way;
 use crate::asking::{ask, is_asked};
-use crate::found::SearchEnd;
+use crate::found::{SearchEnd, Searched};
 use crate::linearization::linearization_to;
 use crate::node::{Next, Node, Origin, Waiting, has_thread, with_thread, without_thread};
 use crate::observed::{Observed, are_of_one_object};
@@ -240,11 +240,11 @@ pub(crate) fn search(
     timeline: &Timeline,
     asked: Option<usize>,
     most: u64,
-) -> Result<(SearchEnd, Vec<Reply>), AllocError>
+) -> Result<Searched, AllocError>
     requires observed { IsObserved observed.now }
     requires timeline { IsTimeline observed.now timeline.now }
     requires returned { (i : ℕ) → asked ≡ Some i → IsReturnAt observed.now.entries i }
-    ensures { IfOk result (λ found. IsSearchedFor observed.now asked most found.1.items found.0) }
+    ensures { IfOk result (λ found. IsSearchedFor observed.now asked most found.replies.items found.end) }
 {
     let returns = timeline.returns.as_slice();
     // Where there is no choice, there is a node for each call, beside the first.
@@ -253,20 +253,25 @@ pub(crate) fn search(
     let mut waiting = Vec::new(alloc);
     let mut nexts = Vec::new(alloc);
     let mut replies = Vec::new(alloc);
+    let mut past = 0;
     for _ in 0..=most {
         let index = store.nodes.len() - 1;
         let node = store.nodes[index];
+        past = node.past.max(past);
         if node.past >= returns.len() {
             let order = linearization_to(alloc, observed, timeline, &store, index)?;
-            return Ok((SearchEnd::Linearization(order), replies));
+            let end = SearchEnd::Linearization(order);
+            return Ok(Searched { end, replies, past });
         }
         successors(observed, timeline, asked, &node, &mut nexts, &mut replies)?;
         leave(&mut waiting, index, nexts.as_slice())?;
         if !look(&mut store, &mut waiting)? {
-            return Ok((SearchEnd::NoOrder, replies));
+            let end = SearchEnd::NoOrder;
+            return Ok(Searched { end, replies, past });
         }
     }
-    Ok((SearchEnd::GaveUp, replies))
+    let end = SearchEnd::GaveUp;
+    Ok(Searched { end, replies, past })
 }
 
 /// The node at which a search begins.

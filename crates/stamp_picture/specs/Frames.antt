@@ -118,7 +118,8 @@ opening_frame positions state = record {
 
 -- what the record holds, from here to the right border
 abbrev pub content_frame : List ℕ → ℕ → Frame
-content_frame positions x = record { class = class.Content; x = x; y = 72; width = right_of positions - x; height = 22 }
+content_frame positions x =
+    record { class = class.Content; x = x; y = 72; width = right_of positions - x; height = 22 }
 
 -- a lane, from side to side
 abbrev pub lane_frame : List ℕ → ℕ → Frame

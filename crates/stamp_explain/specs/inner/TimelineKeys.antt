@@ -1,4 +1,4 @@
--- How a timeline is made: the returns are put in order, and each call is listed before the returns at which it is open.
+-- How a timeline is made: the returns are put in order, and each call is listed before those at which it is open.
 use Rattle.std.specs.Prelude.{ℕ, ◌≡◌, ◌≢◌, ◌<◌, ◌≤◌, ◌⊎◌, List, [], ◌∷◌, ◌++◌, length, map, take, slice_index_or, Vec}
 use Rattle.std.specs.Global.{Global}
 use Rattle.std.specs.List.{All, AllPairs, Contains}

@@ -14,10 +14,10 @@ tried_observed c = subst IsObserved (sym c.in_ok-tried.ensures) (replied_is_obse
     c.entries.ensures.entries) c.in-Some.is c.requires.observed)
 
 -- what is told by what the search found
-told : (c : In_ok-find) → Tells c.args.observed.now c.args.entry c.args.most c.args.reply c.in_ok-find.field-0
+told : (c : In_ok-find) → Tells c.args.observed.now c.args.entry c.args.most c.args.reply c.in_ok-find.field-0.end
 told c = found_tells c.in_ok-seen.seen c.args.entry c.args.most c.index-entries-entry.result c.in-Some.returned
     c.args.reply (read_at c.args.observed.now c.index-entries-entry.result c.entries.result.now c.requires.returned
-    c.index-entries-entry.is c.entries.ensures.entries) c.in-Some.is c.requires.observed c.in_ok-find.field-0
+    c.index-entries-entry.is c.entries.ensures.entries) c.in-Some.is c.requires.observed c.in_ok-find.field-0.end
     (c.in_ok-seen.ensures ∙ ap (λ (h : ObservedHistory). seen_at c.in-Some.returned.last (c.args.entry + 1) h)
     c.in_ok-tried.ensures) c.in_ok-find.ensures
 

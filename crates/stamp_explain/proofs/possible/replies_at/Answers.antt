@@ -43,8 +43,8 @@ search-requires-clause-returned c i same = subst (IsReturnAt c.in_ok-seen.seen.e
 
 pub returns-in-NoOrder-clause-some : goal.returns-in-NoOrder-clause-some
 returns-in-NoOrder-clause-some c = seen_replies (there (goal.at.returns-in-NoOrder-clause-some c).In_ok-seen)
-    c.in_ok-end.replies.items (subst (IsSearchedFor c.in_ok-seen.seen (Some c.index_then-index.result)
-    (c.args.most - 1) c.in_ok-end.replies.items) c.in-NoOrder.is c.in_ok-end.ensures)
+    c.in_ok-searched.searched.replies.items (subst (IsSearchedFor c.in_ok-seen.seen (Some c.index_then-index.result)
+    (c.args.most - 1) c.in_ok-searched.searched.replies.items) c.in-NoOrder.is c.in_ok-searched.ensures)
 
 pub returns-clause-none : goal.returns-clause-none
 returns-clause-none c =
@@ -52,4 +52,4 @@ returns-clause-none c =
     seen_undecided (there (goal.at.returns-clause-none c).In_ok-seen) c.args.most
     (subst (ReachesMoreBeside c.in_ok-seen.seen c.index_then-index.result) most
     (subst (IsSearchedFor c.in_ok-seen.seen (Some c.index_then-index.result)
-    (c.args.most - 1) c.in_ok-end.replies.items) c.in-GaveUp.is c.in_ok-end.ensures))
+    (c.args.most - 1) c.in_ok-searched.searched.replies.items) c.in-GaveUp.is c.in_ok-searched.ensures))

@@ -1,4 +1,4 @@
-use Rattle.std.proofs.Common.{◌<◌, ◌≤◌, ◌+◌, ◌-◌, ◌/◌, arith, length}
+use Rattle.std.proofs.Common.{◌-◌, arith, length}
 use Rattle.stamp_explain.proofs.Faulting.{IsBetween, between_at_first, between_above, between_below}
 use Rattle.stamp_explain.proofs.Faulting.{between_undecided, end_inside, stuck_between, undecided_between}
 use Rattle.stamp_explain.proofs.Faulting.{unexplained_between}
@@ -12,31 +12,29 @@ loop-low-init c = between_at_first c.args.observed.now c.args.return_keys.now c.
 
 pub found_at-requires-clause-end : goal.found_at-requires-clause-end
 found_at-requires-clause-end c = end_inside c.args.observed.now c.args.return_keys.now c.requires.keys
-    (c.loop-low.low + (c.loop-low.high - c.loop-low.low) / 2)
-    (omega (arith, c.loop-low.invariant.inside, c.loop-low-test.true))
+    c.place_between-place.result
+    (omega (arith, c.loop-low.invariant.inside, c.loop-low-test.true, c.place_between-place.ensures.to))
 
 -- what was found between the two narrows what is between them
 narrower : (c : Joined-branch-2) → IsBetween c.args.observed.now c.args.most c.match-branch-2.unexplained
     c.args.return_keys.now c.match-branch-2.low c.match-branch-2.high c.match-branch-2.stuck
-narrower c =
-    let middle = c.loop-low.low + (c.loop-low.high - c.loop-low.low) / 2 in
-    let le : c.loop-low.low ≤ middle = omega arith in
-    let lt : middle < c.loop-low.high = omega (arith, c.loop-low-test.true) in
-    elim c.match-branch-2.branch [
-      | in-Linearization w ↦
-          let found = rw w.in-Linearization.is at c.in_ok-found_at.ensures in
-          rw (w.low-is, w.high-is, w.unexplained-is, w.stuck-is) (between_above c.args.observed.now
-          c.args.return_keys.now c.requires.keys c.args.most c.loop-low.unexplained c.loop-low.low c.loop-low.high
-          middle c.loop-low.stuck c.requires.observed c.loop-low.invariant lt
-          (record { order = found.order; by = found.explains }))
-      | in-NoOrder w ↦ rw (w.low-is, w.high-is, w.unexplained-is, w.stuck-is) (between_below c.args.observed.now
-          c.args.return_keys.now c.requires.keys c.args.most c.loop-low.unexplained c.loop-low.low c.loop-low.high
-          middle c.loop-low.stuck c.requires.observed c.loop-low.invariant le lt
-          (rw w.in-NoOrder.is at c.in_ok-found_at.ensures))
-      | in-GaveUp w ↦ rw (w.low-is, w.high-is, w.unexplained-is, w.stuck-is) (between_undecided c.args.observed.now
-          c.args.return_keys.now c.requires.keys c.args.most c.loop-low.unexplained c.loop-low.low c.loop-low.high
-          middle c.loop-low.stuck c.loop-low.invariant le lt (rw w.in-GaveUp.is at c.in_ok-found_at.ensures))
-    ]
+narrower c = elim c.match-branch-2.branch [
+  | in-Linearization w ↦
+      let found = rw w.in-Linearization.is at c.in_ok-found_at.ensures in
+      rw (w.low-is, w.high-is, w.unexplained-is, w.stuck-is) (between_above c.args.observed.now
+      c.args.return_keys.now c.requires.keys c.args.most c.loop-low.unexplained c.loop-low.low c.loop-low.high
+      c.place_between-place.result c.loop-low.stuck c.requires.observed c.loop-low.invariant
+      c.place_between-place.ensures.to (record { order = found.order; by = found.explains }))
+  | in-NoOrder w ↦ rw (w.low-is, w.high-is, w.unexplained-is, w.stuck-is) (between_below c.args.observed.now
+      c.args.return_keys.now c.requires.keys c.args.most c.loop-low.unexplained c.loop-low.low c.loop-low.high
+      c.place_between-place.result c.loop-low.stuck c.requires.observed c.loop-low.invariant
+      c.place_between-place.ensures.from c.place_between-place.ensures.to (rw w.in-NoOrder.is at
+          c.in_ok-found_at.ensures))
+  | in-GaveUp w ↦ rw (w.low-is, w.high-is, w.unexplained-is, w.stuck-is) (between_undecided c.args.observed.now
+      c.args.return_keys.now c.requires.keys c.args.most c.loop-low.unexplained c.loop-low.low c.loop-low.high
+      c.place_between-place.result c.loop-low.stuck c.loop-low.invariant c.place_between-place.ensures.from
+      c.place_between-place.ensures.to (rw w.in-GaveUp.is at c.in_ok-found_at.ensures))
+]
 
 pub loop-low-preserved-after-branch-2 : goal.loop-low-preserved-after-branch-2
 loop-low-preserved-after-branch-2 c = narrower (goal.at.loop-low-preserved-after-branch-2 c).Joined-branch-2

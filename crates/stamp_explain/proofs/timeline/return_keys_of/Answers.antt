@@ -12,8 +12,10 @@ loop-i-preserved c =
     let at : slice_get es c.loop-i.i ≡ Some e = slice_get_read es (length es) c.loop-i.i e refl c.loop-i-test.true
     c.index-entries-i.is in
     elim c.match-entry.branch [
-      | in-Some+in_ok-push w ↦ rw (w.keys-is, w.in_ok-push.ensures.items) (listed_more es c.loop-i.i c.loop-i.keys.items
-          (record { entry = e; return = w.in-Some.returned; is_entry = at; returned = w.in-Some.is }) c.loop-i.invariant)
+      | in-Some+in_ok-push w ↦ rw (w.keys-is, w.in_ok-push.ensures.items) (listed_more es c.loop-i.i
+          c.loop-i.keys.items
+          (record { entry = e; return = w.in-Some.returned; is_entry = at; returned = w.in-Some.is })
+              c.loop-i.invariant)
       | in_default w ↦ rw w.keys-is (listed_same es c.loop-i.i c.loop-i.keys.items (λ there. cc) c.loop-i.invariant)
     ]
 
