@@ -3,21 +3,30 @@
     stamped.py STAMPED
 
 A table has the orders' words, the text on standard input and the line. A line that begins with `stamped:` comes
-on standard error, and then nothing on standard output; of the others one that begins with `bad ` is no success."""
+on standard error, and then nothing on standard output; of the others one that begins with `bad ` is no success.
+Then the ends are tried: a standard input that isn't to be read, one that is too long or doesn't end, and a standard
+error that takes nothing."""
 import json
+import os
 import subprocess
 import sys
 
 from histories import HISTORIES, MIGRATED, each_cut
 from replays import REPLAYS
 from runs import RUNS, each_call
-from stamps import STAMPS, WORDS
+from stamps import STAMPS, UNREAD, WORDS
+
+MOST_BYTES = 16_777_216
+TOO_LONG = "stamped: input over 16777216 bytes"
+EMPTY = b'{"entries":[],"format":1,"readers":127,"versions":1000,"width":0}'
+# What is told on standard error alone, and with which status.
+UNTOLD = [([], b"", 2), (["check", "check"], b"", 2), (["check"], b"[", 1), (["replay"], b"", 1)]
 
 
-def line_of(program, words, text):
-    """The one line that is printed, without its end."""
+def line_of(program, words, text, **source):
+    """The one line that is printed, without its end. The text is the input, or another source is in its place."""
     given = text if isinstance(text, bytes) else text.encode()
-    run = subprocess.run([program, *words], input=given, capture_output=True, timeout=60)
+    run = subprocess.run([program, *words], **(source or {"input": given}), capture_output=True, timeout=60)
     out, told = run.stdout.decode(), run.stderr.decode()
     line = told or out
     is_refused = line.startswith("stamped: ")
@@ -29,8 +38,8 @@ def line_of(program, words, text):
     return line[:-1]
 
 
-def expect(program, words, text, wanted):
-    line = line_of(program, words, text)
+def expect(program, words, text, wanted, **source):
+    line = line_of(program, words, text, **source)
     if line != wanted:
         sys.exit(f"{words} {text[:300]}\nprints {line[:300]}\nand not {wanted[:300]}")
 
@@ -68,11 +77,52 @@ def try_migrations(program):
     print(f"histories: {len(MIGRATED)} migrated, and {len(each_cut())} that are cut off")
 
 
+def try_unread(program):
+    """Where nothing is to be read, the line comes though standard input doesn't end, and what waits there is left."""
+    for words, wanted in UNREAD:
+        reader, writer = os.pipe()
+        os.write(writer, EMPTY)
+        expect(program, words, "", wanted, stdin=reader)
+        os.set_blocking(reader, False)
+        left = os.read(reader, len(EMPTY) + 1)
+        if left != EMPTY:
+            sys.exit(f"{words}: of the input {left} is left, and not {EMPTY}")
+        os.close(reader)
+        os.close(writer)
+    print(f"inputs that aren't to be read: {len(UNREAD)} are left as they were")
+
+
+def try_long(program):
+    """An input of the most bytes is answered; a longer one is refused, also where it doesn't end."""
+    most = EMPTY.ljust(MOST_BYTES)
+    expect(program, ["check"], most, "ok 0")
+    commands = [["replay"], ["run"], ["run", "--report"], ["check"], ["migrate"]]
+    for words in commands:
+        expect(program, words, most + b" ", TOO_LONG)
+    with open("/dev/zero", "rb") as zeros:
+        expect(program, ["check"], "", TOO_LONG, stdin=zeros)
+    print(f"long inputs: {len(commands) + 2} as they are to be")
+
+
+def try_untold(program):
+    """Where nothing can be written to standard error, the status is as ever, and nothing comes on standard output."""
+    for words, text, status in UNTOLD:
+        for end in ["2>/dev/full", "2>&-"]:
+            run = subprocess.run(["bash", "-c", f'exec "$@" {end}', "-", program, *words], input=text,
+                                 stdout=subprocess.PIPE, timeout=60)
+            if (run.returncode, run.stdout) != (status, b""):
+                sys.exit(f"{words} {end}: status {run.returncode}, output {run.stdout[:200]!r}")
+    print(f"lines that can't be written: {2 * len(UNTOLD)} end with their status")
+
+
 def main():
     program = sys.argv[1]
     try_tables(program)
     try_runs(program)
     try_migrations(program)
+    try_unread(program)
+    try_long(program)
+    try_untold(program)
 
 
 main()

@@ -25,5 +25,12 @@ WORDS = [
         ["stamp", "--layout", "3", "5"], ["stamp", "--layout", "02", "5"], ["stamp", "--layout", "2", "+5"],
         ["stamp", "--layout", "2", "5", "6"], ["stamp", "5", "--layout", "2"], ["Replay"], ["replay", "5"],
         ["run", "--reports"], ["--report", "run"], ["run", "--report", "--report"], ["replay", "--report"],
-        ["check", "--report"], ["migrate", "--report"])
+        ["check", "--report"], ["migrate", "--report"], ["check", ""], ["", "check"], ["stamp", "5 "],
+        ["stamp", "--layout", "2", "5", ""], ["check"] * 8, ["stamp", "--layout", "2", "5"] * 2)
+]
+
+# Command lines that need no input, and their lines.
+UNREAD = [
+    (["stamp", "384"], "write 1"), (["stamp", "--layout", "2", "384"], "none"), ([], "stamped: bad command line"),
+    (["check", ""], "stamped: bad command line"), (["replay", "5"], "stamped: bad command line"),
 ]

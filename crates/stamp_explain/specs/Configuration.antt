@@ -40,7 +40,8 @@ abbrev pub NoneIsAtOnce : ObservedHistory → Option ℕ → Observation → Loc
 NoneIsAtOnce h asked awaited s taken = (x : Effect) (t : LockState) → IsAtOnce asked x →
     ¬ MayTake (StateTransition h.limits) h.entries awaited s taken x t
 
--- each call that is alike and returned sooner is in effect, or begins after the awaited one has returned
+-- each call that is alike and returned sooner is in effect, or begins after the awaited one has returned: all but the
+-- one that is asked, if one is
 abbrev pub IsFirstAlike : ObservedHistory → Option ℕ → Observation → List ℕ → Effect → Type 0
 IsFirstAlike h asked awaited taken x = (i : ℕ) (e : Observation) → asked ≢ Some i → slice_get h.entries i ≡ Some e →
     IsAhead e x.entry → ¬ IsBefore awaited e → Contains taken i
@@ -120,7 +121,7 @@ pub record IsBeginning (h : ObservedHistory) (asked : Option ℕ) (returns : Lis
   pub none : c.taken ≡ []
   pub all : c.to_come ≡ returns
 
--- one goes on from the other by one call that takes effect, and returns that are past then
+-- the second goes on from the first by at most one call that takes effect, and by returns that are past then
 pub record MovesOn (h : ObservedHistory) (asked : Option ℕ) (returns : List ℕ) (c d : Configuration h asked returns) :
     Type 0 where
   pub goes : GoesOnFrom h asked returns c d

@@ -29,4 +29,6 @@ mod script_tests;
 #[cfg(test)]
 mod serve_tests;
 #[cfg(test)]
+mod text_tests;
+#[cfg(test)]
 mod writing_tests;

@@ -77,9 +77,10 @@ impl Watched {
         }
     }
 
-    /// How many calls were answered as they should, once it's so many, or after some five seconds.
+    /// How many calls were answered as they should, once it's so many, or after half a minute, which even a busy
+    /// machine seldom needs.
     fn right_in_time<R: Clock>(&self, rt: &R, calls: u64) -> u64 {
-        for _ in 0..5_000u64 {
+        for _ in 0..30_000u64 {
             if self.right.load(Ordering::SeqCst) >= calls {
                 break;
             }
