@@ -11,4 +11,5 @@ pub mod StampText
 pub mod CheckText
 pub mod Answer
 pub mod Laws
+pub mod Shell
 pub mod inner

@@ -1,4 +1,11 @@
 //! The shell of a program that answers its standard input: arguments, status, and lines on standard error.
+
+ghost use Rattle.std.specs.Prelude.{◌≡◌, ℕ, List, Result, Ok, Err, map, ⊤};
+ghost use Rattle.stamp_cli.specs.declared.orders.CommandFault.{CommandFault};
+ghost use Rattle.stamp_cli.specs.declared.shell.Answered.{Answered};
+ghost use Rattle.stamp_cli.specs.Shell as shell;
+ghost use Rattle.stamp_cli.specs.Shell.{EndsView, IsEndingOf};
+
 use crate::line::Verdict;
 use crate::orders::CommandFault;
 use crate::sinks::{Sink, WriteSink};
@@ -17,6 +24,17 @@ pub struct Answered {
     pub note: Option<String>,
 }
 
+/// How a program ends.
+#[derive(Drop)]
+pub enum Ending<F> {
+    /// The arguments give no order.
+    BadCommandLine,
+    /// It has answered.
+    Answered(Answered),
+    /// It wrote no answer, for this fault.
+    Refused(F),
+}
+
 /// A program, as its shell sees it.
 pub trait Program {
     /// What its arguments ask for.
@@ -24,8 +42,15 @@ pub trait Program {
     /// Why it wrote no answer.
     type Fault: From<AllocError> + Drop;
 
+    // The order that arguments give.
+    ghost order_in: { List (List ℕ) → Result Self.Order CommandFault };
+
+    // Whether serving an order may take a source and a sink from the first to the second, with this answer.
+    ghost serves: { Self.Order → EndsView → EndsView → Result Answered Self.Fault → Type 0 } = { λ _ _ _ _. ⊤ };
+
     /// The order that these arguments give, the program's name not among them.
-    fn order_of(arguments: &[&str]) -> Result<Self::Order, CommandFault>;
+    fn order_of(arguments: &[&str]) -> Result<Self::Order, CommandFault>
+        ensures { result ≡ order_in (map (λ arg. arg.now) arguments.now) };
 
     /// Serves the order between a source and a sink.
     fn answer<S: Source, K: Sink>(
@@ -33,37 +58,81 @@ pub trait Program {
         order: Self::Order,
         source: &mut S,
         sink: &mut K,
-    ) -> Result<Answered, Self::Fault>;
+    ) -> Result<Answered, Self::Fault>
+        ensures { serves order
+            (record { left = S.left source.old; reads = S.reads source.old; sent = K.sent sink.old; writes = K.writes sink.old })
+            (record { left = S.left source.new; reads = S.reads source.new; sent = K.sent sink.new; writes = K.writes sink.new })
+            result };
 
     /// The line that tells of a fault, without its line feed, if there is memory for it.
     fn fault_line(alloc: Global, fault: &Self::Fault) -> Option<String>;
 }
 
-/// The order that the program's arguments give. Those that are no text give none.
-fn order_given<P: Program>(
-    rt: &(impl Env + AllocGlobal),
-) -> Result<Result<P::Order, CommandFault>, AllocError> {
-    let args: Vec<String> = match env::args(rt) {
-        Ok(args) => args.collect(rt.alloc())?,
-        Err(fault) if fault.kind() == io::ErrorKind::OutOfMemory => return Err(AllocError),
-        Err(_) => return Ok(Err(CommandFault::Bad)),
+/// The status that a program ends with: 0 where the answer accepts the input, 2 where the arguments
+/// give no order, and else 1.
+pub fn status_after<F>(ending: &Ending<F>) -> u8
+    ensures { result ≡ shell.status_after ending.now }
+{
+    match ending {
+        Ending::BadCommandLine => 2,
+        Ending::Answered(answered) => match answered.verdict {
+            Verdict::Accepted => 0,
+            Verdict::Bad => 1,
+        },
+        Ending::Refused(_) => 1,
+    }
+}
+
+/// What a program does on these arguments, its name not among them, between a source and a sink. Where
+/// they give no order, neither is touched; otherwise the order is served, once.
+pub fn ending_of<P: Program, S: Source, K: Sink>(
+    alloc: Global,
+    arguments: &[&str],
+    source: &mut S,
+    sink: &mut K,
+) -> Ending<P::Fault>
+    ensures bad { (fault : CommandFault) → P.order_in (map (λ arg. arg.now) arguments.now) ≡ Err fault →
+        (result ≡ Ending.BadCommandLine) × (source.new ≡ source.old) × (sink.new ≡ sink.old) }
+    ensures served { (order : P.Order) → P.order_in (map (λ arg. arg.now) arguments.now) ≡ Ok order →
+        IsEndingOf (P.serves order
+        (record { left = S.left source.old; reads = S.reads source.old; sent = K.sent sink.old; writes = K.writes sink.old })
+        (record { left = S.left source.new; reads = S.reads source.new; sent = K.sent sink.new; writes = K.writes sink.new }))
+        result }
+{
+    let order = match P::order_of(arguments) {
+        Ok(order) => order,
+        Err(CommandFault::Bad) => return Ending::BadCommandLine,
+    };
+    match P::answer(alloc, order, source, sink) {
+        Ok(answered) => Ending::Answered(answered),
+        Err(fault) => Ending::Refused(fault),
+    }
+}
+
+/// The program's arguments, its name among them; none where one of them is no text.
+fn arguments_given(rt: &(impl Env + AllocGlobal)) -> Result<Option<Vec<String>>, AllocError> {
+    match env::args(rt) {
+        Ok(args) => Ok(Some(args.collect(rt.alloc())?)),
+        Err(fault) if fault.kind() == io::ErrorKind::OutOfMemory => Err(AllocError),
+        Err(_) => Ok(None),
+    }
+}
+
+/// What the program does between standard input and standard output.
+fn ending_here<P: Program>(
+    rt: &(impl Env + Input + Print + AllocGlobal),
+) -> Result<Ending<P::Fault>, AllocError> {
+    let Some(args) = arguments_given(rt)? else {
+        return Ok(Ending::BadCommandLine);
     };
     let texts: Vec<&str> = args
         .iter()
         .skip(1)
         .map(|arg| arg.as_str())
         .collect(rt.alloc())?;
-    Ok(P::order_of(&texts))
-}
-
-/// Serves the order between standard input and standard output.
-fn answer_input<P: Program>(
-    rt: &(impl Input + Print + AllocGlobal),
-    order: P::Order,
-) -> Result<Answered, P::Fault> {
     let mut source = ReadSource::new(rt.reader());
     let mut sink = WriteSink::new(io::writer(rt));
-    P::answer(rt.alloc(), order, &mut source, &mut sink)
+    Ok(ending_of::<P, _, _>(rt.alloc(), &texts, &mut source, &mut sink))
 }
 
 /// Prints a line on standard error, if there is one.
@@ -73,31 +142,20 @@ fn tell(rt: &impl Eprint, line: Option<String>) {
     }
 }
 
-/// Runs a program: its status is 0 where the answer accepts the input, 2 where the arguments give no
-/// order, and else 1.
+/// Runs a program between standard input and standard output: what it does is that of `ending_of`, and
+/// its status that of `status_after`.
 pub fn run<P: Program, R: Env + Input + Print + Eprint + AllocGlobal>(rt: &R) -> ExitCode {
-    let order = match order_given::<P>(rt) {
-        Ok(Ok(order)) => order,
-        Ok(Err(CommandFault::Bad)) => {
-            let _ = rt.eprintln("stamped: bad command line");
-            return ExitCode::from(2);
-        }
-        Err(AllocError) => {
-            tell(rt, P::fault_line(rt.alloc(), &P::Fault::from(AllocError)));
-            return ExitCode::FAILURE;
-        }
+    let ending = match ending_here::<P>(rt) {
+        Ok(ending) => ending,
+        Err(AllocError) => Ending::Refused(P::Fault::from(AllocError)),
     };
-    match answer_input::<P>(rt, order) {
-        Ok(Answered { verdict, note }) => {
-            tell(rt, note);
-            match verdict {
-                Verdict::Accepted => ExitCode::SUCCESS,
-                Verdict::Bad => ExitCode::FAILURE,
-            }
+    let status = status_after(&ending);
+    match ending {
+        Ending::BadCommandLine => {
+            let _ = rt.eprintln("stamped: bad command line");
         }
-        Err(fault) => {
-            tell(rt, P::fault_line(rt.alloc(), &fault));
-            ExitCode::FAILURE
-        }
+        Ending::Answered(answered) => tell(rt, answered.note),
+        Ending::Refused(fault) => tell(rt, P::fault_line(rt.alloc(), &fault)),
     }
+    ExitCode::from(status)
 }

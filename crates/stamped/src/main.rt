@@ -1,6 +1,8 @@
 //! Answers commands on a lock: arguments and standard input in, one line out.
 #![tactic(auto)]
 
+ghost use Rattle.stamp_cli.specs.Order.{order_in};
+
 use stamp_cli::{
     Answered, CommandFault, Order, Program, ServeFault, Sink, Source, fault_line, order_of, run,
     serve,
@@ -15,6 +17,8 @@ impl Program for Stamped {
     type Order = Order;
 
     type Fault = ServeFault;
+
+    ghost order_in = { order_in };
 
     fn order_of(arguments: &[&str]) -> Result<Order, CommandFault> {
         order_of(arguments)

@@ -1,6 +1,8 @@
 //! Finds an order that explains an observed history: standard input in, one line out.
 #![tactic(auto)]
 
+ghost use Rattle.stamped_explain.specs.Order.{most_in};
+
 mod answer;
 mod finding;
 mod finding_text;
@@ -24,6 +26,8 @@ impl Program for StampedExplain {
     type Order = u64;
 
     type Fault = ServeFault;
+
+    ghost order_in = { most_in };
 
     fn order_of(arguments: &[&str]) -> Result<u64, CommandFault> {
         most_configurations_of(arguments)

@@ -1,6 +1,8 @@
 //! Draws a recorded history: arguments and standard input in, one picture out.
 #![tactic(auto)]
 
+ghost use Rattle.stamped_picture.specs.Order.{order_in};
+
 mod answer;
 mod faults;
 mod orders;
@@ -22,6 +24,8 @@ impl Program for StampedPicture {
     type Order = PictureOrder;
 
     type Fault = PictureFault;
+
+    ghost order_in = { order_in };
 
     fn order_of(arguments: &[&str]) -> Result<PictureOrder, CommandFault> {
         order_of(arguments)
