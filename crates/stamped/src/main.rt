@@ -1,7 +1,10 @@
 //! Answers commands on a lock: arguments and standard input in, one line out.
 #![tactic(auto)]
 
+ghost use Rattle.stamp_cli.specs.Answer.{AnswersSource, most_reads_of, most_taken_of, with_line_feed};
 ghost use Rattle.stamp_cli.specs.Order.{order_in};
+ghost use Rattle.stamp_cli.specs.Shell.{HasServed, IsWithoutNote};
+ghost use Rattle.stamp_cli.specs.declared.faults.ServeFault.TheVariants.{Memory, ReadFault, WriteFault};
 
 use stamp_cli::{
     Answered, CommandFault, Order, Program, ServeFault, Sink, Source, fault_line, order_of, run,
@@ -19,6 +22,9 @@ impl Program for Stamped {
     type Fault = ServeFault;
 
     ghost order_in = { order_in };
+
+    ghost serves = { λ order. HasServed ReadFault WriteFault Memory (AnswersSource order) IsWithoutNote with_line_feed
+        (most_reads_of order) (most_taken_of order) };
 
     fn order_of(arguments: &[&str]) -> Result<Order, CommandFault> {
         order_of(arguments)
