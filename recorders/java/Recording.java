@@ -1,0 +1,133 @@
+import java.io.Closeable;
+import java.io.IOException;
+import java.util.concurrent.atomic.AtomicLongArray;
+
+/**
+ * A recording of calls by their events: a call begins on a lane, and then it returns or is withdrawn. Each
+ * event has a ticket, a number from 0 on, in the order in which the events happened.
+ *
+ * <p>A recording has an end. It has the events whose tickets are below the end, and no others. So it is right
+ * up to a moment, at which some calls may be under way.
+ */
+abstract class Recording implements Closeable {
+    /** Events at which a call begins; the number is its stamp. */
+    static final int TRY_WRITE = 0, TRY_READ = 1, WRITE_LOCK = 2, READ_LOCK = 3, OPTIMISTIC = 4, VALIDATE = 5,
+            UNLOCK_WRITE = 6, UNLOCK_READ = 7, UNLOCK = 8, TO_WRITE = 9, TO_READ = 10, TO_OPTIMISTIC = 11,
+            TRY_UNLOCK_WRITE = 12, TRY_UNLOCK_READ = 13, IS_WRITE_LOCKED = 14, IS_READ_LOCKED = 15, READ_COUNT = 16;
+    /** Events at which the lane's call returns; the number is that of a stamp or a count. */
+    static final int STAMP = 32, YES = 33, NO = 34, DONE = 35, MISMATCH = 36, COUNT = 37;
+    /** The lane's call ended and took no effect. */
+    static final int WITHDRAWN = 48;
+
+    /** What is recorded of the lock's limits. */
+    static final int LAYOUT = 1, READERS = 127;
+    static final long VERSIONS = 36028797018963966L;
+
+    /** The counter of tickets lies in the middle of this, alone in its cache lines. */
+    private static final int MIDDLE = 16;
+
+    private final AtomicLongArray tickets = new AtomicLongArray(2 * MIDDLE);
+    private volatile long end;
+    private volatile boolean isOver;
+    private volatile Throwable failure;
+
+    Recording(long end) {
+        this.end = end;
+    }
+
+    /** Keeps an event whose ticket is below the end. */
+    abstract void keep(long ticket, int kind, int lane, long number);
+
+    /** Waits until the events below the end are where they belong; 0 milliseconds is for ever. */
+    abstract void await(long millis) throws InterruptedException;
+
+    /** Takes a ticket for an event, and keeps the event if it is below the end. */
+    final void put(int kind, int lane, long number) {
+        long ticket = tickets.getAndIncrement(MIDDLE);
+        if (ticket >= end) {
+            reachEnd();
+            return;
+        }
+        try {
+            keep(ticket, kind, lane, number);
+        } catch (Throwable thrown) {
+            // The call goes on. Nothing is called here: the stack may be full.
+            synchronized (this) {
+                if (ticket < end) {
+                    end = ticket;
+                    failure = thrown;
+                }
+                isOver = true;
+            }
+        }
+    }
+
+    /** Whether no event will be kept any more. */
+    final boolean isOver() {
+        return isOver;
+    }
+
+    final long end() {
+        return end;
+    }
+
+    /** The first ticket that is not recorded, if the recording is looked at now. */
+    final long endNow() {
+        return Math.min(end, tickets.get(MIDDLE));
+    }
+
+    /** What stopped the recording before its end, or null. */
+    final IOException failure() {
+        Throwable thrown = failure;
+        return thrown == null ? null : new IOException("the recording stopped", thrown);
+    }
+
+    private void reachEnd() {
+        if (!isOver) {
+            synchronized (this) {
+                if (!isOver) {
+                    System.err.println("ObservedStampedLock: recording stops after " + end / 2 + " calls");
+                }
+                isOver = true;
+            }
+        }
+    }
+
+    /** Ends the recording at this ticket, if it doesn't end before. */
+    private synchronized void endAt(long ticket) {
+        end = Math.min(end, ticket);
+        isOver = true;
+    }
+
+    /** Ends the recording at this ticket, since this was thrown. */
+    final synchronized void fail(long ticket, Throwable thrown) {
+        endAt(ticket);
+        failure = failure == null ? thrown : failure;
+    }
+
+    @Override
+    public void close() throws IOException {
+        close(0);
+    }
+
+    /** Ends the recording, and waits at most so long for it; 0 milliseconds is for ever. */
+    final void close(long millis) throws IOException {
+        endAt(tickets.get(MIDDLE));
+        boolean isInterrupted = false;
+        for (boolean hasEnded = false; !hasEnded;) {
+            try {
+                await(millis);
+                hasEnded = true;
+            } catch (InterruptedException interrupted) {
+                isInterrupted = true;
+            }
+        }
+        if (isInterrupted) {
+            Thread.currentThread().interrupt();
+        }
+        IOException failed = failure();
+        if (failed != null) {
+            throw failed;
+        }
+    }
+}
