@@ -43,7 +43,12 @@ final class EventRing extends Recording {
     }
 
     @Override
-    void keep(long ticket, int kind, int lane, long number) {
+    boolean keepsWords() {
+        return false;
+    }
+
+    @Override
+    void keep(long ticket, int kind, int lane, long number, long[] words) {
         for (int round = 0; ticket - drained >= SLOTS; round++) {
             if (ticket >= end()) {
                 return;

@@ -14,8 +14,10 @@ abstract class Recording implements Closeable {
     static final int TRY_WRITE = 0, TRY_READ = 1, WRITE_LOCK = 2, READ_LOCK = 3, OPTIMISTIC = 4, VALIDATE = 5,
             UNLOCK_WRITE = 6, UNLOCK_READ = 7, UNLOCK = 8, TO_WRITE = 9, TO_READ = 10, TO_OPTIMISTIC = 11,
             TRY_UNLOCK_WRITE = 12, TRY_UNLOCK_READ = 13, IS_WRITE_LOCKED = 14, IS_READ_LOCKED = 15, READ_COUNT = 16;
-    /** Events at which the lane's call returns; the number is that of a stamp or a count. */
-    static final int STAMP = 32, YES = 33, NO = 34, DONE = 35, MISMATCH = 36, COUNT = 37;
+    /** Events at which a get or a put of guarded words begins. A put has words. */
+    static final int GET = 17, PUT = 18;
+    /** Events at which the lane's call returns; the number is that of a stamp or a count. A get has words. */
+    static final int STAMP = 32, YES = 33, NO = 34, DONE = 35, MISMATCH = 36, COUNT = 37, WORDS = 38;
     /** The lane's call ended and took no effect. */
     static final int WITHDRAWN = 48;
 
@@ -27,32 +29,42 @@ abstract class Recording implements Closeable {
     private static final int MIDDLE = 16;
 
     private final AtomicLongArray tickets = new AtomicLongArray(2 * MIDDLE);
+    private final Object ending = new Object();
     private volatile long end;
     private volatile boolean isOver;
     private volatile Throwable failure;
+    /** Ends the recording once the next call begins. Set by a caller that can call nothing, since its stack is full. */
+    volatile StackOverflowError overflow;
 
     Recording(long end) {
         this.end = end;
     }
 
-    /** Keeps an event whose ticket is below the end. */
-    abstract void keep(long ticket, int kind, int lane, long number);
+    /** Whether gets and puts are recorded. */
+    abstract boolean keepsWords();
+
+    /** Keeps an event whose ticket is below the end. The words are null, but of a put or a get's return. */
+    abstract void keep(long ticket, int kind, int lane, long number, long[] words);
 
     /** Waits until the events below the end are where they belong; 0 milliseconds is for ever. */
     abstract void await(long millis) throws InterruptedException;
 
-    /** Takes a ticket for an event, and keeps the event if it is below the end. */
-    final void put(int kind, int lane, long number) {
+    /**
+     * Takes a ticket for an event, and keeps the event if it is below the end. If that fails, the recording ends.
+     *
+     * @throws StackOverflowError if no ticket was taken
+     */
+    final void put(int kind, int lane, long number, long[] words) {
         long ticket = tickets.getAndIncrement(MIDDLE);
-        if (ticket >= end) {
-            reachEnd();
-            return;
-        }
         try {
-            keep(ticket, kind, lane, number);
+            if (ticket < end) {
+                keep(ticket, kind, lane, number, words);
+            } else {
+                reachEnd();
+            }
         } catch (Throwable thrown) {
             // The call goes on. Nothing is called here: the stack may be full.
-            synchronized (this) {
+            synchronized (ending) {
                 if (ticket < end) {
                     end = ticket;
                     failure = thrown;
@@ -62,9 +74,14 @@ abstract class Recording implements Closeable {
         }
     }
 
-    /** Whether no event will be kept any more. */
+    /** Whether no call that begins from now on is recorded. */
     final boolean isOver() {
         return isOver;
+    }
+
+    /** Whether an event was recorded, or was to be. */
+    final boolean hasBegun() {
+        return tickets.get(MIDDLE) > 0;
     }
 
     final long end() {
@@ -78,13 +95,13 @@ abstract class Recording implements Closeable {
 
     /** What stopped the recording before its end, or null. */
     final IOException failure() {
-        Throwable thrown = failure;
-        return thrown == null ? null : new IOException("the recording stopped", thrown);
+        Throwable thrown = failure == null ? overflow : failure;
+        return thrown == null ? null : new IOException("the recording stopped: " + thrown, thrown);
     }
 
     private void reachEnd() {
         if (!isOver) {
-            synchronized (this) {
+            synchronized (ending) {
                 if (!isOver) {
                     System.err.println("ObservedStampedLock: recording stops after " + end / 2 + " calls");
                 }
@@ -94,15 +111,24 @@ abstract class Recording implements Closeable {
     }
 
     /** Ends the recording at this ticket, if it doesn't end before. */
-    private synchronized void endAt(long ticket) {
-        end = Math.min(end, ticket);
-        isOver = true;
+    private void endAt(long ticket) {
+        synchronized (ending) {
+            end = Math.min(end, ticket);
+            isOver = true;
+        }
     }
 
     /** Ends the recording at this ticket, since this was thrown. */
-    final synchronized void fail(long ticket, Throwable thrown) {
-        endAt(ticket);
-        failure = failure == null ? thrown : failure;
+    final void fail(long ticket, Throwable thrown) {
+        synchronized (ending) {
+            endAt(ticket);
+            failure = failure == null ? thrown : failure;
+        }
+    }
+
+    /** Ends the recording now, since this was thrown. */
+    final void fail(Throwable thrown) {
+        fail(tickets.get(MIDDLE), thrown);
     }
 
     @Override
