@@ -343,7 +343,7 @@ public class ObservedStampedLock extends StampedLock implements Closeable {
         }
     }
 
-    /** Begins a call. Returns its lane, or none if it isn't recorded. */
+    /** Begins a call. Returns its lane, or none if it isn't recorded. If the stack is full, the call isn't made. */
     private int begin(int call, long stamp, long patience, long[] words) {
         if (recording.overflow != null) {
             recording.fail(recording.overflow);
@@ -351,20 +351,26 @@ public class ObservedStampedLock extends StampedLock implements Closeable {
         if (recording.isOver() || call >= Recording.GET && !recording.keepsWords()) {
             return Lanes.NONE;
         }
+        int lane = takeLane(call, patience);
         try {
-            delay();
-            Seat seat = seats.get();
-            int lane = call < Recording.GET ? takeForCall(seat, patience) : takeForWords(seat, call);
             if (lane != Lanes.NONE) {
                 recording.put(call, lane, stamp, words);
             }
             return lane;
-        } catch (OutOfMemoryError none) {
-            recording.fail(none);
-            return Lanes.NONE;
         } catch (StackOverflowError full) {
             recording.overflow = full;
             throw full;
+        }
+    }
+
+    private int takeLane(int call, long patience) {
+        try {
+            delay();
+            Seat seat = seats.get();
+            return call < Recording.GET ? takeForCall(seat, patience) : takeForWords(seat, call);
+        } catch (OutOfMemoryError none) {
+            recording.fail(none);
+            return Lanes.NONE;
         }
     }
 

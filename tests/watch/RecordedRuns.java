@@ -145,6 +145,11 @@ public final class RecordedRuns {
         return deepen(lock, depth + 1) + 1;
     }
 
+    /** Deepens from a place that is lower by some small frames, so that other calls find the stack full. */
+    private static long deepenFrom(ObservedStampedLock lock, int frames) {
+        return frames == 0 ? deepen(lock, 0) : deepenFrom(lock, frames - 1) + 1;
+    }
+
     private static void overflowing() throws Exception {
         ObservedStampedLock lock = new ObservedStampedLock();
         for (int i = 0; i < 20_000; i++) {
@@ -153,7 +158,7 @@ public final class RecordedRuns {
         start(() -> {
             for (int i = 0; i < 40; i++) {
                 try {
-                    deepen(lock, 0);
+                    deepenFrom(lock, i);
                 } catch (StackOverflowError full) {
                     lock.unlockWrite(lock.writeLock());
                 }
