@@ -294,10 +294,10 @@ public class ObservedStampedLock extends StampedLock implements Closeable {
      * what the program takes for words that stood there together at some moment of the call. If they didn't, no order
      * explains the run. So a reading that forgets to validate is found.
      *
-     * <p>A reading that returns null or throws isn't recorded. Nor is one beside 20 others, nor any of a stream.
+     * <p>A reading that returns null or throws isn't recorded. Nor is one beside 20 others, nor any in a stream.
      *
      * @return what the reading returned
-     * @throws IllegalArgumentException if it read no words or over 16, or as many as no other get or put
+     * @throws IllegalArgumentException if it read no words or over 16, or more or fewer than other gets and puts have
      * @throws E what the reading throws
      */
     public <E extends Exception> long[] get(Reading<E> reading) throws E {
@@ -322,10 +322,10 @@ public class ObservedStampedLock extends StampedLock implements Closeable {
      * the writing has returned, also the words that it left as they were. The words are 0 in the beginning: if yours
      * aren't, put them before all other calls. If the writing throws, it must have changed nothing.
      *
-     * <p>The writing may make calls of the lock, but it need not. If 24 gets and puts go on, recording ends. Nothing
-     * is recorded in a stream.
+     * <p>The writing may make calls of the lock, but it need not. Beside 24 gets and puts, four of which are puts, it
+     * can't be recorded: then recording ends. Nothing is recorded in a stream.
      *
-     * @throws IllegalArgumentException if there are no words or over 16, or as many as in no other get or put;
+     * @throws IllegalArgumentException if there are no words or over 16, or more or fewer than other gets and puts have;
      *         nothing was written then
      * @throws E what the writing throws
      */
