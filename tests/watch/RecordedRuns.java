@@ -190,9 +190,13 @@ public final class RecordedRuns {
         write(lock);
     }
 
-    private static void tell(Runnable call) {
+    private interface Attempt {
+        void make() throws IOException;
+    }
+
+    private static void tell(Attempt attempt) throws IOException {
         try {
-            call.run();
+            attempt.make();
             System.out.println("returned");
         } catch (RuntimeException thrown) {
             System.out.println(thrown);
@@ -227,6 +231,28 @@ public final class RecordedRuns {
             lock.put(() -> write(lock), 3, 4);
             return words;
         });
+    }
+
+    /** What isn't for this way of recording is refused. Gets and puts are made, and not recorded in a stream. */
+    private static void refusing(Path file) throws Exception {
+        tell(() -> new ObservedStampedLock(-1));
+        tell(() -> new ObservedStampedLock().withShutdownHook());
+        try (ObservedStampedLock lock = new ObservedStampedLock(file)) {
+            tell(() -> lock.withShutdownHook(file));
+            tell(() -> lock.writeTo(System.out));
+            lock.put(() -> System.out.println("put"));
+            System.out.println(lock.get(() -> new long[20]).length);
+            call(lock);
+        }
+    }
+
+    /** The history is written where the lock is closed, and no more after that. */
+    private static void closing(Path file) throws Exception {
+        ObservedStampedLock lock = new ObservedStampedLock().withShutdownHook(file);
+        call(lock);
+        lock.close();
+        call(lock);
+        System.out.println(lock.isRecording() + " " + lock.failure());
     }
 
     /** 100 readers wait for a writer that puts. More gets than have lanes aren't recorded, and all go on. */
@@ -286,6 +312,8 @@ public final class RecordedRuns {
             case "overflowing" -> overflowing();
             case "starving" -> starving();
             case "words" -> words();
+            case "refusing" -> refusing(Path.of(words[1]));
+            case "closing" -> closing(Path.of(words[1]));
             case "crowd" -> crowd();
             case "planted" -> planted();
             case "switches" -> switches(words.length > 1);

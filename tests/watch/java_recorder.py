@@ -16,7 +16,7 @@ import sys
 import tempfile
 import time
 
-from streams import fail, run, started, verdict
+from streams import DONE, STAMP, YES, fail, kinds_of, run, started, verdict
 
 TEST = "package org.junit.jupiter.api;\n@java.lang.annotation.Retention(java.lang.annotation.RetentionPolicy.RUNTIME)" \
        "\npublic @interface Test {\n}\n"
@@ -134,6 +134,23 @@ def try_words(java):
     java.must_be_explained("words", history)
 
 
+def try_refusing(java):
+    """What isn't for a stream, or for a history."""
+    path = os.path.join(java.room, "refusing.events")
+    made = run(java.words("RecordedRuns", "refusing", path))
+    refused = ["IllegalArgumentException: -1 calls",
+               "IllegalStateException: the calls are recorded in memory: name a file for them",
+               *["IllegalStateException: the calls are written as a stream"] * 2]
+    wanted = [*(f"java.lang.{it}" for it in refused), "put", "20"]
+    wants("refusing", made.stdout.decode().splitlines() == wanted, made.stdout, made.stderr)
+    with open(path, "rb") as file:
+        wants("refusing", kinds_of(file.read()) == [2, STAMP, 6, DONE, 4, STAMP, 5, YES], "gets or puts in a stream")
+    made = run(java.words("RecordedRuns", "closing", path))
+    wants("closing", made.stdout == b"false null\n", made.stdout, made.stderr)
+    with open(path, encoding="ascii") as file:
+        wants("closing", len(json.load(file)["entries"]) == 4, "not the calls before it was closed")
+
+
 def try_crowd(java):
     """All go on only if gets have lanes of their own. The put is recorded, and as many gets as have a lane."""
     _, history, _ = java.told("crowd", "RecordedRuns", "crowd")
@@ -209,8 +226,8 @@ def try_junit(java):
 def main():
     with tempfile.TemporaryDirectory() as room:
         java = Java(room, sys.argv[1])
-        for trial in (try_pool, try_ended, try_throwing, try_want, try_words, try_crowd, try_planted, try_points,
-                      try_cache, try_delays, try_junit):
+        for trial in (try_pool, try_ended, try_throwing, try_want, try_words, try_refusing, try_crowd, try_planted,
+                      try_points, try_cache, try_delays, try_junit):
             trial(java)
     print(f"java_recorder: {java.calls} calls explained; wrong locks and reads are stuck, and a test in JUnit fails")
 
