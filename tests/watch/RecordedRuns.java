@@ -1,6 +1,7 @@
 import java.io.IOException;
 import java.io.OutputStreamWriter;
 import java.io.Writer;
+import java.lang.reflect.Field;
 import java.nio.charset.StandardCharsets;
 import java.nio.file.Path;
 import java.util.ArrayList;
@@ -168,6 +169,18 @@ public final class RecordedRuns {
         write(lock);
     }
 
+    /** What comes of a full stack where the recorder itself meets it: recording ends before the next call. */
+    private static void full() throws Exception {
+        ObservedStampedLock lock = new ObservedStampedLock();
+        call(lock);
+        Field recording = ObservedStampedLock.class.getDeclaredField("recording");
+        recording.setAccessible(true);
+        ((Recording) recording.get(lock)).overflow = new StackOverflowError();
+        System.out.println(lock.isRecording() + " " + lock.failure().getCause());
+        call(lock);
+        write(lock);
+    }
+
     /** Makes calls while there is no memory. */
     private static void starving() throws Exception {
         ObservedStampedLock lock = new ObservedStampedLock();
@@ -310,6 +323,7 @@ public final class RecordedRuns {
             case "exiting" -> exiting(Path.of(words[1]));
             case "throwing" -> throwing();
             case "overflowing" -> overflowing();
+            case "full" -> full();
             case "starving" -> starving();
             case "words" -> words();
             case "refusing" -> refusing(Path.of(words[1]));

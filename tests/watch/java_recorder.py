@@ -112,11 +112,12 @@ def try_want(java):
     for name, flags in (("overflowing", ("-Xmx256m",)), ("starving", ("-Xmx30m",))):
         (line,), history, told = java.told(name, "RecordedRuns", name, flags=flags)
         java.must_be_explained(name, history)
-        is_told = name in told and line.startswith("false ")
         error = "StackOverflowError" if name == "overflowing" else "OutOfMemoryError"
         is_told = line.startswith("false ") and error in line and error in told
         has_all = name == "overflowing" and line == "true null" and len(named(history, "unlock_write")) == 40
         wants(name, is_told or has_all, line, told, len(history["entries"]))
+    (line,), history, _ = java.told("full", "RecordedRuns", "full")
+    wants("full", line == "false java.lang.StackOverflowError" and len(history["entries"]) == 4, line, history)
 
 
 def try_words(java):
