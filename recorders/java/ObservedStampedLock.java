@@ -218,7 +218,7 @@ public class ObservedStampedLock extends StampedLock implements Closeable {
 
     /** Whether calls are still recorded: this lock wasn't closed, and all went well, and there may be more calls. */
     public boolean isRecording() {
-        return !recording.isOver() && recording.overflow == null;
+        return !recording.isOver();
     }
 
     /** What ended the recording before it was closed, as a failed write. Null if nothing did. */
@@ -345,9 +345,6 @@ public class ObservedStampedLock extends StampedLock implements Closeable {
 
     /** Begins a call. Returns its lane, or none if it isn't recorded. If the stack is full, the call isn't made. */
     private int begin(int call, long stamp, long patience, long[] words) {
-        if (recording.overflow != null) {
-            recording.fail(recording.overflow);
-        }
         if (recording.isOver() || call >= Recording.GET && !recording.keepsWords()) {
             return Lanes.NONE;
         }

@@ -33,7 +33,7 @@ abstract class Recording implements Closeable {
     private volatile long end;
     private volatile boolean isOver;
     private volatile Throwable failure;
-    /** Ends the recording once the next call begins. Set by a caller that can call nothing, since its stack is full. */
+    /** Ends the recording before the next call. Set by a caller that can call nothing, since its stack is full. */
     volatile StackOverflowError overflow;
 
     Recording(long end) {
@@ -76,6 +76,10 @@ abstract class Recording implements Closeable {
 
     /** Whether no call that begins from now on is recorded. */
     final boolean isOver() {
+        StackOverflowError full = overflow;
+        if (full != null && !isOver) {
+            fail(full);
+        }
         return isOver;
     }
 

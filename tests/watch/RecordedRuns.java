@@ -176,7 +176,8 @@ public final class RecordedRuns {
         Field recording = ObservedStampedLock.class.getDeclaredField("recording");
         recording.setAccessible(true);
         ((Recording) recording.get(lock)).overflow = new StackOverflowError();
-        System.out.println(lock.isRecording() + " " + lock.failure().getCause());
+        Throwable failure = lock.failure().getCause();
+        System.out.println(lock.isRecording() + " " + failure);
         call(lock);
         write(lock);
     }
