@@ -180,8 +180,8 @@ def try_points(java):
 
 def try_cache(java):
     """A user's program with a pool of short-lived threads, a lock with a bug, and a read that isn't validated."""
-    acquires = ["read_lock", "write_lock", "to_write", "optimistic"]
-    for mode, calls in (("right", []), ("upgrade", acquires), ("reader", ["get"])):
+    lock_calls = ["optimistic", "validate", "read_lock", "unlock_read", "to_write", "write_lock", "unlock"]
+    for mode, calls in (("right", []), ("upgrade", lock_calls), ("reader", ["get"])):
         for seed in range(5):
             (line,), history, _ = java.told("cache", "PriceCache", mode, seed)
             wants("cache", int(line.split()[0]) > 64, line)
