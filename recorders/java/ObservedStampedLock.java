@@ -325,8 +325,8 @@ public class ObservedStampedLock extends StampedLock implements Closeable {
      * <p>The writing may make calls of the lock, but it need not. Beside 24 gets and puts, four of which are puts, it
      * can't be recorded: then recording ends. Nothing is recorded in a stream.
      *
-     * @throws IllegalArgumentException if there are no words or over 16, or more or fewer than other gets and puts have;
-     *         nothing was written then
+     * @throws IllegalArgumentException if there are no words or over 16, or more or fewer than other gets and puts
+     *         have; nothing was written then
      * @throws E what the writing throws
      */
     public <E extends Exception> void put(Writing<E> writing, long... words) throws E {
