@@ -1,0 +1,7 @@
+use Rattle.std.proofs.lemmas.Result.{IfOk-weaker}
+use Rattle.stamp_watch.proofs.Judged.{broken_at, explained_whole, found_in_whole, undecided_at}
+use Rattle.stamp_watch.proofs.judge.judge_run.Goals as goal
+
+pub returns-in-TooMany : goal.returns-in-TooMany
+returns-in-TooMany c = undecided_at c.args.limits c.args.events.now c.args.most c.in_form-many.result c.in-TooMany.k
+    c.in_form-many.ensures (rw c.in-TooMany.is at c.in_ok-outcome.ensures)
