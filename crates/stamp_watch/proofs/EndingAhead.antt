@@ -1,5 +1,5 @@
 -- How calls end among the events ahead, event by event.
-use Rattle.std.proofs.Common.{ℕ, ◌≡◌, ◌≢◌, ◌+◌, ◌<◌, ◌≤◌, false, true, List, [], ◌∷◌, length, get_or, Some, None, refl, sym}
+use Rattle.std.proofs.Common.{ℕ, ◌≡◌, ◌≢◌, ◌+◌, ◌<◌, ◌≤◌, false, List, length, get_or, Some, None, refl, sym}
 use Rattle.std.proofs.Common.{◌∙◌, ap, subst, add_assoc}
 use Rattle.std.specs.Prelude.{drop}
 use Rattle.std.proofs.lemmas.Bool.{false≢true}
@@ -12,7 +12,6 @@ use Rattle.stamp_watch.specs.declared.event.Event.{Event}
 use Rattle.stamp_watch.specs.declared.event.Event.TheVariants as event
 use Rattle.stamp_watch.specs.declared.ending.Ending.{Ending}
 use Rattle.stamp_watch.specs.declared.ending.Ending.TheVariants.{Returns, Withdraws, Never}
-use Rattle.stamp_watch.specs.AsObserved as observed
 use Rattle.stamp_watch.specs.AsObserved.{ending_of}
 use Rattle.stamp_watch.specs.AsObserved.Ending.{EndsBy}
 use Rattle.stamp_watch.specs.Verdict.{IsOfLock, is_lock_reply}

@@ -1,10 +1,10 @@
 -- What follows a position, lane by lane.
 use Rattle.std.proofs.Common.{ℕ, zero, suc, ◌≡◌, ◌≢◌, ◌⊎◌, ◌+◌, ◌<◌, ◌≤◌, List, [], ◌∷◌, ◌++◌, length, Option, Some, None}
-use Rattle.std.proofs.Common.{refl, sym, ◌∙◌, ap, subst, inl, inr, arith}
+use Rattle.std.proofs.Common.{sym, ◌∙◌, ap, subst, inl, inr, arith}
 use Rattle.std.specs.Int.{bit_at}
-use Rattle.std.specs.List.{All, AllPairs, Contains}
+use Rattle.std.specs.List.{Contains}
 use Rattle.std.proofs.lemmas.Bool.{cases_eq}
-use Rattle.std.proofs.lemmas.List.Elements.{Contains-push, Contains-push_cases, Contains-append_left, All-contains}
+use Rattle.std.proofs.lemmas.List.Elements.{Contains-push, Contains-push_cases, Contains-append_left}
 use Rattle.std.proofs.lemmas.List.Elements.{Contains-get_or}
 use Rattle.std.proofs.lemmas.List.Quantifiers.{all_pairs_push}
 use Rattle.std.proofs.lemmas.Option.{none-some}
@@ -17,17 +17,15 @@ use Rattle.stamp_watch.specs.declared.event.Event.{Event}
 use Rattle.stamp_watch.specs.declared.event.Event.TheVariants as event
 use Rattle.stamp_watch.specs.declared.ending.Ending.{Ending}
 use Rattle.stamp_watch.specs.declared.ending.Ending.TheVariants.{Returns, Withdraws, Never}
-use Rattle.stamp_watch.specs.declared.lock_call.LockCall.{LockCall}
 use Rattle.stamp_watch.specs.declared.open_call.OpenCall.{OpenCall}
 use Rattle.stamp_watch.specs.declared.position.Position.{Position}
 use Rattle.stamp_watch.specs.LockCall.{call_as}
 use Rattle.stamp_watch.specs.Run.Phase.{Asks, Gets}
-use Rattle.stamp_watch.specs.Run.{Survives, Sets}
 use Rattle.stamp_watch.specs.Ahead.{Tells, ReturnsSooner}
 use Rattle.stamp_watch.specs.Foretold.{open_at, EndsSo, MayGet, ComesAsTold}
-use Rattle.stamp_watch.specs.Watch.{MayGoOn, OneGoesOn, HasPhase}
-use Rattle.stamp_watch.specs.inner.Effect.{EffectGoesOn, Follows, GivesWay, IsAfterEffect, IsFree, IsAhead}
-use Rattle.stamp_watch.specs.inner.Layer.{Includes, AreDifferent, Adds, IsTried, Expands}
+use Rattle.stamp_watch.specs.Watch.{MayGoOn, OneGoesOn}
+use Rattle.stamp_watch.specs.inner.Effect.{EffectGoesOn, Follows, GivesWay, IsAfterEffect}
+use Rattle.stamp_watch.specs.inner.Layer.{Includes, Adds, IsTried, Expands}
 use Rattle.stamp_watch.proofs.Surviving.{set_of, sets_of, sooner_alike_first}
 use Rattle.stamp_watch.proofs.Tables.{one_open, open_at_within}
 use Rattle.stamp_watch.proofs.Standing.{asks_at, AsksIn, asks_in}

@@ -1,7 +1,7 @@
 -- What is found of events that are in form, and of a run of which they are the first.
-use Rattle.std.proofs.Common.{ℕ, ◌≡◌, ◌≢◌, ◌+◌, ◌<◌, ◌≤◌, List, [], ◌∷◌, ◌++◌, length, get_or, refl, sym, ◌∙◌, ap}
+use Rattle.std.proofs.Common.{ℕ, ◌≡◌, ◌≢◌, ◌+◌, ◌<◌, ◌≤◌, List, ◌∷◌, ◌++◌, length, get_or, sym, ◌∙◌}
 use Rattle.std.proofs.Common.{subst, arith}
-use Rattle.std.specs.Prelude.{take, drop}
+use Rattle.std.specs.Prelude.{take, drop, IfOk, Result, Ok, Err}
 use Rattle.std.proofs.lemmas.List.{take_all, take-append-drop, take-append-le, take-take}
 use Rattle.std.proofs.lemmas.List.{length-take-le}
 use Rattle.stamp_core.specs.Limits.{Bounds}
@@ -35,8 +35,12 @@ module _ (limits : Bounds) (events : List Event) (most k : ℕ) (e : Event) (les
 
     pub unexplained_here : answer ≡ progress.Dead → AreExplained limits (take k events) →
         IsOutcome limits events most (Unexplained k)
-    unexplained_here is explained = (less, explained, λ whole. none (subst (AreExplained limits)
-        (sym (around events k e less read)) whole))
+    unexplained_here is explained = (
+      less,
+      explained,
+      λ whole. none (subst (AreExplained limits)
+          (sym (around events k e less read)) whole),
+    )
       where
         none : ¬ AreExplained limits (take k events ++ e ∷ drop (k + 1) events)
         none = subst (λ (p : Progress). IsStep limits k (take k events) e (drop (k + 1) events) most watch p) is step
@@ -176,3 +180,9 @@ pub found_in_whole : (limits : Bounds) (events : List Event) (most many : ℕ) (
 found_in_whole limits events most many verdict found =
     subst (λ (run : List Event). IsVerdict limits run most verdict) (take-append-drop many events)
     (found (drop many events))
+
+-- of what is there, both hold
+pub both_ok : {X E : Type 0} (r : Result X E) (P Q : X → Type 0) → IfOk r P → IfOk r Q →
+    IfOk r (λ (x : X). P x × Q x)
+both_ok (Ok x) P Q p q = (p, q)
+both_ok (Err e) P Q p q = tt

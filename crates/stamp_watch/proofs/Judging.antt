@@ -1,9 +1,8 @@
 -- What comes as was told, where all that comes is known.
-use Rattle.std.proofs.Common.{ℕ, zero, suc, ◌≡◌, ◌≢◌, ◌⊎◌, ◌+◌, ◌<◌, ◌≤◌, ◌==◌, Bool, true, false, List, [], ◌∷◌, ◌++◌}
+use Rattle.std.proofs.Common.{ℕ, ◌≡◌, ◌≢◌, ◌⊎◌, ◌+◌, ◌<◌, ◌≤◌, ◌==◌, Bool, true, false, List, [], ◌∷◌, ◌++◌}
 use Rattle.std.proofs.Common.{length, Option, Some, None, refl, sym, ◌∙◌, ap, subst, inl, inr, arith, append_assoc}
 use Rattle.std.proofs.Common.{eq-eqb, ne_eqb}
 use Rattle.std.specs.Prelude.{slice_set, not, ◌&&◌, ◌||◌}
-use Rattle.std.specs.List.{All}
 use Rattle.std.specs.Option.{is_some}
 use Rattle.std.proofs.lemmas.Bool.{cases_eq, false≢true}
 use Rattle.std.proofs.lemmas.List.Elements.{All-head, All-tail}
@@ -22,28 +21,27 @@ use Rattle.stamp_watch.specs.declared.open_call.OpenCall.{OpenCall}
 use Rattle.stamp_watch.specs.declared.progress.Progress.{Progress}
 use Rattle.stamp_watch.specs.declared.progress.Progress.TheVariants.{Going, Dead, TooMany, Refused}
 use Rattle.stamp_watch.specs.declared.watch.Watch.{Watch}
-use Rattle.stamp_watch.specs.Ahead.{Tells, IsWithdrawn, EndsNever, ReturnsSooner}
+use Rattle.stamp_watch.specs.Ahead.{Tells, ReturnsSooner}
 use Rattle.stamp_watch.specs.Ahead.Tells.{tells_next, past_beginning, past_return, past_withdrawal}
 use Rattle.stamp_watch.specs.Ahead.IsWithdrawn.{withdrawn_next, withdrawn_past_beginning, withdrawn_past_return}
 use Rattle.stamp_watch.specs.Ahead.IsWithdrawn.{withdrawn_past_withdrawal}
 use Rattle.stamp_watch.specs.Ahead.EndsNever.{never_more, not_beginning, not_returning, not_withdrawing}
 use Rattle.stamp_watch.specs.Ahead.ReturnsSooner.{sooner_next, sooner_past_beginning, sooner_past_return}
 use Rattle.stamp_watch.specs.Ahead.ReturnsSooner.{sooner_past_withdrawal}
-use Rattle.stamp_watch.specs.AsObserved as observed
 use Rattle.stamp_watch.specs.AsObserved.{ending_of}
 use Rattle.stamp_watch.specs.AsObserved.Ending.{StaysOpen, EndsBy, EndsWithdrawn}
-use Rattle.stamp_watch.specs.Foretold.{open_at, EndsSo, ReturnsBefore, ComesAsTold}
-use Rattle.stamp_watch.specs.Form.{is_busy_then, AreInForm}
+use Rattle.stamp_watch.specs.Foretold.{open_at, EndsSo, ComesAsTold}
+use Rattle.stamp_watch.specs.Form.{is_busy_then}
 use Rattle.stamp_watch.specs.Run.{AreExplained}
 use Rattle.stamp_watch.specs.Run.Survives.{at_end}
-use Rattle.stamp_watch.specs.Verdict.{AreOfLock, IsOfLock, AreTooMany}
+use Rattle.stamp_watch.specs.Verdict.{AreOfLock, IsOfLock}
 use Rattle.stamp_watch.specs.Watch.{IsWatching, IsUntold, IsInForm, IsProgress, IsTaken, BeginsTold, ReturnsTold}
 use Rattle.stamp_watch.specs.Watch.{WithdrawsTold}
 use Rattle.stamp_watch.specs.inner.Judging.{ends_as, IsFollowed, IsJudging, IsStep}
 use Rattle.stamp_watch.proofs.Numbered.{return_ends, return_spares, withdrawal_ends, withdrawal_spares, one_return}
 use Rattle.stamp_watch.proofs.Numbered.{open_or_ended, withdrawn_or_ended, ended_by_return, ended_past_withdrawal}
 use Rattle.stamp_watch.proofs.Numbered.{ending_last}
-use Rattle.stamp_watch.proofs.Tables.{open_at_within, open_at_set_none, open_at_set_here, open_at_set_other}
+use Rattle.stamp_watch.proofs.Tables.{open_at_set_here, open_at_set_other}
 
 withdrawn_or_open : EndsWithdrawn ≡ StaysOpen → ⊥
 withdrawn_or_open same = cc

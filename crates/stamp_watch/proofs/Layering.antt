@@ -1,17 +1,15 @@
 -- Layers of positions on the way to a return.
-use Rattle.std.proofs.Common.{ℕ, zero, suc, ◌≡◌, ◌≢◌, ◌⊎◌, ◌+◌, ◌<◌, ◌≤◌, List, [], ◌∷◌, ◌++◌, length, Option, Some, None}
+use Rattle.std.proofs.Common.{ℕ, ◌≡◌, ◌⊎◌, ◌+◌, ◌<◌, ◌≤◌, List, [], ◌∷◌, ◌++◌, length, Option, Some, None}
 use Rattle.std.proofs.Common.{Bool, true, false, refl, sym, ◌∙◌, ap, subst, inl, inr, arith}
 use Rattle.std.specs.Prelude.{slice_set, take, drop}
 use Rattle.std.specs.Int.{bit_at}
-use Rattle.std.specs.List.{All, AllPairs, Contains}
+use Rattle.std.specs.List.{All, Contains}
 use Rattle.std.proofs.lemmas.List.{take-append-drop}
 use Rattle.std.proofs.lemmas.List.Elements.{Contains-push, Contains-push_cases, Contains-append_left}
 use Rattle.std.proofs.lemmas.List.Elements.{Contains-append_right, Contains-append_cases, All-contains, All-nil, All-head}
 use Rattle.std.proofs.lemmas.List.Elements.{All-weaker, All-contains_itself}
 use Rattle.stamp_core.specs.Limits.{Bounds}
 use Rattle.stamp_core.specs.Word.{Represents, IsAdmitted, word_at}
-use Rattle.stamp_core.specs.LockEvent.{LockEvent}
-use Rattle.stamp_core.specs.LockDecision.{reply_as}
 use Rattle.stamp_core.specs.declared.reply.Reply.{Reply}
 use Rattle.stamp_watch.specs.declared.event.Event.{Event}
 use Rattle.stamp_watch.specs.declared.event.Event.TheVariants as event
@@ -19,15 +17,14 @@ use Rattle.stamp_watch.specs.declared.ending.Ending.{Ending}
 use Rattle.stamp_watch.specs.declared.ending.Ending.TheVariants.{Returns, Withdraws, Never}
 use Rattle.stamp_watch.specs.declared.open_call.OpenCall.{OpenCall}
 use Rattle.stamp_watch.specs.declared.position.Position.{Position}
-use Rattle.stamp_watch.specs.Run.{Configuration, Lanes, Leads, Survives, all_idle}
+use Rattle.stamp_watch.specs.Run.{Configuration}
 use Rattle.stamp_watch.specs.Run.Phase.{Idle, Gets}
 use Rattle.stamp_watch.specs.Run.Leads.{leads_nowhere, by_return}
-use Rattle.stamp_watch.specs.WatchLaws.{ReturnsAtOnce}
 use Rattle.stamp_watch.specs.Foretold.{open_at, IsReturn, MayGet, ComesAsTold}
 use Rattle.stamp_watch.specs.Watch.{HasPhase, IsInEffect, StandsFor, IsPossible, MayGoOn, OneGoesOn}
 use Rattle.stamp_watch.specs.inner.Lanes.{SetsBit, lanes_in}
 use Rattle.stamp_watch.specs.inner.Effect.{Follows}
-use Rattle.stamp_watch.specs.inner.Layer.{Includes, AreDifferent, Adds, Expands, FollowsOne, ReturnsFromOne, LooksAt}
+use Rattle.stamp_watch.specs.inner.Layer.{Adds, Expands, FollowsOne, ReturnsFromOne, LooksAt}
 use Rattle.stamp_watch.specs.inner.Layer.{LooksThrough, IsToldOf, IsUnderWay, MoreFollow}
 use Rattle.stamp_watch.proofs.CountingLanes.{lanes_in_le}
 use Rattle.stamp_watch.proofs.Surviving.{set_of, sets_of, returns_first}

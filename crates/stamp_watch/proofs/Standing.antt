@@ -1,19 +1,18 @@
 -- Configurations for which numbers stand.
-use Rattle.std.proofs.Common.{ℕ, ◌≡◌, ◌≢◌, ◌⊎◌, List, Option, Some, None, refl, sym, ◌∙◌, ap, subst, inl, inr, arith}
+use Rattle.std.proofs.Common.{ℕ, ◌≡◌, ◌≢◌, ◌⊎◌, List, Option, Some, None, refl, sym, subst, inl, inr, arith}
 use Rattle.std.proofs.lemmas.Bool.{cases_eq}
 use Rattle.std.specs.Int.{bit_at}
 use Rattle.stamp_core.specs.LockEvent.{LockEvent}
 use Rattle.stamp_core.specs.Limits.{Bounds}
 use Rattle.stamp_core.specs.Word.{Represents, word_at}
 use Rattle.stamp_core.specs.declared.call.Call.{Call}
-use Rattle.stamp_core.specs.declared.reply.Reply.{Reply}
 use Rattle.stamp_watch.specs.declared.open_call.OpenCall.{OpenCall}
 use Rattle.stamp_watch.specs.declared.position.Position.{Position}
 use Rattle.stamp_watch.specs.LockCall.{call_as}
 use Rattle.stamp_watch.specs.Run.{Configuration, Lanes, Phase, Sets}
-use Rattle.stamp_watch.specs.Run.Phase.{Idle, Asks, Gets}
+use Rattle.stamp_watch.specs.Run.Phase.{Asks}
 use Rattle.stamp_watch.specs.Foretold.{open_at}
-use Rattle.stamp_watch.specs.Watch.{HasPhase, IsBegun, IsInEffect, StandsFor}
+use Rattle.stamp_watch.specs.Watch.{HasPhase, IsInEffect, StandsFor}
 use Rattle.stamp_watch.proofs.Foretelling.{Beside}
 use Rattle.stamp_watch.proofs.Surviving.{idle_or_asks, asks_or_gets, one_call}
 

@@ -1,6 +1,6 @@
 -- What is kept, one event on.
-use Rattle.std.proofs.Common.{ℕ, zero, suc, ◌≡◌, ◌≢◌, ◌⊎◌, ◌+◌, ◌<◌, ◌≤◌, List, [], ◌∷◌, ◌++◌, length, get_or, set}
-use Rattle.std.proofs.Common.{Bool, true, false, Option, Some, None, refl, sym, ◌∙◌, ap, subst, inl, inr, arith, append_assoc}
+use Rattle.std.proofs.Common.{ℕ, ◌≡◌, ◌≢◌, ◌⊎◌, ◌+◌, ◌<◌, ◌≤◌, List, [], ◌∷◌, ◌++◌, length, get_or, set}
+use Rattle.std.proofs.Common.{Bool, false, Option, Some, None, refl, sym, ◌∙◌, ap, subst, inl, inr, arith, append_assoc}
 use Rattle.std.specs.Prelude.{slice_set, replicate}
 use Rattle.std.specs.Int.{bit_at}
 use Rattle.std.specs.Option.{is_some}
@@ -17,20 +17,20 @@ use Rattle.stamp_core.specs.declared.reply.Reply.{Reply}
 use Rattle.stamp_watch.specs.declared.event.Event.{Event}
 use Rattle.stamp_watch.specs.declared.event.Event.TheVariants as event
 use Rattle.stamp_watch.specs.declared.ending.Ending.{Ending}
-use Rattle.stamp_watch.specs.declared.ending.Ending.TheVariants.{Returns, Withdraws, Never}
+use Rattle.stamp_watch.specs.declared.ending.Ending.TheVariants.{Returns, Withdraws}
 use Rattle.stamp_watch.specs.declared.open_call.OpenCall.{OpenCall}
 use Rattle.stamp_watch.specs.declared.position.Position.{Position}
 use Rattle.stamp_watch.specs.declared.progress.Progress.{Progress}
 use Rattle.stamp_watch.specs.declared.progress.Progress.TheVariants.{Going, Dead, TooMany, Refused}
 use Rattle.stamp_watch.specs.declared.watch.Watch.{Watch}
 use Rattle.stamp_watch.specs.LockCall.{call_as}
-use Rattle.stamp_watch.specs.Run.{Configuration, opening, all_idle, Lanes, Phase, Survives, AreExplained}
-use Rattle.stamp_watch.specs.Run.Phase.{Idle, Asks, Gets}
+use Rattle.stamp_watch.specs.Run.{Configuration, opening, AreExplained}
+use Rattle.stamp_watch.specs.Run.Phase.{Idle, Asks}
 use Rattle.stamp_watch.specs.Run.Leads.{leads_nowhere, by_beginning, by_withdrawal}
 use Rattle.stamp_watch.specs.Foretold.{open_at, IsReturn, MayGet, ComesAsTold}
-use Rattle.stamp_watch.specs.Watch.{HasPhase, IsBegun, IsInEffect, StandsFor, IsPossible, MayGoOn, OneGoesOn, AreKept}
+use Rattle.stamp_watch.specs.Watch.{HasPhase, StandsFor, IsPossible, MayGoOn, OneGoesOn, AreKept}
 use Rattle.stamp_watch.specs.Watch.{IsWatching, IsProgress, MoreArePossible}
-use Rattle.stamp_watch.specs.inner.Layer.{IsUnderWay, IsToldOf, MoreFollow}
+use Rattle.stamp_watch.specs.inner.Layer.{IsUnderWay, MoreFollow}
 use Rattle.stamp_watch.specs.inner.Step.{IsOpening, BeginsIn, AreBegun, IsAnswer}
 use Rattle.stamp_watch.proofs.Surviving.{set_of, sets_of, begins_first, withdraws_first}
 use Rattle.stamp_watch.proofs.StandingFor.{leads_on, leads_survive}

@@ -1,6 +1,6 @@
 -- The effect of one open call in a position.
-use Rattle.std.proofs.Common.{ℕ, ◌≡◌, ◌≢◌, ◌⊎◌, ◌+◌, ◌<◌, ◌≤◌, List, [], ◌∷◌, ◌++◌, Option, Some, None, refl, sym, ◌∙◌}
-use Rattle.std.proofs.Common.{true, false, ap, subst, inl, inr, arith, append-nil}
+use Rattle.std.proofs.Common.{ℕ, ◌≡◌, ◌≢◌, ◌⊎◌, ◌<◌, List, [], ◌++◌, Option, Some, None, refl, sym, ◌∙◌}
+use Rattle.std.proofs.Common.{true, ap, subst, inl, inr, arith, append-nil}
 use Rattle.std.specs.Int.{bit_at}
 use Rattle.std.specs.Option.{is_some}
 use Rattle.std.proofs.lemmas.Bool.{false≢true}
@@ -20,14 +20,14 @@ use Rattle.stamp_watch.specs.declared.ending.Ending.TheVariants.{Returns, Withdr
 use Rattle.stamp_watch.specs.declared.open_call.OpenCall.{OpenCall}
 use Rattle.stamp_watch.specs.declared.position.Position.{Position}
 use Rattle.stamp_watch.specs.LockCall.{call_as}
-use Rattle.stamp_watch.specs.Run.{Configuration, Lanes, Leads, LockStep, Sets, Survives, all_idle}
+use Rattle.stamp_watch.specs.Run.{Configuration, Lanes, Leads, LockStep, Sets, all_idle}
 use Rattle.stamp_watch.specs.Run.Phase.{Asks, Gets}
 use Rattle.stamp_watch.specs.Run.Leads.{leads_nowhere, by_effect}
 use Rattle.stamp_watch.specs.Foretold.{open_at, EndsSo, IsReturn, MayGet, ComesAsTold}
 use Rattle.stamp_watch.specs.Watch.{HasPhase, StandsFor, IsPossible, MayGoOn}
-use Rattle.stamp_watch.specs.inner.Lanes.{SetsBit, lanes_in}
-use Rattle.stamp_watch.specs.inner.Effect.{TakesEffectTo, IsUnwanted, IsEffect, IsUnchanging, Settles, IsFree}
-use Rattle.stamp_watch.specs.inner.Effect.{EffectGoesOn, Follows, IsAfterEffect}
+use Rattle.stamp_watch.specs.inner.Lanes.{SetsBit}
+use Rattle.stamp_watch.specs.inner.Effect.{TakesEffectTo, IsEffect, IsUnchanging, Settles, IsFree}
+use Rattle.stamp_watch.specs.inner.Effect.{EffectGoesOn, IsAfterEffect}
 use Rattle.stamp_watch.proofs.CountingLanes.{lanes_in_more}
 use Rattle.stamp_watch.proofs.Surviving.{set_of, sets_of, at_once_loses_nothing}
 use Rattle.stamp_watch.proofs.StandingFor.{leads_on}

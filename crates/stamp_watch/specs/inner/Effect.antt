@@ -1,5 +1,5 @@
 -- How open calls take effect in a position.
-use Rattle.std.specs.Prelude.{ℕ, ◌≡◌, ◌≢◌, ◌+◌, ◌<◌, ◌≤◌, ◌⊎◌, ◌++◌, true, List, [], Option, Some, None, MatchOption}
+use Rattle.std.specs.Prelude.{ℕ, ◌≡◌, ◌≢◌, ◌+◌, ◌<◌, ◌≤◌, ◌⊎◌, ◌++◌, true, List, [], Option, Some, MatchOption}
 use Rattle.std.specs.Int.{bit_at}
 use Rattle.stamp_core.specs.LockEvent.{LockEvent}
 use Rattle.stamp_core.specs.Limits.{Bounds}
@@ -12,7 +12,6 @@ use Rattle.stamp_core.specs.declared.call.Call.{Call}
 use Rattle.stamp_core.specs.declared.reply.Reply.{Reply}
 use Rattle.stamp_explain.specs.Unchanging.{changes_nothing}
 use Rattle.stamp_watch.specs.declared.event.Event.{Event}
-use Rattle.stamp_watch.specs.declared.ending.Ending.{Ending}
 use Rattle.stamp_watch.specs.declared.ending.Ending.TheVariants.{Returns, Never}
 use Rattle.stamp_watch.specs.declared.open_call.OpenCall.{OpenCall}
 use Rattle.stamp_watch.specs.declared.position.Position.{Position}
@@ -20,7 +19,7 @@ use Rattle.stamp_watch.specs.LockCall.{call_as}
 use Rattle.stamp_watch.specs.Run.{Configuration, Lanes, LockStep, Sets, Survives}
 use Rattle.stamp_watch.specs.Run.Phase.{Asks, Gets}
 use Rattle.stamp_watch.specs.Foretold.{open_at, MayGet, ComesAsTold}
-use Rattle.stamp_watch.specs.Watch.{StandsFor, IsPossible, MayGoOn, OneGoesOn}
+use Rattle.stamp_watch.specs.Watch.{StandsFor, IsPossible, MayGoOn}
 use Rattle.stamp_watch.specs.inner.Lanes.{lanes_in}
 
 -- after these events the call takes effect with a reply that its end allows, and leaves a word of this number

@@ -24,7 +24,7 @@ use Rattle.stamp_watch.specs.AsObserved.Ending.{StaysOpen, EndsBy, EndsWithdrawn
 use Rattle.stamp_watch.specs.Foretold.{open_at}
 use Rattle.stamp_watch.specs.Form.{AreInFormFrom, is_busy_after}
 use Rattle.stamp_watch.specs.Run.{AreExplained}
-use Rattle.stamp_watch.specs.Verdict.{AreOfLock, AreTooMany, AreBrokenAt, IsOfLock, IsVerdict, is_lock_reply}
+use Rattle.stamp_watch.specs.Verdict.{AreOfLock, AreTooMany, IsOfLock, IsVerdict, is_lock_reply}
 use Rattle.stamp_watch.specs.Watch.{IsWatching}
 use Rattle.stamp_watch.specs.inner.Lanes.{SetsBit}
 

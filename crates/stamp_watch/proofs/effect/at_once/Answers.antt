@@ -1,6 +1,6 @@
 use Rattle.std.proofs.Common.{refl, sym, ◌∙◌}
 use Rattle.stamp_watch.proofs.CountingLanes.{bit_free}
-use Rattle.stamp_watch.proofs.TakingEffect.{settles_none, settles_where_some}
+use Rattle.stamp_watch.proofs.TakingEffect.{settles_where_some}
 use Rattle.stamp_watch.proofs.effect.at_once.Goals as goal
 
 pub returns-then-is_some : goal.returns-then-is_some

@@ -1,17 +1,14 @@
-use Rattle.std.proofs.Common.{◌+◌, ◌-◌, ◌/◌, ◌<◌, ◌≤◌, arith, length}
-use Rattle.std.specs.Prelude.{take}
-use Rattle.stamp_watch.specs.Verdict.{AreOfLock}
-use Rattle.stamp_watch.specs.inner.Judging.{IsBetween}
+use Rattle.std.proofs.Common.{◌+◌, ◌-◌, ◌/◌, arith, length, refl}
 use Rattle.stamp_watch.proofs.Forming.{of_lock_up_to}
-use Rattle.stamp_watch.proofs.Judged.{between_first, between_higher, between_lower, found_stuck, found_within}
+use Rattle.stamp_watch.proofs.Judged.{between_first, found_stuck, found_within}
 use Rattle.stamp_watch.proofs.judge.find_stuck.Goals as goal
 
 pub loop-low-init : goal.loop-low-init
-loop-low-init c = between_first c.args.limits c.args.events.now c.args.explained c.len-high.result c.len-high.ensures
+loop-low-init c = between_first c.args.limits c.args.events.now c.args.explained (length c.args.events.now) refl
     c.requires.within c.requires.explained c.requires.stuck
 
-pub judge_in_form-outcome-requires : goal.judge_in_form-outcome-requires
-judge_in_form-outcome-requires c =
+pub judge_in_form-requires : goal.judge_in_form-requires
+judge_in_form-requires c =
     of_lock_up_to (c.loop-low.low + (c.loop-low.high - c.loop-low.low) / 2) c.args.events.now c.requires.form
 
 pub returns-in-TooMany : goal.returns-in-TooMany

@@ -1,5 +1,5 @@
 use Rattle.std.proofs.lemmas.Result.{on_ok_weaker}
-use Rattle.stamp_watch.proofs.Expanding.{expands_idle, expands_taken, expands_way, expands_dead, expands_one}
+use Rattle.stamp_watch.proofs.Expanding.{expands_one}
 use Rattle.stamp_watch.proofs.layers.expand_lane.Goals as goal
 
 pub returns-in-Some-after_effect : goal.returns-in-Some-after_effect

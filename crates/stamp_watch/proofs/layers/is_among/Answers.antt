@@ -1,4 +1,4 @@
-use Rattle.std.proofs.Common.{◌≡◌, ◌≢◌, ◌∙◌, refl, sym}
+use Rattle.std.proofs.Common.{◌≢◌, ◌∙◌, refl, sym}
 use Rattle.std.proofs.lemmas.List.{take_all}
 use Rattle.std.proofs.lemmas.List.Elements.{All-more, All-same, All-contains}
 use Rattle.std.proofs.lemmas.Bool.{false≢true}

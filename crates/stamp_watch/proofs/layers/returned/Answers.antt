@@ -1,4 +1,4 @@
-use Rattle.std.proofs.Common.{List, ◌≡◌, [], sym, ◌∙◌, subst, arith, length, eqb-true}
+use Rattle.std.proofs.Common.{List, sym, ◌∙◌, subst, arith, eqb-true}
 use Rattle.std.specs.List.{All}
 use Rattle.std.proofs.lemmas.List.{nil_from_length}
 use Rattle.stamp_core.specs.Word.{IsAdmitted, word_at}
