@@ -46,6 +46,12 @@ pub lanes_in_more : (a b k : ℕ) → k < 64 → SetsBit a b k 1 → bit_at a k 
 unfolding lanes_in
 lanes_in_more a b k less sets free = lanes_below_more 64 a b k less sets free
 
+pub lanes_in_less : (a b k : ℕ) → k < 64 → SetsBit a b k 0 → bit_at a k ≡ 1 → lanes_in b < lanes_in a
+lanes_in_less a b k less sets taken =
+    let more : lanes_in a ≡ lanes_in b + 1 =
+    lanes_in_more b a k less (record { here = taken; others = λ other apart. sym (sets.others other apart) }) sets.here in
+    omega (arith, more)
+
 -- a bit that is not set is 0
 pub bit_free : (lanes lane : ℕ) (b : Bool) → IsTrue b ↔ (bit_at lanes lane ≡ 1) → b ≡ false → bit_at lanes lane ≡ 0
 bit_free lanes lane b is unset =

@@ -1,5 +1,5 @@
 -- What follows a position, lane by lane.
-use Rattle.std.proofs.Common.{ℕ, zero, suc, ◌≡◌, ◌≢◌, ◌⊎◌, ◌+◌, ◌<◌, ◌≤◌, List, [], ◌∷◌, ◌++◌, length, Option, Some, None}
+use Rattle.std.proofs.Common.{ℕ, zero, suc, ◌≡◌, ◌≢◌, ◌⊎◌, ◌<◌, ◌≤◌, List, [], ◌∷◌, ◌++◌, length, Option, Some, None}
 use Rattle.std.proofs.Common.{sym, ◌∙◌, ap, subst, inl, inr, arith}
 use Rattle.std.specs.Int.{bit_at}
 use Rattle.std.specs.List.{Contains}
@@ -7,8 +7,11 @@ use Rattle.std.proofs.lemmas.Bool.{cases_eq}
 use Rattle.std.proofs.lemmas.List.Elements.{Contains-push, Contains-push_cases, Contains-append_left}
 use Rattle.std.proofs.lemmas.List.Elements.{Contains-get_or}
 use Rattle.std.proofs.lemmas.List.Quantifiers.{all_pairs_push}
+use Rattle.std.proofs.lemmas.Nat.Bits.{bit_at-zero}
 use Rattle.std.proofs.lemmas.Option.{none-some}
 use Rattle.stamp_core.specs.Limits.{Bounds}
+use Rattle.stamp_core.specs.Transition.{transition}
+use Rattle.stamp_core.specs.History.{appended_by}
 use Rattle.stamp_core.specs.LockDecision.{reply_as}
 use Rattle.stamp_core.specs.declared.call.Call.{Call}
 use Rattle.stamp_core.specs.declared.reply.Reply.{Reply}
@@ -21,12 +24,15 @@ use Rattle.stamp_watch.specs.declared.open_call.OpenCall.{OpenCall}
 use Rattle.stamp_watch.specs.declared.position.Position.{Position}
 use Rattle.stamp_watch.specs.LockCall.{call_as}
 use Rattle.stamp_watch.specs.Run.Phase.{Asks, Gets}
-use Rattle.stamp_watch.specs.Ahead.{Tells, ReturnsSooner}
-use Rattle.stamp_watch.specs.Foretold.{open_at, EndsSo, MayGet, ComesAsTold}
+use Rattle.stamp_watch.specs.Ahead.{EndsNever, Tells, ReturnsSooner}
+use Rattle.stamp_watch.specs.Foretold.{open_at, EndsSo, HasEachOpen, MayGet, ComesAsTold}
 use Rattle.stamp_watch.specs.Watch.{MayGoOn, OneGoesOn}
-use Rattle.stamp_watch.specs.inner.Effect.{EffectGoesOn, Follows, GivesWay, IsAfterEffect}
+use Rattle.stamp_watch.specs.inner.Effect.{EffectGoesOn, Follows, GivesWay, GoesBefore, IsAfterEffect, IsFree, IsAhead}
+use Rattle.stamp_watch.specs.inner.Effect.{AreEndless}
+use Rattle.stamp_watch.specs.inner.Lanes.{SetsBit}
 use Rattle.stamp_watch.specs.inner.Layer.{Includes, Adds, IsTried, Expands}
 use Rattle.stamp_watch.proofs.Surviving.{set_of, sets_of, sooner_alike_first}
+use Rattle.stamp_watch.proofs.Endless.{endless_alike_first}
 use Rattle.stamp_watch.proofs.Tables.{one_open, open_at_within}
 use Rattle.stamp_watch.proofs.Standing.{asks_at, AsksIn, asks_in}
 use Rattle.stamp_watch.proofs.Needed.{SomeEffect, some_effect, gets_told}
@@ -68,11 +74,11 @@ tried_more {limits} {table} {p} {lane} {xs} {ys} grows is = record {
     by events (inl one) = inl (one_more grows one)
     by events (inr way) = inr way
 
--- the place at which a call returns
-abbrev place_of : Ending → ℕ
-place_of (Returns reply place) = place
-place_of Withdraws = 0
-place_of Never = 0
+-- a number that is lower for a call that goes before another
+abbrev rank_of : ℕ → Ending → ℕ
+rank_of lane (Returns reply place) = place
+rank_of lane Withdraws = 0
+rank_of lane Never = lane
 
 module _ (limits : Bounds) (table : List (Option OpenCall)) (p : Position) where
   -- a lane that adds nothing
@@ -130,45 +136,54 @@ module _ (limits : Bounds) (table : List (Option OpenCall)) (p : Position) where
       by x (inl among) = inl among
       by x (inr same) = inr (subst (λ (y : Position). Follows limits table p y) (sym same) is.follows)
 
-  pub expands_first : (xs : List Position) → Expands limits table p (λ (l : ℕ). l < 0) xs xs
-  expands_first xs = record {
+  -- lanes with no open call add nothing
+  pub expands_start : (busy : ℕ) (xs : List Position) → HasEachOpen table busy →
+      Expands limits table p (λ (l : ℕ). (l < 64) × (bit_at busy l ≢ 1)) xs xs
+  expands_start busy xs has = record {
     grows = λ x among. among;
     only = λ x among. inl among;
     different = λ are. are;
-    whole = λ l below. absurd (omega arith);
+    whole = λ l none. no_effect l xs (λ call asks. none.1 (has.each l asks.begun asks.is_open));
   }
 
-  pub expands_more : (k : ℕ) (xs ys zs : List Position) → Expands limits table p (λ (l : ℕ). l < k) xs ys →
-      Expands limits table p (λ (l : ℕ). l ≡ k) ys zs → Expands limits table p (λ (l : ℕ). l < k + 1) xs zs
-  expands_more k xs ys zs first more = record {
+  pub expands_next : (rest later k : ℕ) (xs ys zs : List Position) → SetsBit rest later k 0 →
+      Expands limits table p (λ (l : ℕ). (l < 64) × (bit_at rest l ≢ 1)) xs ys →
+      Expands limits table p (λ (l : ℕ). l ≡ k) ys zs →
+      Expands limits table p (λ (l : ℕ). (l < 64) × (bit_at later l ≢ 1)) xs zs
+  expands_next rest later k xs ys zs clears first more = record {
     grows = λ x among. more.grows x (first.grows x among);
     only = λ x among. by x (more.only x among);
     different = λ are. more.different (first.different are);
-    whole = λ l below. one l below (cases_eq l k);
+    whole = λ l none. one l none (cases_eq l k);
   }
     where
       by : (x : Position) → Contains ys x ⊎ Follows limits table p x → Contains xs x ⊎ Follows limits table p x
       by x (inl among) = first.only x among
       by x (inr follows) = inr follows
 
-      one : (l : ℕ) → l < k + 1 → (l ≡ k) ⊎ (l ≢ k) → IsTried limits table p l zs
-      one l below (inl same) = more.whole l same
-      one l below (inr apart) = tried_more more.grows (first.whole l (omega arith))
+      one : (l : ℕ) → (l < 64) × (bit_at later l ≢ 1) → (l ≡ k) ⊎ (l ≢ k) → IsTried limits table p l zs
+      one l none (inl same) = more.whole l same
+      one l none (inr apart) = tried_more more.grows
+          (first.whole l (none.0, (λ taken. none.1 (clears.others l apart ∙ taken))))
 
-  pub expands_all : (k : ℕ) (xs ys : List Position) → 64 ≤ k → Expands limits table p (λ (l : ℕ). l < k) xs ys →
+  pub expands_all : (rest : ℕ) (xs ys : List Position) → rest ≡ 0 →
+      Expands limits table p (λ (l : ℕ). (l < 64) × (bit_at rest l ≢ 1)) xs ys →
       Expands limits table p (λ (l : ℕ). l < 64) xs ys
-  expands_all k xs ys all expands = record {
+  expands_all rest xs ys none expands = record {
     grows = expands.grows;
     only = expands.only;
     different = expands.different;
-    whole = λ l below. expands.whole l (omega arith);
+    whole = λ l below. expands.whole l (below, (λ taken. free l (ap (λ (n : ℕ). bit_at n l) (sym none) ∙ taken)));
   }
+    where
+      free : (l : ℕ) → bit_at 0 l ≢ 1
+      free l taken = let zero_bit : bit_at 0 l ≡ 0 = bit_at-zero l in omega (arith, zero_bit, taken)
 
-  -- where a call gives way the one that is ahead of it may take effect instead
-  instead : (last : ℕ) (events : List Event) (lane : ℕ) → ComesAsTold table last events →
-      (way : GivesWay table p.in_effect lane) → EffectGoesOn limits table events p lane →
-      EffectGoesOn limits table events p way.first_lane
-  instead last events lane told way effect = by (asks_in (open_at table lane) (bit_at p.in_effect lane)
+  -- where a call gives way to one that returns sooner, this one may take effect instead
+  instead_sooner : (last : ℕ) (events : List Event) (lane : ℕ) → ComesAsTold table last events →
+      (way : GivesWay table p.in_effect lane) → IsAhead way.first way.begun →
+      EffectGoesOn limits table events p lane → EffectGoesOn limits table events p way.first_lane
+  instead_sooner last events lane told way ahead effect = by (asks_in (open_at table lane) (bit_at p.in_effect lane)
       (effect.one.lanes lane) effect.call (effect.stands.phases lane) effect.asks)
     where
       by : AsksIn (open_at table lane) (bit_at p.in_effect lane) effect.call →
@@ -188,9 +203,9 @@ module _ (limits : Bounds) (table : List (Option OpenCall)) (p : Position) where
             asks_first effect.asks effect.sets (sets_of effect.one.lanes way.first_lane (Gets effect.reply)) tells
             sooner effect.survives;
         needed = inl (record {
-          ends = λ b also never. returns_or_never way.first.ends b.ends way.ahead.reply way.ahead.place
+          ends = λ b also never. returns_or_never way.first.ends b.ends ahead.reply ahead.place
               (ap (λ (x : OpenCall). x.ends) (one_open table way.first_lane way.first b way.is_first also))
-              way.ahead.first_is never;
+              ahead.first_is never;
         });
       }
         where
@@ -206,7 +221,7 @@ module _ (limits : Bounds) (table : List (Option OpenCall)) (p : Position) where
           its = one_open table lane way.begun asks.begun way.is_open asks.is_open
 
           one_call : call_as way.first.asks ≡ effect.call
-          one_call = ap call_as (way.ahead.call ∙ ap (λ (x : OpenCall). x.asks) its) ∙ asks.same
+          one_call = ap call_as (ahead.call ∙ ap (λ (x : OpenCall). x.asks) its) ∙ asks.same
 
           asks_first : effect.one.lanes way.first_lane ≡ Asks effect.call
           asks_first = asks_at limits table p effect.one way.first_lane way.first effect.stands way.is_first way.free ∙
@@ -216,37 +231,90 @@ module _ (limits : Bounds) (table : List (Option OpenCall)) (p : Position) where
           apart same =
               let alike : way.first ≡ way.begun = one_open table lane way.first way.begun
               (subst (λ (u : ℕ). open_at table u ≡ Some way.first) same way.is_first) way.is_open in
-              let at_once : way.ahead.place ≡ way.ahead.later = one_place way.first.ends way.begun.ends way.ahead.reply
-              way.ahead.answer way.ahead.place way.ahead.later (ap (λ (x : OpenCall). x.ends) alike)
-              way.ahead.first_is way.ahead.other_is in
-              let less = way.ahead.sooner in
+              let at_once : ahead.place ≡ ahead.later = one_place way.first.ends way.begun.ends ahead.reply
+              ahead.answer ahead.place ahead.later (ap (λ (x : OpenCall). x.ends) alike)
+              ahead.first_is ahead.other_is in
+              let less = ahead.sooner in
               omega (arith, at_once, less)
 
-          replied : reply_as way.ahead.answer ≡ effect.reply
-          replied = subst (λ (e : Ending). MayGet e effect.reply) way.ahead.other_is
+          replied : reply_as ahead.answer ≡ effect.reply
+          replied = subst (λ (e : Ending). MayGet e effect.reply) ahead.other_is
               (gets_told limits lane way.begun.ends effect.reply events effect.next effect.after effect.sets.here
               (told.ends lane way.begun way.is_open) effect.survives)
 
           tells : Tells way.first_lane effect.reply events
-          tells = subst (λ (r : Reply). Tells way.first_lane r events) (way.ahead.same ∙ replied)
-              (subst (λ (e : Ending). EndsSo way.first_lane e events) way.ahead.first_is
+          tells = subst (λ (r : Reply). Tells way.first_lane r events) (ahead.same ∙ replied)
+              (subst (λ (e : Ending). EndsSo way.first_lane e events) ahead.first_is
               (told.ends way.first_lane way.first way.is_first))
 
           sooner : ReturnsSooner way.first_lane lane events
           sooner = told.sooner way.first_lane lane way.first way.begun way.is_first way.is_open (record {
-            reply = way.ahead.reply;
-            answer = way.ahead.answer;
-            place = way.ahead.place;
-            later = way.ahead.later;
-            first_is = way.ahead.first_is;
-            other_is = way.ahead.other_is;
-            sooner = way.ahead.sooner;
+            reply = ahead.reply;
+            answer = ahead.answer;
+            place = ahead.place;
+            later = ahead.later;
+            first_is = ahead.first_is;
+            other_is = ahead.other_is;
+            sooner = ahead.sooner;
           })
+
+  -- where neither ends and it gives way to a lower lane, so may this one
+  instead_lower : (last : ℕ) (events : List Event) (lane : ℕ) → ComesAsTold table last events →
+      (way : GivesWay table p.in_effect lane) → AreEndless way.first way.begun → way.first_lane < lane →
+      EffectGoesOn limits table events p lane → EffectGoesOn limits table events p way.first_lane
+  instead_lower last events lane told way endless lower effect = by (asks_in (open_at table lane)
+      (bit_at p.in_effect lane) (effect.one.lanes lane) effect.call (effect.stands.phases lane) effect.asks)
+    where
+      never : (l : ℕ) (o : OpenCall) → open_at table l ≡ Some o → o.ends ≡ Never → EndsNever l events
+      never l o is_open ends = subst (λ (e : Ending). EndsSo l e events) ends (told.ends l o is_open)
+
+      needed : IsFree table lane ⊎ (appended_by (transition limits effect.one.state effect.call) ≢ []) →
+          IsFree table way.first_lane ⊎ (appended_by (transition limits effect.one.state effect.call) ≢ [])
+      needed (inl is_free) = absurd (is_free.ends way.begun way.is_open endless.other_is)
+      needed (inr more) = inr more
+
+      by : AsksIn (open_at table lane) (bit_at p.in_effect lane) effect.call →
+          EffectGoesOn limits table events p way.first_lane
+      by asks = record {
+        one = effect.one;
+        stands = effect.stands;
+        call = effect.call;
+        reply = effect.reply;
+        asks = asks_first;
+        next = effect.next;
+        step = effect.step;
+        after = set_of effect.one.lanes way.first_lane (Gets effect.reply);
+        sets = sets_of effect.one.lanes way.first_lane (Gets effect.reply);
+        survives = endless_alike_first limits way.first_lane lane effect.call effect.reply events effect.next
+            effect.one.lanes effect.after (set_of effect.one.lanes way.first_lane (Gets effect.reply))
+            (λ same. let less : way.first_lane < lane = lower in omega (arith, same, less)) asks_first effect.asks
+            effect.sets (sets_of effect.one.lanes way.first_lane (Gets effect.reply))
+            (never way.first_lane way.first way.is_first endless.first_is)
+            (never lane way.begun way.is_open endless.other_is) effect.survives;
+        needed = needed effect.needed;
+      }
+        where
+          its : way.begun ≡ asks.begun
+          its = one_open table lane way.begun asks.begun way.is_open asks.is_open
+
+          asks_first : effect.one.lanes way.first_lane ≡ Asks effect.call
+          asks_first = asks_at limits table p effect.one way.first_lane way.first effect.stands way.is_first way.free ∙
+              ap Asks (ap call_as (endless.call ∙ ap (λ (x : OpenCall). x.asks) its) ∙ asks.same)
+
+  -- where a call gives way the one that goes before it may take effect instead
+  instead : (last : ℕ) (events : List Event) (lane : ℕ) → ComesAsTold table last events →
+      (way : GivesWay table p.in_effect lane) → EffectGoesOn limits table events p lane →
+      EffectGoesOn limits table events p way.first_lane
+  instead last events lane told way effect = by way.goes
+    where
+      by : GoesBefore way.first_lane lane way.first way.begun → EffectGoesOn limits table events p way.first_lane
+      by (inl ahead) = instead_sooner last events lane told way ahead effect
+      by (inr lower) = instead_lower last events lane told way lower.0 lower.1 effect
 
   -- where it is needed that some call takes effect, one of what follows goes on
   advances : (xs ys : List Position) (last : ℕ) (events : List Event) → length table ≤ 64 →
       Expands limits table p (λ (l : ℕ). l < 64) xs ys → ComesAsTold table last events → (n lane : ℕ) (o : OpenCall) →
-      open_at table lane ≡ Some o → place_of o.ends < n → EffectGoesOn limits table events p lane →
+      open_at table lane ≡ Some o → rank_of lane o.ends < n → EffectGoesOn limits table events p lane →
       OneGoesOn limits table events ys
   advances xs ys last events full expands told zero lane o is low effect = absurd (omega arith)
   advances xs ys last events full expands told (suc n) lane o is low effect =
@@ -257,20 +325,29 @@ module _ (limits : Bounds) (table : List (Option OpenCall)) (p : Position) where
       within : lane < 64
       within = omega (arith, open_at_within table lane o is)
 
-      below : (way : GivesWay table p.in_effect lane) → place_of way.first.ends < n
-      below way =
-          let first : place_of way.first.ends ≡ way.ahead.place = ap place_of way.ahead.first_is in
-          let other : place_of o.ends ≡ way.ahead.later =
-          ap (λ (x : OpenCall). place_of x.ends) (one_open table lane o way.begun is way.is_open) ∙
-          ap place_of way.ahead.other_is in
-          let less = way.ahead.sooner in
+      below : (way : GivesWay table p.in_effect lane) → GoesBefore way.first_lane lane way.first way.begun →
+          rank_of way.first_lane way.first.ends < n
+      below way (inl ahead) =
+          let first : rank_of way.first_lane way.first.ends ≡ ahead.place = ap (rank_of way.first_lane) ahead.first_is in
+          let other : rank_of lane o.ends ≡ ahead.later =
+          ap (λ (x : OpenCall). rank_of lane x.ends) (one_open table lane o way.begun is way.is_open) ∙
+          ap (rank_of lane) ahead.other_is in
+          let less = ahead.sooner in
+          omega (arith, first, other, less)
+      below way (inr lower) =
+          let first : rank_of way.first_lane way.first.ends ≡ way.first_lane =
+          ap (rank_of way.first_lane) lower.0.first_is in
+          let other : rank_of lane o.ends ≡ lane =
+          ap (λ (x : OpenCall). rank_of lane x.ends) (one_open table lane o way.begun is way.is_open) ∙
+          ap (rank_of lane) lower.0.other_is in
+          let less : way.first_lane < lane = lower.1 in
           omega (arith, first, other, less)
 
       by : OneGoesOn limits table events ys ⊎ GivesWay table p.in_effect lane →
-          ((way : GivesWay table p.in_effect lane) → place_of way.first.ends < n → OneGoesOn limits table events ys) →
-          OneGoesOn limits table events ys
+          ((way : GivesWay table p.in_effect lane) → rank_of way.first_lane way.first.ends < n →
+          OneGoesOn limits table events ys) → OneGoesOn limits table events ys
       by (inl one) later = one
-      by (inr way) later = later way (below way)
+      by (inr way) later = later way (below way way.goes)
 
   pub goes_on_expanded : (xs ys : List Position) (last t : ℕ) (answer : Reply) (events : List Event) (o : OpenCall) →
       length table ≤ 64 → Expands limits table p (λ (l : ℕ). l < 64) xs ys → open_at table t ≡ Some o →
@@ -288,4 +365,4 @@ module _ (limits : Bounds) (table : List (Option OpenCall)) (p : Position) where
           on : AsksIn (open_at table some.lane) (bit_at p.in_effect some.lane) some.effect.call →
               OneGoesOn limits table (event.Returns t answer ∷ events) ys
           on asks = advances xs ys last (event.Returns t answer ∷ events) full expands told
-              (suc (place_of asks.begun.ends)) some.lane asks.begun asks.is_open (omega arith) some.effect
+              (suc (rank_of some.lane asks.begun.ends)) some.lane asks.begun asks.is_open (omega arith) some.effect

@@ -377,7 +377,7 @@ judging_first limits events watch watching untold whole = record {
 -- the same by what the code reads
 table_long : {limits : Bounds} {n : ℕ} {past future : List Event} {watch : Watch} →
     IsJudging limits n past future watch → length watch.table.items ≡ 64
-table_long judging = judging.watching.lanes
+table_long judging = judging.watching.kept.lanes
 
 pub step_begins : (limits : Bounds) (n : ℕ) (past : List Event) (e : Event) (ahead : List Event) (most lane : ℕ)
     (call : Call) (ends : Ending) (old new : Watch) (progress : Progress) → e ≡ event.Begins lane call →

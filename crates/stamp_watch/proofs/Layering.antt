@@ -1,13 +1,14 @@
 -- Layers of positions on the way to a return.
-use Rattle.std.proofs.Common.{ℕ, ◌≡◌, ◌⊎◌, ◌+◌, ◌<◌, ◌≤◌, List, [], ◌∷◌, ◌++◌, length, Option, Some, None}
-use Rattle.std.proofs.Common.{Bool, true, false, refl, sym, ◌∙◌, ap, subst, inl, inr, arith}
+use Rattle.std.proofs.Common.{ℕ, ◌≡◌, ◌≢◌, ◌⊎◌, ◌+◌, ◌<◌, ◌≤◌, List, [], ◌∷◌, ◌++◌, length, Option, Some, None}
+use Rattle.std.proofs.Common.{get_or, set, Bool, true, false, refl, sym, ◌∙◌, ap, subst, inl, inr, arith}
 use Rattle.std.specs.Prelude.{slice_set, take, drop}
 use Rattle.std.specs.Int.{bit_at}
 use Rattle.std.specs.List.{All, Contains}
-use Rattle.std.proofs.lemmas.List.{take-append-drop}
+use Rattle.std.proofs.lemmas.Bool.{cases_eq}
+use Rattle.std.proofs.lemmas.List.{take-append-drop, length-set, get_or-set_same, get_or-set_other, get_or_default}
 use Rattle.std.proofs.lemmas.List.Elements.{Contains-push, Contains-push_cases, Contains-append_left}
 use Rattle.std.proofs.lemmas.List.Elements.{Contains-append_right, Contains-append_cases, All-contains, All-nil, All-head}
-use Rattle.std.proofs.lemmas.List.Elements.{All-weaker, All-contains_itself}
+use Rattle.std.proofs.lemmas.List.Elements.{All-weaker, All-contains_itself, Contains-get_or}
 use Rattle.stamp_core.specs.Limits.{Bounds}
 use Rattle.stamp_core.specs.Word.{Represents, IsAdmitted, word_at}
 use Rattle.stamp_core.specs.declared.reply.Reply.{Reply}
@@ -25,7 +26,7 @@ use Rattle.stamp_watch.specs.Watch.{HasPhase, IsInEffect, StandsFor, IsPossible,
 use Rattle.stamp_watch.specs.inner.Lanes.{SetsBit, lanes_in}
 use Rattle.stamp_watch.specs.inner.Effect.{Follows}
 use Rattle.stamp_watch.specs.inner.Layer.{Adds, Expands, FollowsOne, ReturnsFromOne, LooksAt}
-use Rattle.stamp_watch.specs.inner.Layer.{LooksThrough, IsToldOf, IsUnderWay, MoreFollow}
+use Rattle.stamp_watch.specs.inner.Layer.{LooksThrough, IsToldOf, IsUnderWay, MoreFollow, IsReturnedFrom, AreReturned}
 use Rattle.stamp_watch.proofs.CountingLanes.{lanes_in_le}
 use Rattle.stamp_watch.proofs.Surviving.{set_of, sets_of, returns_first}
 use Rattle.stamp_watch.proofs.StandingFor.{leads_on}
@@ -307,6 +308,38 @@ module _ (limits : Bounds) (table : List (Option OpenCall)) (lane : ℕ) where
         (under.whole last reply events told one);
   }
 
+  -- where it is in effect in each position it returns from each
+  pub under_way_returned : (start done : List Position) (o : OpenCall) → open_at table lane ≡ Some o →
+      AreReturned lane start done → IsUnderWay limits table lane start done [] 0
+  under_way_returned start done o is_open are = record {
+    admitted = All-nil (λ (p : Position). IsAdmitted limits (word_at limits p.word));
+    possible = λ past these. All-nil (IsPossible limits past table);
+    returned = λ past reply told these k d less.
+        let one : IsReturnedFrom lane (get_or start k d) (get_or done k d) = are.each k d (low k less) in
+        possible_returned (get_or start k d) (get_or done k d) o is_open one.taken one.word one.clears past reply told
+        (these k d (low k less));
+    more = All-nil (λ (p : Position). 0 ≤ lanes_in p.in_effect);
+    whole = λ last reply events told one. inl (on reply events one one.among);
+  }
+    where
+      low : (k : ℕ) → k < length done → k < length start
+      low k less = let many = are.many in omega (arith, many)
+
+      on : (reply : Reply) (events : List Event) →
+          (one : OneGoesOn limits table (event.Returns lane reply ∷ events) start) → Contains start one.position →
+          OneGoesOn limits (slice_set table lane None) events done
+      on reply events one (k, less, same) =
+          let here : IsReturnedFrom lane (get_or start k one.position) (get_or done k one.position) =
+          are.each k one.position less in
+          record {
+            position = get_or done k one.position;
+            among = Contains-get_or done k one.position (let many = are.many in omega (arith, many));
+            goes = goes_on_returned (get_or start k one.position) (get_or done k one.position) o is_open here.taken
+                here.word here.clears reply events
+                (subst (λ (x : Position). MayGoOn limits table (event.Returns lane reply ∷ events) x) (sym same)
+                one.goes);
+          }
+
   pub under_way_deep : (start done layer : List Position) (depth : ℕ) → 65 ≤ depth →
       IsUnderWay limits table lane start done layer depth → IsUnderWay limits table lane start done [] 0
   under_way_deep start done layer depth deep under =
@@ -365,3 +398,48 @@ module _ (limits : Bounds) (table : List (Option OpenCall)) (lane : ℕ) where
       (subst (λ (xs : List Position). LooksAt limits table lane (take looks.seen layer) done then_done xs next) none
       (subst (λ (xs : List Position). LooksAt limits table lane (take looks.seen xs) done then_done first next) same
       looks.looks)) (looks.many part)
+
+-- it has returned from the first of these
+pub record ReturnedSoFar (lane n : ℕ) (old now : List Position) : Type 0 where
+  pub many : length now ≡ length old
+  pub each : (k : ℕ) (d : Position) → k < n → k < length old → IsReturnedFrom lane (get_or old k d) (get_or now k d)
+  pub rest : (k : ℕ) (d : Position) → n ≤ k → get_or now k d ≡ get_or old k d
+
+pub returned_none : (lane : ℕ) (xs : List Position) → ReturnedSoFar lane 0 xs xs
+returned_none lane xs = record {
+  many = refl;
+  each = λ k d none less. absurd (omega arith);
+  rest = λ k d low. refl;
+}
+
+pub returned_more : (lane n : ℕ) (old now : List Position) (d q : Position) → n < length now →
+    IsReturnedFrom lane (get_or now n d) q → ReturnedSoFar lane n old now →
+    ReturnedSoFar lane (n + 1) old (set now n q)
+returned_more lane n old now d q within returns so_far = record {
+  many = length-set now n q ∙ so_far.many;
+  each = λ k e below less. each k e below less (cases_eq k n);
+  rest = λ k e low. get_or-set_other now n k q e (λ same. absurd (omega arith)) ∙ so_far.rest k e (omega arith);
+}
+  where
+    each : (k : ℕ) (e : Position) → k < n + 1 → k < length old → (k ≡ n) ⊎ (k ≢ n) →
+        IsReturnedFrom lane (get_or old k e) (get_or (set now n q) k e)
+    each k e below less (inr apart) = subst (λ (x : Position). IsReturnedFrom lane (get_or old k e) x)
+        (sym (get_or-set_other now n k q e apart)) (so_far.each k e (omega arith) less)
+    each k e below less (inl same) =
+        subst (λ (i : ℕ). IsReturnedFrom lane (get_or old i e) (get_or (set now n q) i e)) (sym same)
+        (subst (λ (x : Position). IsReturnedFrom lane (get_or old n e) x) (sym (get_or-set_same now n q e within))
+        (subst (λ (x : Position). IsReturnedFrom lane x q)
+        (get_or_default now n d e within ∙ so_far.rest n e (omega arith)) returns))
+
+pub taken_rest : (lane n : ℕ) (old now : List Position) (d : Position) → n < length old →
+    ReturnedSoFar lane n old now → All (λ (p : Position). bit_at p.in_effect lane ≡ 1) old →
+    bit_at (get_or now n d).in_effect lane ≡ 1
+taken_rest lane n old now d less so_far are =
+    subst (λ (x : Position). bit_at x.in_effect lane ≡ 1) (sym (so_far.rest n d (omega arith))) (are n d less)
+
+pub all_returned : (lane n : ℕ) (old now : List Position) → length now ≤ n → ReturnedSoFar lane n old now →
+    AreReturned lane old now
+all_returned lane n old now all so_far = record {
+  many = so_far.many;
+  each = λ k d less. let many = so_far.many in so_far.each k d (omega (arith, many)) less;
+}

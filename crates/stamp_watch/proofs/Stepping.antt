@@ -6,6 +6,7 @@ use Rattle.std.specs.Int.{bit_at}
 use Rattle.std.specs.Option.{is_some}
 use Rattle.std.specs.List.{All, Contains}
 use Rattle.std.proofs.lemmas.Bool.{cases_eq, false≢true}
+use Rattle.std.proofs.lemmas.Option.{none-some}
 use Rattle.std.proofs.lemmas.List.{length-set, get_or-set_same, get_or-set_other, get_or_default, length-replicate}
 use Rattle.std.proofs.lemmas.List.Elements.{Contains-get_or, Contains-push, All-head, All-weaker, All-cons, All-nil}
 use Rattle.stamp_core.specs.Limits.{Bounds}
@@ -27,14 +28,15 @@ use Rattle.stamp_watch.specs.LockCall.{call_as}
 use Rattle.stamp_watch.specs.Run.{Configuration, opening, AreExplained}
 use Rattle.stamp_watch.specs.Run.Phase.{Idle, Asks}
 use Rattle.stamp_watch.specs.Run.Leads.{leads_nowhere, by_beginning, by_withdrawal}
-use Rattle.stamp_watch.specs.Foretold.{open_at, IsReturn, MayGet, ComesAsTold}
+use Rattle.stamp_watch.specs.Foretold.{open_at, HasEachOpen, IsReturn, MayGet, ComesAsTold}
 use Rattle.stamp_watch.specs.Watch.{HasPhase, StandsFor, IsPossible, MayGoOn, OneGoesOn, AreKept}
 use Rattle.stamp_watch.specs.Watch.{IsWatching, IsProgress, MoreArePossible}
+use Rattle.stamp_watch.specs.inner.Lanes.{SetsBit}
 use Rattle.stamp_watch.specs.inner.Layer.{IsUnderWay, MoreFollow}
 use Rattle.stamp_watch.specs.inner.Step.{IsOpening, BeginsIn, AreBegun, IsAnswer}
 use Rattle.stamp_watch.proofs.Surviving.{set_of, sets_of, begins_first, withdraws_first}
 use Rattle.stamp_watch.proofs.StandingFor.{leads_on, leads_survive}
-use Rattle.stamp_watch.proofs.Tables.{open_at_set_none, open_at_set_here, open_at_idle}
+use Rattle.stamp_watch.proofs.Tables.{open_at_set_none, open_at_set_here, open_at_set_other, open_at_idle}
 use Rattle.stamp_watch.proofs.Foretelling.{told_begins, told_returns, told_withdraws}
 use Rattle.stamp_watch.proofs.Standing.{stands_set, phase_at}
 use Rattle.stamp_watch.proofs.Layering.{beside_set}
@@ -77,6 +79,31 @@ kept_first limits table p kept idle one is = record {
 
 pub untold_first : (table : List (Option OpenCall)) → table ≡ replicate 64 None → (lane : ℕ) → open_at table lane ≡ None
 untold_first table idle lane = ap (λ (t : List (Option OpenCall)). open_at t lane) idle ∙ open_at_idle 64 lane
+
+-- the lanes with an open call
+pub busy_first : (table : List (Option OpenCall)) → table ≡ replicate 64 None → HasEachOpen table 0
+busy_first table idle = record { each = λ lane o is. absurd (none-some o (sym (untold_first table idle lane) ∙ is)) }
+
+module _ (table new : List (Option OpenCall)) (lane a b : ℕ) (has : HasEachOpen table a) where
+  others_busy : (slot : Option OpenCall) (bit : ℕ) → new ≡ slice_set table lane slot → SetsBit a b lane bit →
+      (u : ℕ) (o : OpenCall) → open_at new u ≡ Some o → u ≢ lane → bit_at b u ≡ 1
+  others_busy slot bit put sets u o is apart = sets.others u apart ∙ has.each u o
+      (sym (ap (λ (t : List (Option OpenCall)). open_at t u) put ∙ open_at_set_other table lane u slot apart) ∙ is)
+
+  pub busy_begun : (slot : Option OpenCall) → new ≡ slice_set table lane slot → SetsBit a b lane 1 → HasEachOpen new b
+  busy_begun slot put sets = record { each = λ u o is. by u o is (cases_eq u lane) }
+    where
+      by : (u : ℕ) (o : OpenCall) → open_at new u ≡ Some o → (u ≡ lane) ⊎ (u ≢ lane) → bit_at b u ≡ 1
+      by u o is (inl same) = subst (λ (v : ℕ). bit_at b v ≡ 1) (sym same) sets.here
+      by u o is (inr apart) = others_busy slot 1 put sets u o is apart
+
+  pub busy_ended : new ≡ slice_set table lane None → SetsBit a b lane 0 → HasEachOpen new b
+  busy_ended put sets = record { each = λ u o is. by u o is (cases_eq u lane) }
+    where
+      by : (u : ℕ) (o : OpenCall) → open_at new u ≡ Some o → (u ≡ lane) ⊎ (u ≢ lane) → bit_at b u ≡ 1
+      by u o is (inl same) = absurd (none-some o (sym (open_at_set_none table lane) ∙
+          ap (λ (t : List (Option OpenCall)). open_at t lane) (sym put) ∙ ap (open_at new) (sym same) ∙ is))
+      by u o is (inr apart) = others_busy None 0 put sets u o is apart
 
 -- a call begins in each position
 pub record BegunSoFar (limits : Bounds) (begun : OpenCall) (lane n : ℕ) (old now : List Position) : Type 0 where
@@ -318,12 +345,12 @@ pub answered : (past : List Event) (e : Event) (most : ℕ) (old new : Watch) (p
     IsAnswer new.positions.items progress → IsWatching (past ++ e ∷ []) new → IsProgress past e most old new progress
 answered past e most old new Going is watching = (
   watching,
-  some_explained new.limits (past ++ e ∷ []) new.table.items new.positions.items is watching.possible,
+  some_explained new.limits (past ++ e ∷ []) new.table.items new.positions.items is watching.kept.possible,
 )
 answered past e most old new Dead is watching = (
   watching,
   record {
-    none = λ future told explained. none_left (watching.whole future told explained);
+    none = λ future told explained. none_left (watching.kept.whole future told explained);
   },
 )
   where
@@ -361,7 +388,7 @@ begun_read past old lane call begun table new watching below idle same put are =
     subst (λ (x : Call). AreKept old.limits (past ++ event.Begins lane x ∷ []) table old.last new) same
     (subst (λ (t : List (Option OpenCall)).
     AreKept old.limits (past ++ event.Begins lane (call_as begun.asks) ∷ []) t old.last new) (sym put)
-    (kept_begun old.limits past old.table.items old.last lane old.positions.items new begun below idle are watching))
+    (kept_begun old.limits past old.table.items old.last lane old.positions.items new begun below idle are watching.kept))
 
 pub withdrawn_read : (past : List Event) (old : Watch) (lane : ℕ) (o : OpenCall) (table : List (Option OpenCall)) →
     IsWatching past old → open_at old.table.items lane ≡ Some o → o.ends ≡ Withdraws →
@@ -370,7 +397,7 @@ pub withdrawn_read : (past : List Event) (old : Watch) (lane : ℕ) (o : OpenCal
 withdrawn_read past old lane o table watching is_open ends put =
     subst (λ (t : List (Option OpenCall)). AreKept old.limits (past ++ event.Withdraws lane ∷ []) t old.last
     old.positions.items) (sym put)
-    (kept_withdrawn old.limits past old.table.items old.last lane old.positions.items o is_open ends watching)
+    (kept_withdrawn old.limits past old.table.items old.last lane old.positions.items o is_open ends watching.kept)
 
 pub returned_read : (past : List Event) (old : Watch) (lane : ℕ) (o : OpenCall) (told : LockReply) (place : ℕ)
     (reply : Reply) (slice table : List (Option OpenCall)) (kept done : List Position) → IsWatching past old →
@@ -384,7 +411,7 @@ returned_read past old lane o told place reply slice table kept done watching is
     (kept_returned old.limits past old.table.items old.last lane old.positions.items done o told place reply is_open
     ends same due
     (subst (λ (xs : List Position). IsUnderWay old.limits old.table.items lane xs done [] 0) also
-    (subst (λ (t : List (Option OpenCall)). IsUnderWay old.limits t lane kept done [] 0) read under)) watching)
+    (subst (λ (t : List (Option OpenCall)). IsUnderWay old.limits t lane kept done [] 0) read under)) watching.kept)
 
 pub too_many_read : (past : List Event) (most : ℕ) (old : Watch) (slice : List (Option OpenCall))
     (kept : List Position) → IsWatching past old → slice ≡ old.table.items → kept ≡ old.positions.items →
@@ -398,5 +425,5 @@ too_many_read past most old slice kept watching read also follow =
       many = more.many;
       more = more.more;
       different = more.different;
-      possible = more.possible past watching.possible;
+      possible = more.possible past watching.kept.possible;
     }

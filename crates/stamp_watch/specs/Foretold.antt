@@ -1,5 +1,6 @@
 -- What is told ahead of the open calls of a run, lane by lane.
 use Rattle.std.specs.Prelude.{ℕ, ◌≡◌, ◌<◌, ◌≤◌, List, Option, Some, None, slice_get}
+use Rattle.std.specs.Int.{bit_at}
 use Rattle.stamp_core.specs.LockDecision.{reply_as}
 use Rattle.stamp_core.specs.declared.lock_decision.LockReply.{LockReply}
 use Rattle.stamp_core.specs.declared.reply.Reply.{Reply}
@@ -16,6 +17,10 @@ open_in (Some slot) = slot
 
 abbrev pub open_at : List (Option OpenCall) → ℕ → Option OpenCall
 open_at table lane = open_in (slice_get table lane)
+
+-- the lanes of this number are all that have an open call, or more
+pub record HasEachOpen (table : List (Option OpenCall)) (lanes : ℕ) : Type 0 where
+  pub each : (lane : ℕ) (begun : OpenCall) → open_at table lane ≡ Some begun → bit_at lanes lane ≡ 1
 
 -- the next end of this lane's call is this one
 abbrev pub EndsSo : ℕ → Ending → List Event → Type 0

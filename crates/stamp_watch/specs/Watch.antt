@@ -22,7 +22,7 @@ use Rattle.stamp_watch.specs.declared.watch.Watch.{Watch}
 use Rattle.stamp_watch.specs.LockCall.{call_as}
 use Rattle.stamp_watch.specs.Run.{Configuration, Phase, Survives, IsPossibleAfter, AreExplained}
 use Rattle.stamp_watch.specs.Run.Phase.{Idle, Asks, Gets}
-use Rattle.stamp_watch.specs.Foretold.{open_at, MayGet, ComesAsTold}
+use Rattle.stamp_watch.specs.Foretold.{open_at, HasEachOpen, MayGet, ComesAsTold}
 
 -- the open call of a lane is not in effect, by its bit; or it is, with a reply that its end allows
 pub record IsBegun (begun : OpenCall) (bit : ℕ) (phase : Phase) : Type 0 where
@@ -75,8 +75,10 @@ pub record AreKept (limits : Bounds) (past : List Event) (table : List (Option O
   pub whole : (future : List Event) → ComesAsTold table last future → AreExplained limits (past ++ future) →
       OneGoesOn limits table future kept
 
-abbrev pub IsWatching : List Event → Watch → Type 0
-IsWatching past watch = AreKept watch.limits past watch.table.items watch.last watch.positions.items
+-- so it is of a watch, which also has the lanes with an open call
+pub record IsWatching (past : List Event) (watch : Watch) : Type 0 where
+  pub kept : AreKept watch.limits past watch.table.items watch.last watch.positions.items
+  pub busy : HasEachOpen watch.table.items watch.busy
 
 -- nothing has begun, and nothing is told
 pub record IsUntold (watch : Watch) (limits : Bounds) : Type 0 where

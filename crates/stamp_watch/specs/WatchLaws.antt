@@ -103,6 +103,15 @@ SoonerAlikeFirst =
     Sets lanes later than (Gets reply) → Sets lanes sooner lane (Gets reply) → Tells lane reply events →
     ReturnsSooner lane than events → Survives limits events s later → Survives limits events s sooner
 
+-- Of two open calls that are one call, and of which neither ends, nothing is lost if the one takes effect instead of
+-- the other.
+abbrev pub EndlessAlikeFirst : Type 0
+EndlessAlikeFirst =
+    (limits : Bounds) (lane than : ℕ) (call : Call) (reply : Reply) (events : List Event) (s : List LockEvent)
+    (lanes later sooner : Lanes) → lane ≢ than → lanes lane ≡ Asks call → lanes than ≡ Asks call →
+    Sets lanes later than (Gets reply) → Sets lanes sooner lane (Gets reply) → EndsNever lane events →
+    EndsNever than events → Survives limits events s later → Survives limits events s sooner
+
 -- What is explained is explained up to each of its events.
 abbrev pub ShorterStayExplained : Type 0
 ShorterStayExplained =

@@ -7,7 +7,7 @@ ghost use Rattle.stamp_watch.specs.Foretold.{open_at};
 ghost use Rattle.stamp_watch.specs.inner.Effect.{IsEffect, IsAfterEffect, Settles};
 
 use crate::open_call::{OpenCall, open_in};
-use crate::position::{Position, has_lane, with_lane};
+use crate::position::{Position, first_lane, has_lane, with_lane, without_lane};
 use stamp_core::{Limits, LockDecision, decide_lock};
 
 /// The number of the word once the call has taken effect in this one, with a reply that its end allows. Nothing also
@@ -57,16 +57,19 @@ pub(crate) fn at_once(limits: Limits, begun: &OpenCall, lane: u64, position: Pos
     }
 }
 
-/// The position with each call in effect that changes nothing and may take effect there.
-fn settled(limits: Limits, table: &[Option<OpenCall>], position: Position) -> Position
+/// The position with each of these lanes' calls in effect that changes nothing and may take effect there.
+fn settled(limits: Limits, table: &[Option<OpenCall>], busy: u64, position: Position) -> Position
     requires { IsAdmitted limits (word_at limits position.word) }
     ensures { Settles limits table.now position result }
 {
     let mut settled = position;
-    for lane in 0..64 {
+    let mut rest = busy;
+    while rest != 0 {
+        let lane = first_lane(rest);
         if let Some(begun) = open_in(table, lane) {
             settled = at_once(limits, &begun, lane, settled);
         }
+        rest = without_lane(rest, lane);
     }
     settled
 }
@@ -75,6 +78,7 @@ fn settled(limits: Limits, table: &[Option<OpenCall>], position: Position) -> Po
 pub(crate) fn after_effect(
     limits: Limits,
     table: &[Option<OpenCall>],
+    busy: u64,
     lane: u64,
     begun: &OpenCall,
     position: Position,
@@ -92,7 +96,7 @@ pub(crate) fn after_effect(
                 word,
                 in_effect: with_lane(position.in_effect, lane),
             };
-            Some(settled(limits, table, next))
+            Some(settled(limits, table, busy, next))
         }
     }
 }

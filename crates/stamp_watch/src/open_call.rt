@@ -1,11 +1,11 @@
 //! The open calls of the lanes.
 ghost use Rattle.std.specs.Prelude.{◌≡◌, ◌↔◌, IsTrue, Some, None, IfOk, List, replicate, slice_set};
 ghost use Rattle.stamp_watch.specs.Foretold.{open_at};
-ghost use Rattle.stamp_watch.specs.inner.Effect.{IsAhead, GivesWay, IsUnchanging};
+ghost use Rattle.stamp_watch.specs.inner.Effect.{AreEndless, IsAhead, GivesWay, IsUnchanging};
 
 use crate::ending::{Ending, is_same_reply};
 use crate::lock_call::LockCall;
-use crate::position::has_lane;
+use crate::position::{first_lane, has_lane, without_lane};
 use std::alloc::{AllocError, Global};
 
 /// A call that has begun and has not ended, and how it ends.
@@ -70,17 +70,38 @@ impl OpenCall {
         place < later && is_same_reply(reply, answer) && self.asks.is_same(other.asks)
     }
 
-    /// Whether a call that is ahead of this one of the lane is not in effect.
-    pub(crate) fn gives_way(&self, table: &[Option<OpenCall>], in_effect: u64, lane: u64) -> bool
+    /// Whether both are one call, and neither ends.
+    fn is_endless_as(&self, other: &OpenCall) -> bool
+        ensures { IsTrue result → AreEndless self.now other.now }
+    {
+        matches!(self.ends, Ending::Never)
+            && matches!(other.ends, Ending::Never)
+            && self.asks.is_same(other.asks)
+    }
+
+    /// Whether a call of these lanes is not in effect that goes before this one of the lane: it is ahead of it, or
+    /// neither ends and its lane is lower.
+    pub(crate) fn gives_way(
+        &self,
+        table: &[Option<OpenCall>],
+        busy: u64,
+        in_effect: u64,
+        lane: u64,
+    ) -> bool
         requires { open_at table.now lane ≡ Some self.now }
         ensures { IsTrue result → GivesWay table.now in_effect lane }
     {
-        for other in 0..64 {
-            if let Some(first) = open_in(table, other) {
-                if first.is_ahead(self) && !has_lane(in_effect, other) {
-                    return true;
+        let mut rest = busy;
+        while rest != 0 {
+            let other = first_lane(rest);
+            if !has_lane(in_effect, other) {
+                if let Some(first) = open_in(table, other) {
+                    if first.is_ahead(self) || (other < lane && first.is_endless_as(self)) {
+                        return true;
+                    }
                 }
             }
+            rest = without_lane(rest, other);
         }
         false
     }

@@ -18,6 +18,16 @@ impl Position {
     }
 }
 
+/// The lowest of some lanes.
+#[inline(always)]
+pub(crate) fn first_lane(lanes: u64) -> u64
+    requires { 0 < lanes }
+    ensures within { result < 64 }
+    ensures among { bit_at lanes result ≡ 1 }
+{
+    lanes.trailing_zeros() as u64
+}
+
 /// Whether the lane is among them.
 #[inline(always)]
 pub(crate) fn has_lane(lanes: u64, lane: u64) -> bool

@@ -9,10 +9,10 @@ ghost use Rattle.stamp_watch.specs.inner.Step.{IsOpening, BeginsIn, AreBegun, Is
 
 use crate::effect::at_once;
 use crate::ending::Ending;
-use crate::layers::returned;
+use crate::layers::return_call;
 use crate::lock_call::lock_call;
 use crate::open_call::{OpenCall, idle_lanes, open_in, put};
-use crate::position::{Position, without_lane};
+use crate::position::{Position, with_lane, without_lane};
 use crate::progress::Progress;
 use stamp_core::{Call, Limits, Reply, Word};
 use std::alloc::{AllocError, Global};
@@ -25,6 +25,7 @@ pub struct Watch {
     alloc: Global,
     limits: Limits,
     table: Vec<Option<OpenCall>>,
+    busy: u64,
     last: u64,
     positions: Vec<Position>,
 }
@@ -84,6 +85,7 @@ impl Watch {
             alloc,
             limits,
             table,
+            busy: 0,
             last: 0,
             positions,
         })
@@ -106,6 +108,7 @@ impl Watch {
         let begun = OpenCall { asks, ends };
         begin_in_each(self.limits, &begun, lane, &mut self.positions);
         put(&mut self.table, lane, Some(begun));
+        self.busy = with_lane(self.busy, lane);
         answer(self.positions.as_slice())
     }
 
@@ -124,6 +127,7 @@ impl Watch {
             return Progress::Refused;
         };
         put(&mut self.table, lane, None);
+        self.busy = without_lane(self.busy, lane);
         answer(self.positions.as_slice())
     }
 
@@ -146,19 +150,20 @@ impl Watch {
         if place < self.last || !told.as_reply().is_same(reply) {
             return Ok(Progress::Refused);
         }
-        let Some(done) = returned(
+        let returned = return_call(
             self.alloc,
             self.limits,
             self.table.as_slice(),
+            self.busy,
             lane,
-            self.positions.as_slice(),
+            &mut self.positions,
             most,
-        )?
-        else {
+        )?;
+        if !returned {
             return Ok(Progress::TooMany);
-        };
-        self.positions = done;
+        }
         put(&mut self.table, lane, None);
+        self.busy = without_lane(self.busy, lane);
         self.last = place;
         Ok(answer(self.positions.as_slice()))
     }

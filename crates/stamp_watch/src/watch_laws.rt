@@ -1,5 +1,5 @@
 //! Laws of runs. Each function does nothing; its contract is the law, over the definitions alone.
-ghost use Rattle.stamp_watch.specs.WatchLaws.{AtOnceLosesNothing, BeginsFirst, BeginsLate, BeginsSooner, ExplainedAsObserved, OpeningStands, ReturnsFirst, SetsGoOn, SetsTell, ShorterStayExplained, SoonerAlikeFirst, StuckAsObserved, StuckAsSeen, StuckIsExact, TakesEffectFirst, UnchangingNeverNeeded, WithdrawnMayBeLeftOut, WithdrawnTakesNoEffect, WithdrawsFirst};
+ghost use Rattle.stamp_watch.specs.WatchLaws.{AtOnceLosesNothing, BeginsFirst, BeginsLate, BeginsSooner, EndlessAlikeFirst, ExplainedAsObserved, OpeningStands, ReturnsFirst, SetsGoOn, SetsTell, ShorterStayExplained, SoonerAlikeFirst, StuckAsObserved, StuckAsSeen, StuckIsExact, TakesEffectFirst, UnchangingNeverNeeded, WithdrawnMayBeLeftOut, WithdrawnTakesNoEffect, WithdrawsFirst};
 
 /// Where a call begins next, nothing is lost if it begins before other calls take effect.
 pub fn begins_first()
@@ -45,6 +45,11 @@ pub fn unchanging_never_needed()
 /// Of two open calls that are alike the one that returns sooner may take effect first.
 pub fn sooner_alike_first()
     ensures { SoonerAlikeFirst }
+{}
+
+/// Of two open calls that are one call, and of which neither ends, either may take effect first.
+pub fn endless_alike_first()
+    ensures { EndlessAlikeFirst }
 {}
 
 /// What is explained is explained up to each of its events.

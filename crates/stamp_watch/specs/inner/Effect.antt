@@ -99,7 +99,17 @@ pub record IsAhead (first other : OpenCall) : Type 0 where
   pub same : reply_as reply ≡ reply_as answer
   pub call : first.asks ≡ other.asks
 
--- a call that is ahead of that of this lane is not in effect
+-- two calls are one call, and neither ends
+pub record AreEndless (first other : OpenCall) : Type 0 where
+  pub first_is : first.ends ≡ Never
+  pub other_is : other.ends ≡ Never
+  pub call : first.asks ≡ other.asks
+
+-- the call of the first lane goes before the other: it is ahead; or neither ends, and its lane is lower
+abbrev pub GoesBefore : ℕ → ℕ → OpenCall → OpenCall → Type 0
+GoesBefore first_lane lane first other = IsAhead first other ⊎ (AreEndless first other × (first_lane < lane))
+
+-- a call that goes before that of this lane is not in effect
 pub record GivesWay (table : List (Option OpenCall)) (in_effect lane : ℕ) : Type 0 where
   pub begun : OpenCall
   pub is_open : open_at table lane ≡ Some begun
@@ -107,4 +117,4 @@ pub record GivesWay (table : List (Option OpenCall)) (in_effect lane : ℕ) : Ty
   pub first : OpenCall
   pub is_first : open_at table first_lane ≡ Some first
   pub free : bit_at in_effect first_lane ≡ 0
-  pub ahead : IsAhead first begun
+  pub goes : GoesBefore first_lane lane first begun

@@ -1,6 +1,6 @@
 -- How a set of positions goes on to a return, layer by layer: each has one call more in effect than one before it.
 use Rattle.std.specs.Prelude.{ℕ, ◌≡◌, ◌≢◌, ◌<◌, ◌≤◌, ◌⊎◌, ◌++◌, Bool, true, false, List, [], ◌∷◌, length, take}
-use Rattle.std.specs.Prelude.{Option, Some, None, slice_set}
+use Rattle.std.specs.Prelude.{Option, Some, None, slice_set, slice_index_or}
 use Rattle.std.specs.Int.{bit_at}
 use Rattle.std.specs.List.{All, AllPairs, Contains}
 use Rattle.stamp_core.specs.Limits.{Bounds}
@@ -58,6 +58,18 @@ pub record ReturnsFromOne (lane : ℕ) (layer : List Position) (x : Position) : 
   pub word : x.word ≡ from.word
   pub clears : SetsBit from.in_effect x.in_effect lane 0
 
+-- the call of this lane is in effect in the first position, and the other is the first without it
+pub record IsReturnedFrom (lane : ℕ) (p q : Position) : Type 0 where
+  pub taken : bit_at p.in_effect lane ≡ 1
+  pub word : q.word ≡ p.word
+  pub clears : SetsBit p.in_effect q.in_effect lane 0
+
+-- so it is in each of these
+pub record AreReturned (lane : ℕ) (old new : List Position) : Type 0 where
+  pub many : length new ≡ length old
+  pub each : (k : ℕ) (d : Position) → k < length old →
+      IsReturnedFrom lane (slice_index_or old k d) (slice_index_or new k d)
+
 -- these positions were looked at: from those in which the call of this lane is in effect it returns, and what follows
 -- the others is the next layer
 pub record LooksAt (limits : Bounds) (table : List (Option OpenCall)) (lane : ℕ) (layer : List Position)
@@ -109,3 +121,8 @@ pub record MoreFollow (limits : Bounds) (table : List (Option OpenCall)) (start 
   pub different : AreDifferent many
   pub possible : (past : List Event) → All (IsPossible limits past table) start →
       All (IsPossible limits past table) many
+
+-- the call of this lane has returned, from the one list to the other; or too many positions follow the first
+abbrev pub IsAfterReturn : Bounds → List (Option OpenCall) → ℕ → ℕ → List Position → List Position → Bool → Type 0
+IsAfterReturn limits table lane most old new true = IsUnderWay limits table lane old new [] 0
+IsAfterReturn limits table lane most old new false = MoreFollow limits table old most
