@@ -3,10 +3,12 @@ use Rattle.std.proofs.Common.{ℕ, ◌≡◌, ◌≢◌, ◌⊎◌, ◌+◌, ◌
 use Rattle.std.proofs.Common.{get_or, refl, sym, ◌∙◌, ap, subst, inl, inr, arith, eq-eqb, ne_eqb}
 use Rattle.std.specs.Prelude.{◌↔◌, not, ◌&&◌, ◌||◌, take}
 use Rattle.std.specs.Int.{bit_at}
-use Rattle.std.specs.List.{fold}
+use Rattle.std.specs.List.{All, fold}
 use Rattle.std.proofs.lemmas.Bool.{cases_eq, false≢true}
 use Rattle.std.proofs.lemmas.List.{take_all}
 use Rattle.std.proofs.lemmas.List.Elements.{All-push, All-contains, All-take, All-nil, Contains-push}
+use Rattle.std.proofs.lemmas.List.Elements.{All-drop, Contains-append_right, Contains-get_or}
+use Rattle.std.proofs.Math.Seq.{drop-append_seam}
 use Rattle.std.proofs.lemmas.Nat.Bits.{bit_at-zero}
 use Rattle.stamp_watch.specs.declared.event.Event.{Event}
 use Rattle.stamp_watch.specs.declared.event.Event.TheVariants.{Begins, Returns, Withdraws}
@@ -16,10 +18,24 @@ use Rattle.stamp_watch.specs.inner.Judging.{MayComeIn, SetsBusy, AreBusyLanes, I
 use Rattle.stamp_watch.proofs.Form.{form_goes_on, form_up_to, busy_after_one}
 use Rattle.stamp_watch.proofs.Reading.{take_read}
 
-form_last : (busy : ℕ → Bool) (past : List Event) (e : Event) → AreInFormFrom busy (past ++ e ∷ []) →
-    MayCome (λ (lane : ℕ). fold (is_busy_then lane) (busy lane) past) e
-form_last busy [] e form = form.0
-form_last busy (x ∷ past) e form = form_last (λ (lane : ℕ). is_busy_then lane (busy lane) x) past e form.1
+form_at : (busy : ℕ → Bool) (past : List Event) (e : Event) (more : List Event) →
+    AreInFormFrom busy (past ++ e ∷ more) → MayCome (λ (lane : ℕ). fold (is_busy_then lane) (busy lane) past) e
+form_at busy [] e more form = form.0
+form_at busy (x ∷ past) e more form = form_at (λ (lane : ℕ). is_busy_then lane (busy lane) x) past e more form.1
+
+-- what comes behind others is of the lock
+pub rest_of_lock : (past events : List Event) → AreOfLock (past ++ events) → All IsOfLock events
+rest_of_lock past events whole = subst (All IsOfLock) (drop-append_seam past events)
+    (All-drop IsOfLock (length past) (past ++ events) whole.lock)
+
+-- an event of a run in form may come there, and is one of the lock
+pub next_comes : (past : List Event) (e : Event) (more : List Event) → AreOfLock (past ++ e ∷ more) →
+    MayCome (is_busy_after past) e
+next_comes past e more whole = form_at (λ (lane : ℕ). false) past e more whole.form
+
+pub next_of_lock : (past : List Event) (e : Event) (more : List Event) → AreOfLock (past ++ e ∷ more) → IsOfLock e
+next_of_lock past e more whole = All-contains IsOfLock (past ++ e ∷ more) e whole.lock
+    (Contains-append_right past (e ∷ more) e (Contains-get_or (e ∷ more) 0 e (omega arith)))
 
 not_true : (b : Bool) → (b ≡ true → ⊥) → b ≡ false
 not_true true none = absurd (none refl)
@@ -110,6 +126,19 @@ busy_lanes_then past busy after (Withdraws u) lanes is = record {
         ap (λ (b : Bool). not b && is_busy_after past lane) (ne_eqb u lane apart))
         (is.others lane (λ e. apart (sym e))) (lanes.same lane below)
 
+-- one event on, or not
+pub of_lock_on : (past : List Event) (busy : ℕ) (e : Event) → AreBusyLanes past busy → MayComeIn busy e →
+    AreOfLock past → AreOfLock (past ++ e ∷ [])
+of_lock_on past busy e lanes may whole = record {
+  form = form_goes_on (λ (lane : ℕ). false) past e whole.form (comes_then past busy lanes e may);
+  lock = All-push IsOfLock past e whole.lock (of_lock_then past busy lanes e may);
+}
+
+pub of_lock_not : (past : List Event) (busy : ℕ) (e : Event) → AreBusyLanes past busy → ¬ MayComeIn busy e →
+    ¬ AreOfLock (past ++ e ∷ [])
+of_lock_not past busy e lanes none whole =
+    none (comes_back past busy lanes e (next_comes past e [] whole) (next_of_lock past e [] whole))
+
 -- before any event
 pub form_first : AreOfLock [] × AreBusyLanes [] 0
 form_first = (
@@ -136,7 +165,7 @@ module _ (events : List Event) (k busy : ℕ) (e : Event) (less : k < length eve
     where
       by : AreOfLock (take k events ++ e ∷ []) → ⊥
       by longer = none (comes_back (take k events) busy lanes e
-          (form_last (λ (lane : ℕ). false) (take k events) e longer.form)
+          (form_at (λ (lane : ℕ). false) (take k events) e [] longer.form)
           (All-contains IsOfLock (take k events ++ e ∷ []) e longer.lock (Contains-push (take k events) e)))
 
   pub form_stops : AreOfLock (take k events) → ¬ MayComeIn busy e → IsInFormUpTo events k

@@ -1,8 +1,9 @@
 -- What comes as was told, where all that comes is known.
-use Rattle.std.proofs.Common.{ℕ, ◌≡◌, ◌≢◌, ◌⊎◌, ◌+◌, ◌<◌, ◌≤◌, ◌==◌, Bool, true, false, List, [], ◌∷◌, ◌++◌}
+use Rattle.std.proofs.Common.{ℕ, zero, suc, ◌≡◌, ◌≢◌, ◌⊎◌, ◌+◌, ◌<◌, ◌≤◌, ◌==◌, Bool, true, false, List, [], ◌∷◌, ◌++◌}
 use Rattle.std.proofs.Common.{length, Option, Some, None, refl, sym, ◌∙◌, ap, subst, inl, inr, arith, append_assoc}
 use Rattle.std.proofs.Common.{eq-eqb, ne_eqb}
 use Rattle.std.specs.Prelude.{slice_set, not, ◌&&◌, ◌||◌}
+use Rattle.std.specs.List.{All}
 use Rattle.std.specs.Option.{is_some}
 use Rattle.std.proofs.lemmas.Bool.{cases_eq, false≢true}
 use Rattle.std.proofs.lemmas.List.Elements.{All-head, All-tail}
@@ -18,30 +19,34 @@ use Rattle.stamp_watch.specs.declared.event.Event.TheVariants as event
 use Rattle.stamp_watch.specs.declared.ending.Ending.{Ending}
 use Rattle.stamp_watch.specs.declared.ending.Ending.TheVariants.{Returns, Withdraws, Never}
 use Rattle.stamp_watch.specs.declared.open_call.OpenCall.{OpenCall}
+use Rattle.stamp_watch.specs.declared.position.Position.{Position}
 use Rattle.stamp_watch.specs.declared.progress.Progress.{Progress}
 use Rattle.stamp_watch.specs.declared.progress.Progress.TheVariants.{Going, Dead, TooMany, Refused}
 use Rattle.stamp_watch.specs.declared.watch.Watch.{Watch}
-use Rattle.stamp_watch.specs.Ahead.{Tells, ReturnsSooner}
+use Rattle.stamp_watch.specs.Ahead.{Tells, IsWithdrawn, EndsNever, ReturnsSooner}
 use Rattle.stamp_watch.specs.Ahead.Tells.{tells_next, past_beginning, past_return, past_withdrawal}
 use Rattle.stamp_watch.specs.Ahead.IsWithdrawn.{withdrawn_next, withdrawn_past_beginning, withdrawn_past_return}
 use Rattle.stamp_watch.specs.Ahead.IsWithdrawn.{withdrawn_past_withdrawal}
 use Rattle.stamp_watch.specs.Ahead.EndsNever.{never_more, not_beginning, not_returning, not_withdrawing}
 use Rattle.stamp_watch.specs.Ahead.ReturnsSooner.{sooner_next, sooner_past_beginning, sooner_past_return}
 use Rattle.stamp_watch.specs.Ahead.ReturnsSooner.{sooner_past_withdrawal}
+use Rattle.stamp_watch.specs.AsObserved as observed
 use Rattle.stamp_watch.specs.AsObserved.{ending_of}
 use Rattle.stamp_watch.specs.AsObserved.Ending.{StaysOpen, EndsBy, EndsWithdrawn}
-use Rattle.stamp_watch.specs.Foretold.{open_at, EndsSo, ComesAsTold}
-use Rattle.stamp_watch.specs.Form.{is_busy_then}
+use Rattle.stamp_watch.specs.Foretold.{open_at, EndsSo, HasEachOpen, ReturnsBefore, ComesAsTold}
+use Rattle.stamp_watch.specs.Form.{is_busy_then, is_busy_after, MayCome}
 use Rattle.stamp_watch.specs.Run.{AreExplained}
 use Rattle.stamp_watch.specs.Run.Survives.{at_end}
-use Rattle.stamp_watch.specs.Verdict.{AreOfLock, IsOfLock}
-use Rattle.stamp_watch.specs.Watch.{IsWatching, IsUntold, IsInForm, IsProgress, IsTaken, BeginsTold, ReturnsTold}
-use Rattle.stamp_watch.specs.Watch.{WithdrawsTold}
-use Rattle.stamp_watch.specs.inner.Judging.{ends_as, IsFollowed, IsJudging, IsStep}
+use Rattle.stamp_watch.specs.Verdict.{AreOfLock, IsOfLock, AreTooMany}
+use Rattle.stamp_watch.specs.Watch.{AreKept, IsCopy, IsWatching, IsUntold, IsInForm, IsProgress, IsTaken}
+use Rattle.stamp_watch.specs.Watch.{BeginsTold, ReturnsTold, WithdrawsTold}
+use Rattle.stamp_watch.specs.inner.Judging.{ends_as, IsEndTold, IsFollowed, IsJudging, IsStep}
+use Rattle.stamp_watch.proofs.Form.{busy_after_one}
+use Rattle.stamp_watch.proofs.Forming.{next_comes, next_of_lock}
 use Rattle.stamp_watch.proofs.Numbered.{return_ends, return_spares, withdrawal_ends, withdrawal_spares, one_return}
 use Rattle.stamp_watch.proofs.Numbered.{open_or_ended, withdrawn_or_ended, ended_by_return, ended_past_withdrawal}
 use Rattle.stamp_watch.proofs.Numbered.{ending_last}
-use Rattle.stamp_watch.proofs.Tables.{open_at_set_here, open_at_set_other}
+use Rattle.stamp_watch.proofs.Tables.{open_at_within, open_at_set_none, open_at_set_here, open_at_set_other}
 
 withdrawn_or_open : EndsWithdrawn ≡ StaysOpen → ⊥
 withdrawn_or_open same = cc
@@ -168,9 +173,9 @@ told_return : (ends : Ending) (told : LockReply) (place lane n : ℕ) (events : 
 told_return ends told place lane n events returns is = sym is ∙ ap ends_as returns
 
 -- what comes is as it was told
-pub comes : (n : ℕ) (future : List Event) (watch : Watch) → IsFollowed n future watch →
+pub comes : (n : ℕ) (past future : List Event) (watch : Watch) → IsFollowed n past future watch →
     ComesAsTold watch.table.items watch.last future
-comes n future watch f = record {
+comes n past future watch f = record {
   ends = λ lane begun is. ends_so lane n future begun.ends (f.told lane begun is);
   sooner = λ lane than first other is also before. sooner_so lane than n future
       (record { last = before.place; reply = reply_as before.reply })
@@ -198,13 +203,17 @@ none_open None is = refl
 none_open (Some begun) is = absurd (false≢true (sym is))
 
 -- the next event may come
-pub in_form : (n : ℕ) (ahead : List Event) (e : Event) (old : Watch) → IsFollowed n (e ∷ ahead) old → IsInForm old e
-in_form n ahead (event.Begins lane call) old f = (
-  All-head IsOfLock (event.Begins lane call) ahead f.lock,
-  none_open (open_at old.table.items lane) (f.agrees lane ∙ f.form.0.0),
-  f.form.0.1,
-)
-in_form n ahead (event.Returns lane reply) old f = by (some_open (open_at old.table.items lane) (f.agrees lane ∙ f.form.0))
+pub in_form : (n : ℕ) (past : List Event) (e : Event) (ahead : List Event) (old : Watch) →
+    IsFollowed n past (e ∷ ahead) old → IsInForm old e
+in_form n past (event.Begins lane call) ahead old f =
+    let may : MayCome (is_busy_after past) (event.Begins lane call) =
+    next_comes past (event.Begins lane call) ahead f.whole in (
+      next_of_lock past (event.Begins lane call) ahead f.whole,
+      none_open (open_at old.table.items lane) (f.agrees lane ∙ may.0),
+      may.1,
+    )
+in_form n past (event.Returns lane reply) ahead old f = by (some_open (open_at old.table.items lane)
+    (f.agrees lane ∙ next_comes past (event.Returns lane reply) ahead f.whole))
   where
     told : (o : OpenCall) → open_at old.table.items lane ≡ Some o →
         IsReturnAt o.ends (record { last = n; reply = reply })
@@ -222,7 +231,8 @@ in_form n ahead (event.Returns lane reply) old f = by (some_open (open_at old.ta
       due = let at : (told one.begun one.is).place ≡ n = (told one.begun one.is).here in
           let last : old.last ≤ n = f.last in omega (arith, at, last);
     }
-in_form n ahead (event.Withdraws lane) old f = by (some_open (open_at old.table.items lane) (f.agrees lane ∙ f.form.0))
+in_form n past (event.Withdraws lane) ahead old f = by (some_open (open_at old.table.items lane)
+    (f.agrees lane ∙ next_comes past (event.Withdraws lane) ahead f.whole))
   where
     by : IsOpen (open_at old.table.items lane) → IsInForm old (event.Withdraws lane)
     by one = record {
@@ -242,28 +252,33 @@ module _ (old new : List (Option OpenCall)) (lane : ℕ) (slot : Option OpenCall
   put_other : (u : ℕ) → u ≢ lane → open_at new u ≡ open_at old u
   put_other u apart = ap (λ (t : List (Option OpenCall)). open_at t u) put ∙ open_at_set_other old lane u slot apart
 
-pub followed_begins : (n : ℕ) (ahead : List Event) (lane : ℕ) (call : Call) (ends : Ending) (old new : Watch) →
+-- the run once one event more is past
+whole_on : (past : List Event) (e : Event) (ahead : List Event) → AreOfLock (past ++ e ∷ ahead) →
+    AreOfLock (past ++ e ∷ [] ++ ahead)
+whole_on past e ahead whole = subst AreOfLock (sym (append_assoc past (e ∷ []) ahead)) whole
+
+pub followed_begins : (n : ℕ) (past ahead : List Event) (lane : ℕ) (call : Call) (ends : Ending) (old new : Watch) →
     length old.table.items ≡ 64 → ends_as ends ≡ ending_of lane (n + 1) ahead → BeginsTold old new lane call ends →
-    IsFollowed n (event.Begins lane call ∷ ahead) old → IsFollowed (n + 1) ahead new
-followed_begins n ahead lane call ends old new long is told f = record {
-  busy = λ (u : ℕ). is_busy_then u (f.busy u) (event.Begins lane call);
-  form = f.form.1;
-  lock = All-tail IsOfLock (event.Begins lane call) ahead f.lock;
-  agrees = λ u. agrees u (cases_eq u lane);
+    IsFollowed n past (event.Begins lane call ∷ ahead) old →
+    IsFollowed (n + 1) (past ++ event.Begins lane call ∷ []) ahead new
+followed_begins n past ahead lane call ends old new long is told f = record {
+  whole = whole_on past (event.Begins lane call) ahead f.whole;
+  agrees = λ u. agrees u (cases_eq u lane) ∙ sym (busy_after_one u false past (event.Begins lane call));
   told = λ u o opened. ends_there u o opened (cases_eq u lane);
   last = let same : new.last ≡ old.last = told.last in let last : old.last ≤ n = f.last in omega (arith, same, last);
 }
   where
     within : lane < length old.table.items
-    within = let below : lane < 64 = All-head IsOfLock (event.Begins lane call) ahead f.lock in
+    within = let below : lane < 64 = next_of_lock past (event.Begins lane call) ahead f.whole in
         omega (arith, below, long)
 
     agrees : (u : ℕ) → (u ≡ lane) ⊎ (u ≢ lane) →
-        is_some (open_at new.table.items u) ≡ is_busy_then u (f.busy u) (event.Begins lane call)
+        is_some (open_at new.table.items u) ≡ is_busy_then u (is_busy_after past u) (event.Begins lane call)
     agrees u (inl same) = ap is_some (put_here old.table.items new.table.items lane (Some told.begun) told.table within
-        u same) ∙ sym (ap (λ (b : Bool). b || f.busy u) (eq-eqb lane u (sym same)))
+        u same) ∙ sym (ap (λ (b : Bool). b || is_busy_after past u) (eq-eqb lane u (sym same)))
     agrees u (inr apart) = ap is_some (put_other old.table.items new.table.items lane (Some told.begun) told.table
-        within u apart) ∙ f.agrees u ∙ sym (ap (λ (b : Bool). b || f.busy u) (ne_eqb lane u (λ e. apart (sym e))))
+        within u apart) ∙ f.agrees u ∙
+        sym (ap (λ (b : Bool). b || is_busy_after past u) (ne_eqb lane u (λ e. apart (sym e))))
 
     ends_there : (u : ℕ) (o : OpenCall) → open_at new.table.items u ≡ Some o → (u ≡ lane) ⊎ (u ≢ lane) →
         ends_as o.ends ≡ ending_of u (n + 1) ahead
@@ -275,23 +290,25 @@ followed_begins n ahead lane call ends old new long is told f = record {
         (Some told.begun) told.table within u apart) ∙ opened)
 
 -- a call ends
-module _ (n : ℕ) (ahead : List Event) (lane : ℕ) (e : Event) (old new : Watch)
+module _ (n : ℕ) (past ahead : List Event) (lane : ℕ) (e : Event) (old new : Watch)
     (long : length old.table.items ≡ 64) (put : new.table.items ≡ slice_set old.table.items lane None)
     (below : lane < 64)
     (frees : (u : ℕ) (busy : Bool) → is_busy_then u busy e ≡ (not (lane == u) && busy))
     (spares : (u : ℕ) → u ≢ lane → ending_of u n (e ∷ ahead) ≡ ending_of u (n + 1) ahead)
-    (f : IsFollowed n (e ∷ ahead) old) where
+    (f : IsFollowed n past (e ∷ ahead) old) where
   within_ended : lane < length old.table.items
   within_ended = omega (arith, below, long)
 
   agrees_ended : (u : ℕ) → (u ≡ lane) ⊎ (u ≢ lane) →
-      is_some (open_at new.table.items u) ≡ is_busy_then u (f.busy u) e
+      is_some (open_at new.table.items u) ≡ is_busy_then u (is_busy_after past u) e
   agrees_ended u (inl same) =
       ap is_some (put_here old.table.items new.table.items lane None put within_ended u same) ∙
-      sym (frees u (f.busy u) ∙ ap (λ (b : Bool). not b && f.busy u) (eq-eqb lane u (sym same)))
+      sym (frees u (is_busy_after past u) ∙
+      ap (λ (b : Bool). not b && is_busy_after past u) (eq-eqb lane u (sym same)))
   agrees_ended u (inr apart) =
       ap is_some (put_other old.table.items new.table.items lane None put within_ended u apart) ∙ f.agrees u ∙
-      sym (frees u (f.busy u) ∙ ap (λ (b : Bool). not b && f.busy u) (ne_eqb lane u (λ e. apart (sym e))))
+      sym (frees u (is_busy_after past u) ∙
+      ap (λ (b : Bool). not b && is_busy_after past u) (ne_eqb lane u (λ e. apart (sym e))))
 
   told_ended : (u : ℕ) (o : OpenCall) → open_at new.table.items u ≡ Some o → (u ≡ lane) ⊎ (u ≢ lane) →
       ends_as o.ends ≡ ending_of u (n + 1) ahead
@@ -301,22 +318,21 @@ module _ (n : ℕ) (ahead : List Event) (lane : ℕ) (e : Event) (old new : Watc
       f.told u o (sym (put_other old.table.items new.table.items lane None put within_ended u apart) ∙ opened) ∙
       spares u apart
 
-  followed_ended : new.last ≤ n + 1 → IsFollowed (n + 1) ahead new
+  followed_ended : new.last ≤ n + 1 → IsFollowed (n + 1) (past ++ e ∷ []) ahead new
   followed_ended low = record {
-    busy = λ (u : ℕ). is_busy_then u (f.busy u) e;
-    form = f.form.1;
-    lock = All-tail IsOfLock e ahead f.lock;
-    agrees = λ u. agrees_ended u (cases_eq u lane);
+    whole = whole_on past e ahead f.whole;
+    agrees = λ u. agrees_ended u (cases_eq u lane) ∙ sym (busy_after_one u false past e);
     told = λ u o opened. told_ended u o opened (cases_eq u lane);
     last = low;
   }
 
-pub followed_returns : (n : ℕ) (ahead : List Event) (lane : ℕ) (reply : Reply) (old new : Watch) →
+pub followed_returns : (n : ℕ) (past ahead : List Event) (lane : ℕ) (reply : Reply) (old new : Watch) →
     length old.table.items ≡ 64 → ReturnsTold old new lane reply →
-    IsFollowed n (event.Returns lane reply ∷ ahead) old → IsFollowed (n + 1) ahead new
-followed_returns n ahead lane reply old new long told f =
-    followed_ended n ahead lane (event.Returns lane reply) old new long told.table
-    (All-head IsOfLock (event.Returns lane reply) ahead f.lock).0 (λ u busy. refl)
+    IsFollowed n past (event.Returns lane reply ∷ ahead) old →
+    IsFollowed (n + 1) (past ++ event.Returns lane reply ∷ []) ahead new
+followed_returns n past ahead lane reply old new long told f =
+    followed_ended n past ahead lane (event.Returns lane reply) old new long told.table
+    (next_of_lock past (event.Returns lane reply) ahead f.whole).0 (λ u busy. refl)
     (λ u apart. return_spares u lane n reply ahead (λ e. apart (sym e))) f
     (let same : new.last ≡ told.was.place = told.last in omega (arith, same, at))
   where
@@ -325,18 +341,20 @@ followed_returns n ahead lane reply old new long told f =
         n (event.Returns lane reply ∷ ahead) told.was.ends (f.told lane told.was.begun told.was.is_open)) ∙
         return_ends lane lane n reply ahead refl))
 
-pub followed_withdraws : (n : ℕ) (ahead : List Event) (lane : ℕ) (old new : Watch) → length old.table.items ≡ 64 →
-    WithdrawsTold old new lane → IsFollowed n (event.Withdraws lane ∷ ahead) old → IsFollowed (n + 1) ahead new
-followed_withdraws n ahead lane old new long told f =
-    followed_ended n ahead lane (event.Withdraws lane) old new long told.table
-    (All-head IsOfLock (event.Withdraws lane) ahead f.lock) (λ u busy. refl)
+pub followed_withdraws : (n : ℕ) (past ahead : List Event) (lane : ℕ) (old new : Watch) →
+    length old.table.items ≡ 64 → WithdrawsTold old new lane →
+    IsFollowed n past (event.Withdraws lane ∷ ahead) old →
+    IsFollowed (n + 1) (past ++ event.Withdraws lane ∷ []) ahead new
+followed_withdraws n past ahead lane old new long told f =
+    followed_ended n past ahead lane (event.Withdraws lane) old new long told.table
+    (next_of_lock past (event.Withdraws lane) ahead f.whole) (λ u busy. refl)
     (λ u apart. withdrawal_spares u lane n ahead (λ e. apart (sym e))) f
     (let same : new.last ≡ old.last = told.last in let last : old.last ≤ n = f.last in omega (arith, same, last))
 
 -- one event on
 pub stepped : (limits : Bounds) (n : ℕ) (past : List Event) (e : Event) (ahead : List Event) (most : ℕ)
     (old new : Watch) (progress : Progress) → IsProgress past e most old new progress →
-    (IsTaken progress → new.limits ≡ old.limits) → (IsTaken progress → IsFollowed (n + 1) ahead new) →
+    (IsTaken progress → new.limits ≡ old.limits) → (IsTaken progress → IsFollowed (n + 1) (past ++ e ∷ []) ahead new) →
     IsJudging limits n past (e ∷ ahead) old → IsStep limits n past e ahead most new progress
 stepped limits n past e ahead most old new Going is same follows judging = record {
   limits_are = same tt ∙ judging.limits_are;
@@ -345,7 +363,7 @@ stepped limits n past e ahead most old new Going is same follows judging = recor
   followed = follows tt;
 }
 stepped limits n past e ahead most old new Dead is same follows judging =
-    λ explained. is.1.none ahead (comes (n + 1) ahead new (follows tt))
+    λ explained. is.1.none ahead (comes (n + 1) (past ++ e ∷ []) ahead new (follows tt))
     (subst (λ (l : Bounds). AreExplained l (past ++ e ∷ [] ++ ahead)) (sym (same tt ∙ judging.limits_are))
     (subst (AreExplained limits) (sym (append_assoc past (e ∷ []) ahead)) explained))
 stepped limits n past e ahead most old new TooMany is same follows judging = record {
@@ -355,7 +373,7 @@ stepped limits n past e ahead most old new TooMany is same follows judging = rec
   more = is.0;
 }
 stepped limits n past e ahead most old new Refused is same follows judging =
-    is.0 (in_form n ahead e old judging.followed)
+    is.0 (in_form n past e ahead old judging.followed)
 
 -- before any event
 pub judging_first : (limits : Bounds) (events : List Event) (watch : Watch) → IsWatching [] watch →
@@ -365,9 +383,7 @@ judging_first limits events watch watching untold whole = record {
   watching = watching;
   explained = at_end;
   followed = record {
-    busy = λ (lane : ℕ). false;
-    form = whole.form;
-    lock = whole.lock;
+    whole = whole;
     agrees = λ lane. ap is_some (untold.idle lane);
     told = λ lane o is. absurd (none-some o (sym (untold.idle lane) ∙ is));
     last = let none : watch.last ≡ 0 = untold.last in omega (arith, none);
@@ -381,18 +397,20 @@ table_long judging = judging.watching.kept.lanes
 
 pub step_begins : (limits : Bounds) (n : ℕ) (past : List Event) (e : Event) (ahead : List Event) (most lane : ℕ)
     (call : Call) (ends : Ending) (old new : Watch) (progress : Progress) → e ≡ event.Begins lane call →
-    ends_as ends ≡ ending_of lane (n + 1) ahead → IsProgress past (event.Begins lane call) most old new progress →
+    IsEndTold e (n + 1) ahead ends → IsProgress past (event.Begins lane call) most old new progress →
     (IsTaken progress → BeginsTold old new lane call ends) → IsJudging limits n past (e ∷ ahead) old →
     IsStep limits n past e ahead most new progress
 step_begins limits n past e ahead most lane call ends old new progress same is answer told judging =
     subst (λ (x : Event). IsStep limits n past x ahead most new progress) (sym same)
-    (by (subst (λ (x : Event). IsJudging limits n past (x ∷ ahead) old) same judging))
+    (by (subst (λ (x : Event). IsEndTold x (n + 1) ahead ends) same is)
+    (subst (λ (x : Event). IsJudging limits n past (x ∷ ahead) old) same judging))
   where
-    by : IsJudging limits n past (event.Begins lane call ∷ ahead) old →
+    by : ends_as ends ≡ ending_of lane (n + 1) ahead → IsJudging limits n past (event.Begins lane call ∷ ahead) old →
         IsStep limits n past (event.Begins lane call) ahead most new progress
-    by on = stepped limits n past (event.Begins lane call) ahead most old new progress answer
+    by ends_so on = stepped limits n past (event.Begins lane call) ahead most old new progress answer
         (λ taken. (told taken).limits)
-        (λ taken. followed_begins n ahead lane call ends old new (table_long on) is (told taken) on.followed) on
+        (λ taken. followed_begins n past ahead lane call ends old new (table_long on) ends_so (told taken) on.followed)
+        on
 
 pub step_returns : (limits : Bounds) (n : ℕ) (past : List Event) (e : Event) (ahead : List Event) (most lane : ℕ)
     (reply : Reply) (old new : Watch) (progress : Progress) → e ≡ event.Returns lane reply →
@@ -407,7 +425,7 @@ step_returns limits n past e ahead most lane reply old new progress same answer 
         IsStep limits n past (event.Returns lane reply) ahead most new progress
     by on = stepped limits n past (event.Returns lane reply) ahead most old new progress answer
         (λ taken. (told taken).limits)
-        (λ taken. followed_returns n ahead lane reply old new (table_long on) (told taken) on.followed) on
+        (λ taken. followed_returns n past ahead lane reply old new (table_long on) (told taken) on.followed) on
 
 pub step_withdraws : (limits : Bounds) (n : ℕ) (past : List Event) (e : Event) (ahead : List Event) (most lane : ℕ)
     (old new : Watch) (progress : Progress) → e ≡ event.Withdraws lane →
@@ -422,4 +440,30 @@ step_withdraws limits n past e ahead most lane old new progress same answer told
         IsStep limits n past (event.Withdraws lane) ahead most new progress
     by on = stepped limits n past (event.Withdraws lane) ahead most old new progress answer
         (λ taken. (told taken).limits)
-        (λ taken. followed_withdraws n ahead lane old new (table_long on) (told taken) on.followed) on
+        (λ taken. followed_withdraws n past ahead lane old new (table_long on) (told taken) on.followed) on
+
+-- a copy judges as well
+pub judging_copied : (limits : Bounds) (n : ℕ) (past future : List Event) (watch copy : Watch) → IsCopy watch copy →
+    IsJudging limits n past future watch → IsJudging limits n past future copy
+judging_copied limits n past future watch copy same judging = record {
+  limits_are = same.limits ∙ judging.limits_are;
+  watching = record {
+    kept = subst (λ (l : Bounds). AreKept l past copy.table.items copy.last copy.positions.items) (sym same.limits)
+        (subst (λ (t : List (Option OpenCall)). AreKept watch.limits past t copy.last copy.positions.items)
+        (sym same.table)
+        (subst (λ (m : ℕ). AreKept watch.limits past watch.table.items m copy.positions.items) (sym same.last)
+        (subst (λ (xs : List Position). AreKept watch.limits past watch.table.items watch.last xs)
+        (sym same.positions) judging.watching.kept)));
+    busy = subst (λ (t : List (Option OpenCall)). HasEachOpen t copy.busy) (sym same.table)
+        (subst (λ (m : ℕ). HasEachOpen watch.table.items m) (sym same.busy) judging.watching.busy);
+  };
+  explained = judging.explained;
+  followed = record {
+    whole = judging.followed.whole;
+    agrees = λ lane. ap (λ (t : List (Option OpenCall)). is_some (open_at t lane)) same.table ∙
+        judging.followed.agrees lane;
+    told = λ lane begun is. judging.followed.told lane begun
+        (sym (ap (λ (t : List (Option OpenCall)). open_at t lane) same.table) ∙ is);
+    last = subst (λ (m : ℕ). m ≤ n) (sym same.last) judging.followed.last;
+  };
+}

@@ -30,7 +30,7 @@ use Rattle.stamp_watch.specs.Run.Phase.{Idle, Asks}
 use Rattle.stamp_watch.specs.Run.Leads.{leads_nowhere, by_beginning, by_withdrawal}
 use Rattle.stamp_watch.specs.Foretold.{open_at, HasEachOpen, IsReturn, MayGet, ComesAsTold}
 use Rattle.stamp_watch.specs.Watch.{HasPhase, StandsFor, IsPossible, MayGoOn, OneGoesOn, AreKept}
-use Rattle.stamp_watch.specs.Watch.{IsWatching, IsProgress, MoreArePossible}
+use Rattle.stamp_watch.specs.Watch.{IsWatched, IsWatching, IsProgress, MoreArePossible}
 use Rattle.stamp_watch.specs.inner.Lanes.{SetsBit}
 use Rattle.stamp_watch.specs.inner.Layer.{IsUnderWay, MoreFollow}
 use Rattle.stamp_watch.specs.inner.Step.{IsOpening, BeginsIn, AreBegun, IsAnswer}
@@ -358,6 +358,16 @@ answered past e most old new Dead is watching = (
     none_left one = none_in_nil one.position (subst (λ (xs : List Position). Contains xs one.position) is one.among)
 answered past e most old new TooMany is watching = absurd is
 answered past e most old new Refused is watching = absurd is
+
+-- a watch stays one
+pub still_watched : (past : List Event) (e : Event) (most : ℕ) (old new : Watch) (progress : Progress) →
+    IsProgress past e most old new progress → IsWatching past old → IsWatched new
+still_watched past e most old new Going is was = record { past = past ++ e ∷ []; watching = is.0 }
+still_watched past e most old new Dead is was = record { past = past ++ e ∷ []; watching = is.0 }
+still_watched past e most old new TooMany is was =
+    record { past = past; watching = subst (λ (w : Watch). IsWatching past w) (sym is.1) was }
+still_watched past e most old new Refused is was =
+    record { past = past; watching = subst (λ (w : Watch). IsWatching past w) (sym is.1) was }
 
 -- the same by what the code reads
 none_from : (o : Option OpenCall) → is_some o ≡ false → o ≡ None

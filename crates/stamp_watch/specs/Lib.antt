@@ -3,6 +3,7 @@ pub mod LockCall
 pub mod Foretold
 pub mod Watch
 pub mod Verdict
+pub mod Judge
 pub mod Run
 pub mod Ahead
 pub mod Form

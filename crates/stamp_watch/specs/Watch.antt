@@ -159,3 +159,11 @@ IsTaken Going = Unit {0}
 IsTaken Dead = Unit {0}
 IsTaken TooMany = ⊥
 IsTaken Refused = ⊥
+
+-- the same watch, in memory of its own
+pub record IsCopy (watch copy : Watch) : Type 0 where
+  pub limits : copy.limits ≡ watch.limits
+  pub table : copy.table.items ≡ watch.table.items
+  pub busy : copy.busy ≡ watch.busy
+  pub last : copy.last ≡ watch.last
+  pub positions : copy.positions.items ≡ watch.positions.items

@@ -3,4 +3,5 @@ pub mod Effect
 pub mod Layer
 pub mod Step
 pub mod Judging
+pub mod Course
 pub mod Stamps

@@ -44,7 +44,7 @@ fn is_taken(busy: u64, lane: u64) -> bool
 }
 
 /// The lanes with an open call after the event, if it is one of the lock that may come where these have one.
-fn busy_then(busy: u64, event: &Event) -> Option<u64>
+pub(crate) fn busy_then(busy: u64, event: &Event) -> Option<u64>
     ensures { IsBusyThen busy event.now result }
 {
     match event {

@@ -3,6 +3,7 @@
 #![tactic(auto)]
 
 mod ahead;
+mod course;
 mod effect;
 mod ending;
 mod event;
@@ -10,6 +11,7 @@ mod judge;
 mod lanes;
 mod layers;
 mod lock_call;
+mod online;
 mod open_call;
 mod position;
 mod progress;
@@ -20,6 +22,7 @@ pub mod watch_laws;
 pub use ending::Ending;
 pub use event::Event;
 pub use judge::judge_run;
+pub use online::Judge;
 pub use progress::Progress;
 pub use verdict::Verdict;
 pub use watch::Watch;

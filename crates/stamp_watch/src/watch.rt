@@ -4,7 +4,7 @@ ghost use Rattle.std.specs.List.{All};
 ghost use Rattle.stamp_core.specs.Word.{IsAdmitted, word_at};
 ghost use Rattle.stamp_watch.specs.declared.event.Event.{Event};
 ghost use Rattle.stamp_watch.specs.declared.position.Position.{Position};
-ghost use Rattle.stamp_watch.specs.Watch.{IsWatching, IsWatched, IsProgress, IsTaken, BeginsTold, ReturnsTold, WithdrawsTold, IsUntold};
+ghost use Rattle.stamp_watch.specs.Watch.{IsWatching, IsWatched, IsCopy, IsProgress, IsTaken, BeginsTold, ReturnsTold, WithdrawsTold, IsUntold};
 ghost use Rattle.stamp_watch.specs.inner.Step.{IsOpening, BeginsIn, AreBegun, IsAnswer};
 
 use crate::effect::at_once;
@@ -77,6 +77,7 @@ impl Watch {
     pub fn new(alloc: Global, limits: Limits) -> Result<Watch, AllocError>
         ensures watching { IfOk result (λ watch. IsWatching [] watch) }
         ensures untold { IfOk result (λ watch. IsUntold watch limits) }
+        ensures watched { IfOk result (λ watch. IsWatched watch) }
     {
         let table = idle_lanes(alloc)?;
         let mut positions = Vec::new(alloc);
@@ -91,6 +92,22 @@ impl Watch {
         })
     }
 
+    /// The same watch, in memory of its own: a place from which a run can be judged once more.
+    pub fn copied(&self) -> Result<Watch, AllocError>
+        ensures { IfOk result (λ copy. IsCopy self.now copy) }
+    {
+        let table = Vec::from_slice(self.alloc, self.table.as_slice())?;
+        let positions = Vec::from_slice(self.alloc, self.positions.as_slice())?;
+        Ok(Watch {
+            alloc: self.alloc,
+            limits: self.limits,
+            table,
+            busy: self.busy,
+            last: self.last,
+            positions,
+        })
+    }
+
     /// One more event: a call begins in a lane, and ends so. It is refused in a lane from 64 on, or one with an open
     /// call, and if it is a call of the record. It is never `TooMany`.
     pub fn begins(&mut self, lane: u64, call: &Call, ends: Ending) -> Progress
@@ -98,6 +115,7 @@ impl Watch {
         ensures progress { (past : List Event) (most : ℕ) → IsWatching past self.old
             → IsProgress past (Event.Begins lane call.now) most self.old self.new result }
         ensures told { IsTaken result → BeginsTold self.old self.new lane call.now ends }
+        ensures watched { IsWatched self.new }
     {
         if lane >= 64 || open_in(self.table.as_slice(), lane).is_some() {
             return Progress::Refused;
@@ -119,6 +137,7 @@ impl Watch {
         ensures progress { (past : List Event) (most : ℕ) → IsWatching past self.old
             → IsProgress past (Event.Withdraws lane) most self.old self.new result }
         ensures told { IsTaken result → WithdrawsTold self.old self.new lane }
+        ensures watched { IsWatched self.new }
     {
         let Some(begun) = open_in(self.table.as_slice(), lane) else {
             return Progress::Refused;
@@ -139,6 +158,7 @@ impl Watch {
         ensures progress { IfOk result (λ progress. (past : List Event) → IsWatching past self.old
             → IsProgress past (Event.Returns lane reply.now) most self.old self.new progress) }
         ensures told { IfOk result (λ progress. IsTaken progress → ReturnsTold self.old self.new lane reply.now) }
+        ensures watched { IsWatched self.new }
         ensures err { OnErr result (self.new ≡ self.old) }
     {
         let Some(begun) = open_in(self.table.as_slice(), lane) else {

@@ -72,12 +72,10 @@ abbrev pub IsEndBy : Event → ℕ → ℕ → Option Ending → Type 0
 IsEndBy e lane n (Some ends) = (events : List Event) → ending_of lane n (e ∷ events) ≡ ends_as ends
 IsEndBy e lane n None = (events : List Event) → ending_of lane n (e ∷ events) ≡ ending_of lane (n + 1) events
 
--- what comes is in form, and each open call ends in it as was told; the first of these events has this number
-pub record IsFollowed (n : ℕ) (future : List Event) (watch : Watch) : Type 0 where
-  pub busy : ℕ → Bool
-  pub form : AreInFormFrom busy future
-  pub lock : All IsOfLock future
-  pub agrees : (lane : ℕ) → is_some (open_at watch.table.items lane) ≡ busy lane
+-- the whole run is in form, and what comes is as was told of each open call; the first event of it has this number
+pub record IsFollowed (n : ℕ) (past future : List Event) (watch : Watch) : Type 0 where
+  pub whole : AreOfLock (past ++ future)
+  pub agrees : (lane : ℕ) → is_some (open_at watch.table.items lane) ≡ is_busy_after past lane
   pub told : (lane : ℕ) (begun : OpenCall) → open_at watch.table.items lane ≡ Some begun →
       ends_as begun.ends ≡ ending_of lane n future
   pub last : watch.last ≤ n
@@ -87,7 +85,19 @@ pub record IsJudging (limits : Bounds) (n : ℕ) (past future : List Event) (wat
   pub limits_are : watch.limits ≡ limits
   pub watching : IsWatching past watch
   pub explained : AreExplained limits past
-  pub followed : IsFollowed n future watch
+  pub followed : IsFollowed n past future watch
+
+-- behind some events a watch judges these, of which the first has this number
+pub record IsJudgingOn (n : ℕ) (events : List Event) (watch : Watch) : Type 0 where
+  pub limits : Bounds
+  pub past : List Event
+  pub judging : IsJudging limits n past events watch
+
+-- how the call that begins by this event ends among those that come, the first of which has this number
+abbrev pub IsEndTold : Event → ℕ → List Event → Ending → Type 0
+IsEndTold (event.Begins lane call) n ahead ends = ends_as ends ≡ ending_of lane n ahead
+IsEndTold (event.Returns lane reply) n ahead ends = Unit {0}
+IsEndTold (event.Withdraws lane) n ahead ends = Unit {0}
 
 -- what the answer to one more event means where all that comes is known
 abbrev pub IsStep : Bounds → ℕ → List Event → Event → List Event → ℕ → Watch → Progress → Type 0
@@ -96,13 +106,30 @@ IsStep limits n past e ahead most new progress.Dead = ¬ AreExplained limits (pa
 IsStep limits n past e ahead most new progress.TooMany = AreTooMany limits past most
 IsStep limits n past e ahead most new progress.Refused = ⊥
 
--- what is found of events that are in form
-abbrev pub IsOutcome : Bounds → List Event → ℕ → Outcome → Type 0
-IsOutcome limits events most Explained = AreExplained limits events
-IsOutcome limits events most (Unexplained k) =
-    (k < length events) × AreExplained limits (take k events) × (¬ AreExplained limits events)
-IsOutcome limits events most (TooMany k) =
-    (k < length events) × AreExplained limits (take k events) × AreTooMany limits (take k events) most
+-- what is found of events that come behind others
+abbrev pub IsOutcome : Bounds → List Event → List Event → ℕ → Outcome → Type 0
+IsOutcome limits past events most Explained = AreExplained limits (past ++ events)
+IsOutcome limits past events most (Unexplained k) =
+    (k < length events) × AreExplained limits (past ++ take k events) × (¬ AreExplained limits (past ++ events))
+IsOutcome limits past events most (TooMany k) =
+    (k < length events) × AreExplained limits (past ++ take k events) × AreTooMany limits (past ++ take k events) most
+
+-- a watch from which any more of these events can be judged than so many, as a run that ends there
+pub record IsBase (limits : Bounds) (n least : ℕ) (past events : List Event) (watch : Watch) : Type 0 where
+  pub place : n ≡ length past
+  pub judging : (m : ℕ) → least < m → m ≤ length events → IsJudging limits n past (take m events) watch
+
+-- behind the others so many of these events are explained, and not all
+pub record IsStuckBehind (limits : Bounds) (past events : List Event) (k : ℕ) : Type 0 where
+  pub explained : AreExplained limits (past ++ take k events)
+  pub stuck : ¬ AreExplained limits (past ++ events)
+
+-- so it is behind some events
+pub record IsStuckFrom (n k : ℕ) (events : List Event) (watch : Watch) : Type 0 where
+  pub limits : Bounds
+  pub past : List Event
+  pub base : IsBase limits n k past events watch
+  pub stuck : IsStuckBehind limits past events k
 
 -- a verdict, whatever comes later
 abbrev pub IsFound : Bounds → List Event → ℕ → Verdict → Type 0

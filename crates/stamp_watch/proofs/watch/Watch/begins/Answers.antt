@@ -1,6 +1,6 @@
 use Rattle.std.proofs.Common.{arith, Some}
 use Rattle.stamp_watch.specs.declared.event.Event.TheVariants.{Begins}
-use Rattle.stamp_watch.proofs.Stepping.{answered, answer_read, begun_read, busy_begun, idle_read}
+use Rattle.stamp_watch.proofs.Stepping.{answered, answer_read, begun_read, busy_begun, idle_read, still_watched}
 use Rattle.stamp_watch.proofs.watch.Watch.begins.Goals as goal
 
 pub returns-clause-progress : goal.returns-clause-progress
@@ -25,3 +25,7 @@ returns-clause-progress c past most watching = answered past (Begins c.args.lane
           c.with_lane-self.result watching.busy (Some (record { asks = c.in-Some.asks; ends = c.args.ends })) c.put.ensures
           c.with_lane-self.ensures;
     })
+
+pub returns-clause-watched : goal.returns-clause-watched
+returns-clause-watched c = still_watched c.requires.past (Begins c.args.lane c.args.call.now) 0 c.args.self.now _
+    c.answer.result (returns-clause-progress c c.requires.past 0 c.requires.watching) c.requires.watching

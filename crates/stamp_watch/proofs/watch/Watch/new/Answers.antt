@@ -17,3 +17,6 @@ returns-clause-untold c = record {
   idle = untold_first c.in_ok-table.table.items c.in_ok-table.ensures;
   last = refl;
 }
+
+pub returns-clause-watched : goal.returns-clause-watched
+returns-clause-watched c = record { past = []; watching = returns-clause-watching c }

@@ -1,5 +1,5 @@
 use Rattle.stamp_watch.specs.declared.event.Event.TheVariants as event
-use Rattle.stamp_watch.proofs.Stepping.{answered, answer_read, busy_ended, withdrawn_read, open_read}
+use Rattle.stamp_watch.proofs.Stepping.{answered, answer_read, busy_ended, withdrawn_read, open_read, still_watched}
 use Rattle.stamp_watch.proofs.watch.Watch.withdraws.Goals as goal
 
 pub returns-clause-progress : goal.returns-clause-progress
@@ -21,3 +21,7 @@ returns-clause-progress c past most watching = answered past (event.Withdraws c.
       busy = busy_ended c.args.self.now.table.items c.put.new.table.items c.args.lane c.args.self.now.busy
           c.without_lane-self.result watching.busy c.put.ensures c.without_lane-self.ensures;
     })
+
+pub returns-clause-watched : goal.returns-clause-watched
+returns-clause-watched c = still_watched c.requires.past (event.Withdraws c.args.lane) 0 c.args.self.now _
+    c.answer.result (returns-clause-progress c c.requires.past 0 c.requires.watching) c.requires.watching
