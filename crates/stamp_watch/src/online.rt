@@ -40,7 +40,8 @@ impl Judge {
     /// The judge of a lock with these limits, before any event. More than `most` configurations before an event are
     /// too many to go on.
     pub fn new(alloc: Global, limits: Limits, most: u64) -> Result<Judge, AllocError>
-        ensures { IfOk result (λ judge. IsJudge limits most [] judge) }
+        ensures judge { IfOk result (λ judge. IsJudge limits most [] judge) }
+        ensures known { IfOk result (λ judge. IsJudgeOfSome judge) }
     {
         let course = Course::new(alloc, limits)?;
         Ok(Judge {
@@ -53,13 +54,14 @@ impl Judge {
 
     /// Takes an event that may come there, after which these lanes have an open call.
     fn take(&mut self, event: &Event, busy: u64) -> Result<Option<Verdict>, AllocError>
-        requires known { IsJudgeOfSome self.old }
+        requires some { IsJudgeOfSome self.old }
         requires room { HasRoomForOne self.old }
         requires none { self.old.found ≡ None }
         requires may { MayComeIn self.old.busy event.now }
         requires busy { SetsBusy self.old.busy event.now busy }
         ensures found { IfOk result (λ found. IsFoundThen event.now self.old found) }
         ensures given { IfOk result (λ _. IsGiven event.now self.old self.new) }
+        ensures known { IfOk result (λ _. IsJudgeOfSome self.new) }
     {
         self.course.add(event)?;
         self.busy = busy;
@@ -70,11 +72,12 @@ impl Judge {
 
     /// Ends with an event that may not come there.
     fn break_off(&mut self, event: &Event) -> Result<Option<Verdict>, AllocError>
-        requires known { IsJudgeOfSome self.old }
+        requires some { IsJudgeOfSome self.old }
         requires none { self.old.found ≡ None }
         requires not { ¬ MayComeIn self.old.busy event.now }
         ensures found { IfOk result (λ found. IsFoundThen event.now self.old found) }
         ensures given { IfOk result (λ _. IsGiven event.now self.old self.new) }
+        ensures known { IfOk result (λ _. IsJudgeOfSome self.new) }
     {
         let rest = self.course.rest(self.most)?;
         let verdict = broken_off(rest, self.course.count());
@@ -84,11 +87,12 @@ impl Judge {
 
     /// Looks at one more event.
     fn look_at(&mut self, event: &Event) -> Result<Option<Verdict>, AllocError>
-        requires known { IsJudgeOfSome self.old }
+        requires some { IsJudgeOfSome self.old }
         requires room { HasRoomForOne self.old }
         requires none { self.old.found ≡ None }
         ensures found { IfOk result (λ found. IsFoundThen event.now self.old found) }
         ensures given { IfOk result (λ _. IsGiven event.now self.old self.new) }
+        ensures known { IfOk result (λ _. IsJudgeOfSome self.new) }
     {
         match busy_then(self.busy, event) {
             Some(busy) => self.take(event, busy),
@@ -98,10 +102,11 @@ impl Judge {
 
     /// One more event: what is found of the run, whatever comes later, if anything is.
     pub fn push(&mut self, event: &Event) -> Result<Option<Verdict>, AllocError>
-        requires known { IsJudgeOfSome self.old }
+        requires some { IsJudgeOfSome self.old }
         requires room { HasRoomForOne self.old }
         ensures found { IfOk result (λ found. IsFoundThen event.now self.old found) }
         ensures given { IfOk result (λ _. IsGiven event.now self.old self.new) }
+        ensures known { IfOk result (λ _. IsJudgeOfSome self.new) }
     {
         match self.found {
             Some(verdict) => Ok(Some(verdict)),

@@ -133,9 +133,7 @@ fn calls_that_overlap_may_have_either_order(rt: HostRuntime) -> Result<(), Fail>
 }
 
 #[test]
-fn a_run_is_stuck_at_the_first_event_that_nothing_explains(
-    rt: HostRuntime,
-) -> Result<(), Fail> {
+fn a_run_is_stuck_at_the_first_event_that_nothing_explains(rt: HostRuntime) -> Result<(), Fail> {
     let two_writers = [
         calls(0, Call::TryWrite),
         calls(1, Call::TryWrite),
@@ -243,11 +241,7 @@ fn events_out_of_form_break_a_run(rt: HostRuntime) -> Result<(), Fail> {
     assert!(rt; verdict(&rt, 100, &begun_twice)? == Verdict::Broken(1));
     let never_begun = [calls(0, Call::TryRead), stamps(1, 257)];
     assert!(rt; verdict(&rt, 100, &never_begun)? == Verdict::Broken(1));
-    let returned_twice = [
-        calls(0, Call::TryRead),
-        stamps(0, 257),
-        stamps(0, 257),
-    ];
+    let returned_twice = [calls(0, Call::TryRead), stamps(0, 257), stamps(0, 257)];
     assert!(rt; verdict(&rt, 100, &returned_twice)? == Verdict::Broken(2));
     let nothing_to_withdraw = [Event::Withdraws(0)];
     assert!(rt; verdict(&rt, 100, &nothing_to_withdraw)? == Verdict::Broken(0));
@@ -265,11 +259,7 @@ fn events_out_of_form_break_a_run(rt: HostRuntime) -> Result<(), Fail> {
 
 #[test]
 fn of_two_faults_the_first_is_told(rt: HostRuntime) -> Result<(), Fail> {
-    let stuck_and_broken = [
-        calls(0, Call::TryRead),
-        stamps(0, 258),
-        stamps(0, 258),
-    ];
+    let stuck_and_broken = [calls(0, Call::TryRead), stamps(0, 258), stamps(0, 258)];
     assert!(rt; verdict(&rt, 100, &stuck_and_broken)? == Verdict::Stuck(1));
     let broken_and_stuck = [
         calls(0, Call::TryRead),

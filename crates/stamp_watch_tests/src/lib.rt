@@ -4,4 +4,6 @@
 #[cfg(test)]
 mod judge_tests;
 #[cfg(test)]
+mod online_tests;
+#[cfg(test)]
 mod watch_tests;

@@ -1,9 +1,14 @@
-use stamp_core::{Call, LockReply, Limits, Reply};
+ghost use Rattle.std.specs.Prelude.{IfOk};
+ghost use Rattle.stamp_watch.specs.Watch.{IsWatched};
+
+use stamp_core::{Call, Limits, LockReply, Reply};
 use stamp_watch::{Ending, Progress, Watch};
 use std::test::Fail;
 
 /// The watch of a new lock for up to 127 readers and 1,000 write acquisitions.
-fn watch(rt: &impl AllocGlobal) -> Result<Watch, Fail> {
+fn watch(rt: &impl AllocGlobal) -> Result<Watch, Fail>
+    ensures { IfOk result (λ watch. IsWatched watch) }
+{
     let Ok(limits) = Limits::new(127, 1000) else {
         return Err(Fail::from("limits"));
     };

@@ -13,3 +13,13 @@ returns-clause-found c limits most run is =
 pub returns-clause-given : goal.returns-clause-given
 returns-clause-given c limits most run is = judge_broken limits most run c.args.event.now c.args.self.now is c.requires.none _
     c.broken_off-verdict.result refl refl (returns-clause-found c limits most run is)
+
+pub returns-clause-known : goal.returns-clause-known
+returns-clause-known c =
+    let some = c.requires.some in
+    record {
+      limits = some.limits;
+      most = some.most;
+      run = some.run ++ c.args.event.now ∷ [];
+      judge_of = returns-clause-given c some.limits some.most some.run some.judge_of;
+    }
