@@ -1,4 +1,15 @@
 //! Judging a run while it goes on.
+//!
+//! A judge is given a run event by event. It keeps a base, which is a watch, the events behind it, and a watch that has
+//! seen the first of these. An event is seen once it is known how its call ends, so a watch is told nothing that isn't
+//! so, whatever comes later: what was explained stays explained, and the base can judge each run that ends behind what
+//! was seen. Where the watch keeps no configuration, the run is not explained with the events that are known, and the
+//! first event that shows it is found from the base, by halving. What is found is final.
+//!
+//! The judge doesn't let go of events yet. It may where a watch behind some of them knows how its open calls end, and
+//! each of these ends was seen: that watch can be the base. A call that ends far behind may begin late, just before the
+//! events that are kept: by `begins_sooner` what is explained then is explained, and by `begins_late` nothing is lost
+//! where its reply tells a version that what comes then doesn't go below.
 ghost use Rattle.std.specs.Prelude.{◌≡◌, ◌↔◌, [], IfOk, None, List, ℕ, false};
 ghost use Rattle.stamp_core.specs.Limits.{Bounds};
 ghost use Rattle.stamp_watch.specs.declared.event.Event.{Event};
