@@ -12,7 +12,7 @@ use Rattle.stamp_watch.specs.declared.watch.Watch.{Watch}
 use Rattle.stamp_watch.specs.Judge.{HasRoomForOne, IsJudge, IsUnderWay}
 use Rattle.stamp_watch.specs.Verdict.{AreOfLock}
 use Rattle.stamp_watch.specs.inner.Judging.{AreBusyLanes, IsFound, MayComeIn, SetsBusy}
-use Rattle.stamp_watch.specs.inner.Course.{HasGoneOn, HasRoom, IsCourse, IsOneLonger, IsRest, IsRunOn, broken_off}
+use Rattle.stamp_watch.specs.inner.Course.{HasGoneOn, HasLetGo, HasRoom, IsCourse, IsOneLonger, IsRest, IsRunOn, broken_off}
 use Rattle.stamp_watch.proofs.Forming.{busy_lanes_then, form_first, of_lock_on}
 use Rattle.stamp_watch.proofs.Running.{broken_found, found_later}
 
@@ -122,11 +122,13 @@ module _ (limits : Bounds) (most : ℕ) (run : List Event) (e : Event) (old : Ju
             (λ (x : Verdict). IsFound limits (run ++ e ∷ []) most x)) (sym some) found;
       }
 
-pub one_longer_room : (old : Judge) (then_course : Course) → HasRoomForOne old → IsOneLonger old.course then_course →
-    HasRoom then_course
-one_longer_room old then_course space longer = record {
-  room = let first : then_course.first ≡ old.course.first = longer.first in
-      let more : length then_course.events.items ≡ length old.course.events.items + 1 = longer.longer in
+pub one_longer_room : (old : Judge) (let_go then_course : Course) → HasRoomForOne old →
+    HasLetGo old.course let_go → IsOneLonger let_go then_course → HasRoom then_course
+one_longer_room old let_go then_course space gone longer = record {
+  room = let more : then_course.first + length then_course.events.items ≡
+      let_go.first + length let_go.events.items + 1 = longer.longer in
+      let same : let_go.first + length let_go.events.items ≡ old.course.first + length old.course.events.items =
+      gone.long in
       let room : old.course.first + length old.course.events.items + 1 < 2 ^ 64 = space.room in
-      omega (arith, first, more, room);
+      omega (arith, more, same, room);
 }

@@ -6,6 +6,9 @@ use Rattle.std.specs.Prelude.{take, drop, not, ◌&&◌, ◌||◌}
 use Rattle.std.specs.Option.{is_some}
 use Rattle.std.proofs.lemmas.Bool.{cases_eq, false≢true}
 use Rattle.std.proofs.lemmas.List.{take-append-drop, take-append-le, drop-append-le, length-append, length-drop}
+use Rattle.std.proofs.lemmas.List.{length-take-le}
+use Rattle.std.proofs.lemmas.Nat.Bits.{bit_at-zero}
+use Rattle.std.specs.Int.{bit_at}
 use Rattle.std.proofs.Math.Seq.{take-add, take-append_seam}
 use Rattle.stamp_core.specs.Limits.{Bounds}
 use Rattle.stamp_core.specs.declared.call.Call.{Call}
@@ -318,6 +321,61 @@ module _ (limits : Bounds) (run : List Event) (first seen : ℕ) (events : List 
   pub rest_within : (k : ℕ) → k < length (drop seen events) → seen + k < length events
   rest_within k less = let rest : length (drop seen events) ≡ length events - seen = length-drop seen events in
       let within : seen ≤ length events = is.within in omega (arith, less, rest, within)
+
+  -- no call is open behind the events that were seen
+  module _ (idle : watch.busy ≡ 0) where
+    none_open : (lane : ℕ) (begun : OpenCall) → open_at watch.table.items lane ≡ Some begun → ⊥
+    none_open lane begun opened =
+        let taken : bit_at 0 lane ≡ 1 = subst (λ (n : ℕ). bit_at n lane ≡ 1) idle
+        (is.now.judging.watching.busy.each lane begun opened) in
+        let free : bit_at 0 lane ≡ 0 = bit_at-zero lane in omega (arith, taken, free)
+
+    none_busy : (slot : Option OpenCall) → is_some slot ≡ true → ((begun : OpenCall) → slot ≡ Some begun → ⊥) → ⊥
+    none_busy None some none = false≢true some
+    none_busy (Some begun) some none = none begun refl
+
+    idle_ended : AreEnded (first + seen) (is.past ++ take seen events) []
+    idle_ended = record {
+      ends = λ lane busy open_still. none_busy (open_at watch.table.items lane)
+          (is.now.judging.followed.agrees lane ∙ busy) (none_open lane);
+    }
+
+    idle_judging : IsJudging limits (first + seen) (is.past ++ take seen events) [] watch
+    idle_judging = record {
+      limits_are = is.now.judging.limits_are;
+      watching = is.now.judging.watching;
+      explained = is.now.judging.explained;
+      followed = record {
+        whole = subst AreOfLock (sym (append-nil (is.past ++ take seen events))) (part_of_lock seen);
+        agrees = is.now.judging.followed.agrees;
+        told = λ lane begun opened. absurd (none_open lane begun opened);
+        last = is.now.judging.followed.last;
+      };
+    }
+
+    pub run_let_go : (new_base : Watch) (rest : List Event) → rest ≡ drop seen events → IsCopy watch new_base →
+        IsRunOn limits run (first + seen) 0 rest new_base watch
+    run_let_go new_base rest same copied =
+        subst (λ (xs : List Event). IsRunOn limits run (first + seen) 0 xs new_base watch) (sym same) (record {
+          past = is.past ++ take seen events;
+          run_is = is.run_is ∙ sym seen_and_rest;
+          place =
+              let long : length (is.past ++ take seen events) ≡ length is.past + length (take seen events) =
+              length-append is.past (take seen events) in
+              let few : length (take seen events) ≡ seen = length-take-le seen events is.within in
+              let at : first ≡ length is.past = is.place in omega (arith, long, few, at);
+          whole = subst AreOfLock (sym seen_and_rest) is.whole;
+          within = omega arith;
+          from_base = record {
+            judging = judging_copied limits (first + seen) (is.past ++ take seen events) [] watch new_base copied
+                idle_judging;
+            ended = idle_ended;
+          };
+          now = subst (λ (n : ℕ). IsStanding limits n (is.past ++ take seen events ++ []) (drop seen events) watch)
+              (sym (add-zero (first + seen)))
+              (subst (λ (before : List Event). IsStanding limits (first + seen) before (drop seen events) watch)
+              (sym (append-nil (is.past ++ take seen events))) is.now);
+        })
 
   module _ (most : ℕ) where
     pub rest_explained : IsOutcome limits (is.past ++ take seen events) (drop seen events) most judged.Explained →

@@ -3,7 +3,7 @@ ghost use Rattle.std.specs.Prelude.{◌≡◌, ◌+◌, ◌^◌, ◌<◌, ◌∷
 ghost use Rattle.stamp_core.specs.Limits.{Bounds};
 ghost use Rattle.stamp_watch.specs.declared.event.Event.{Event};
 ghost use Rattle.stamp_watch.specs.Verdict.{AreOfLock};
-ghost use Rattle.stamp_watch.specs.inner.Course.{HasGoneOn, HasRoom, IsCourse, IsKnown, IsOneLonger, IsOnCourse, IsOnward, IsRest};
+ghost use Rattle.stamp_watch.specs.inner.Course.{HasGoneOn, HasLetGo, HasRoom, IsCourse, IsKnown, IsOneLonger, IsOnCourse, IsOnward, IsRest};
 
 use crate::ending::Ending;
 use crate::event::Event;
@@ -21,12 +21,16 @@ use std::slice::from_ref;
 /// second watch has not seen can be judged from the first.
 #[derive(Drop)]
 pub(crate) struct Course {
+    alloc: Global,
     pub(crate) base: Watch,
     pub(crate) first: u64,
     pub(crate) events: Vec<Event>,
     pub(crate) watch: Watch,
     pub(crate) seen: usize,
 }
+
+/// So many events at least are let go of at a time.
+const ENOUGH: usize = 1024;
 
 /// What comes of a step.
 #[derive(Clone, Copy)]
@@ -58,6 +62,7 @@ impl Course {
         let watch = base.copied()?;
         let events = Vec::new(alloc);
         Ok(Course {
+            alloc,
             base,
             first: 0,
             events,
@@ -81,6 +86,24 @@ impl Course {
         ensures longer { OnOk result (IsOneLonger self.old self.new) }
     {
         self.events.extend_from_slice(from_ref(event))?;
+        Ok(())
+    }
+
+    /// Lets go of the events that were seen, if there are enough, and no call is open behind them.
+    pub(crate) fn let_go(&mut self) -> Result<(), AllocError>
+        requires { IsOnCourse self.old }
+        ensures { OnOk result (HasLetGo self.old self.new) }
+    {
+        if self.seen < ENOUGH || !self.watch.is_idle() {
+            return Ok(());
+        }
+        let base = self.watch.copied()?;
+        let events = self.events.as_slice();
+        let rest = Vec::from_slice(self.alloc, &events[self.seen..])?;
+        self.base = base;
+        self.first += self.seen as u64;
+        self.events = rest;
+        self.seen = 0;
         Ok(())
     }
 

@@ -63,6 +63,7 @@ impl Judge {
         ensures given { IfOk result (λ _. IsGiven event.now self.old self.new) }
         ensures known { IfOk result (λ _. IsJudgeOfSome self.new) }
     {
+        self.course.let_go()?;
         self.course.add(event)?;
         self.busy = busy;
         let found = self.course.go_on(self.most)?;

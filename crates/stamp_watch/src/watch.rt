@@ -1,5 +1,5 @@
 //! An online judge of a lock's runs.
-ghost use Rattle.std.specs.Prelude.{◌≡◌, ◌<◌, IfOk, OnErr, List, [], ℕ, None};
+ghost use Rattle.std.specs.Prelude.{◌≡◌, ◌<◌, IfOk, OnErr, List, [], ℕ, None, IsTrue};
 ghost use Rattle.std.specs.List.{All};
 ghost use Rattle.stamp_core.specs.Word.{IsAdmitted, word_at};
 ghost use Rattle.stamp_watch.specs.declared.event.Event.{Event};
@@ -90,6 +90,13 @@ impl Watch {
             last: 0,
             positions,
         })
+    }
+
+    /// Whether it has no open call.
+    pub(crate) fn is_idle(&self) -> bool
+        ensures { IsTrue result → self.now.busy ≡ 0 }
+    {
+        self.busy == 0
     }
 
     /// The same watch, in memory of its own: a place from which a run can be judged once more.

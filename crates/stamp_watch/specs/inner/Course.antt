@@ -63,8 +63,12 @@ pub record HasRoom (course : Course) : Type 0 where
 
 -- it has one event more
 pub record IsOneLonger (old new : Course) : Type 0 where
-  pub first : new.first ≡ old.first
-  pub longer : length new.events.items ≡ length old.events.items + 1
+  pub longer : new.first + length new.events.items ≡ old.first + length old.events.items + 1
+
+-- it has let go of events, and is that of the same runs
+pub record HasLetGo (old new : Course) : Type 0 where
+  pub courses : (limits : Bounds) (run : List Event) → IsCourse limits run old → IsCourse limits run new
+  pub long : new.first + length new.events.items ≡ old.first + length old.events.items
 
 -- the same part of a run
 pub record IsSamePart (old new : Course) : Type 0 where

@@ -1,4 +1,4 @@
-use Rattle.std.proofs.Common.{List, ◌≡◌, ◌∷◌, ◌++◌, [], ◌∙◌, ap, length, length-append, refl}
+use Rattle.std.proofs.Common.{List, ◌≡◌, ◌∷◌, ◌++◌, [], ◌∙◌, ap, length, length-append, arith, ◌+◌}
 use Rattle.stamp_watch.specs.declared.event.Event.{Event}
 use Rattle.stamp_watch.proofs.Running.{run_added}
 use Rattle.stamp_watch.proofs.course.Course.add.Goals as goal
@@ -11,8 +11,10 @@ returns-clause-course c limits run is whole = run_added limits run c.args.self.n
 
 pub returns-clause-longer : goal.returns-clause-longer
 returns-clause-longer c = record {
-  first = refl;
-  longer = ap (λ (xs : List Event). length xs) (c.in_ok-extend_from_slice.ensures.items ∙
+  longer =
+      let long : length c.extend_from_slice.new.self.items ≡ length c.args.self.now.events.items + 1 =
+      ap (λ (xs : List Event). length xs) (c.in_ok-extend_from_slice.ensures.items ∙
       ap (λ (xs : List Event). c.args.self.now.events.items ++ xs) c.from_ref.ensures.value) ∙
-      length-append c.args.self.now.events.items (c.args.event.now ∷ []);
+      length-append c.args.self.now.events.items (c.args.event.now ∷ []) in
+      omega (arith, long);
 }

@@ -1,6 +1,15 @@
 use Rattle.std.proofs.Common.{refl, [], ◌∷◌, ◌++◌}
-use Rattle.stamp_watch.proofs.GoingOn.{found_then, judge_then, one_longer_room, then_of}
+use Rattle.stamp_watch.proofs.GoingOn.{found_then, judge_then, one_longer_room, then_of, way_of}
 use Rattle.stamp_watch.proofs.online.Judge.take.Goals as goal
+
+pub let_go-requires : goal.let_go-requires
+let_go-requires c =
+    let some = c.requires.some in
+    record {
+      limits = some.limits;
+      run = some.run;
+      course_of = (way_of some.limits some.most some.run c.args.self.now some.judge_of c.requires.none).course_of;
+    }
 
 pub go_on-requires-clause-on : goal.go_on-requires-clause-on
 go_on-requires-clause-on c =
@@ -9,18 +18,19 @@ go_on-requires-clause-on c =
       limits = known.limits;
       run = known.run ++ c.args.event.now ∷ [];
       course_of = then_of known.limits known.most known.run c.args.event.now c.args.self.now known.judge_of c.requires.none
-          c.args.busy c.requires.may c.requires.busy c.add.new.self c.in_ok-add.ensures.course;
+          c.args.busy c.requires.may c.requires.busy c.add.new.self (λ l r is whole. c.in_ok-add.ensures.course l r (c.in_ok-let_go.ensures.courses l r is) whole);
     }
 
 pub returns-clause-found : goal.returns-clause-found
 returns-clause-found c limits most run is = found_then limits most run c.args.event.now c.args.self.now is c.requires.none
-    c.args.busy c.requires.may c.requires.busy c.add.new.self c.in_ok-add.ensures.course c.go_on.new.self
+    c.args.busy c.requires.may c.requires.busy c.add.new.self (λ l r is whole. c.in_ok-add.ensures.course l r (c.in_ok-let_go.ensures.courses l r is) whole) c.go_on.new.self
     c.in_ok-found.found c.in_ok-found.ensures
 
 pub returns-clause-given : goal.returns-clause-given
 returns-clause-given c limits most run is = judge_then limits most run c.args.event.now c.args.self.now is c.requires.none
-    c.args.busy c.requires.may c.requires.busy c.add.new.self c.in_ok-add.ensures.course c.go_on.new.self _ refl refl refl
-    (one_longer_room c.args.self.now c.add.new.self c.requires.room c.in_ok-add.ensures.longer) c.in_ok-found.ensures
+    c.args.busy c.requires.may c.requires.busy c.add.new.self (λ l r is whole. c.in_ok-add.ensures.course l r (c.in_ok-let_go.ensures.courses l r is) whole) c.go_on.new.self _ refl refl refl
+    (one_longer_room c.args.self.now c.let_go.new.self c.add.new.self c.requires.room c.in_ok-let_go.ensures
+    c.in_ok-add.ensures.longer) c.in_ok-found.ensures
 
 pub returns-clause-known : goal.returns-clause-known
 returns-clause-known c =
