@@ -34,7 +34,7 @@ bit_as_well {h} {returns} {v} {w} {taken} one other past has k bit =
     let still : ¬ Contains (take w.past returns) next.index =
     subst (λ (n : ℕ). ¬ Contains (take n returns) next.index) past next.is.still in
     ap (λ (n : ℕ). bit_at w.threads n) (sym next.same) ∙ (taken_by_bit next.index next.entry other.in_effect
-        next.is.is_entry still (has next.index in_effect)).0
+    next.is.is_entry still (has next.index in_effect)).0
 
 one_bit : (a b : ℕ) → a < 2 → b < 2 → (a ≡ 1 → b ≡ 1) → (b ≡ 1 → a ≡ 1) → a ≡ b
 one_bit a b less also there back = grind arith

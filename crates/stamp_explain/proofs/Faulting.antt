@@ -171,8 +171,11 @@ module _ (h : ObservedHistory) (ends : List (ℕ × ℕ)) (are : AreReturnKeys h
 
   -- until the first return nothing is known, and after the last all is
   explained_at_first : 0 < length ends → IsExplained (cut (end_at ends 0).0 (end_at ends 0).1 h)
-  explained_at_first some = record { order = []; by = explained_by_none (cut (end_at ends 0).0 (end_at ends 0).1 h)
-      none }
+  explained_at_first some = record {
+    order = [];
+    by = explained_by_none (cut (end_at ends 0).0 (end_at ends 0).1 h)
+        none;
+  }
     where
       none : (i : ℕ) → ¬ IsReturnAt (cut_entries (end_at ends 0).0 (end_at ends 0).1 0 h.entries) i
       none i at =

@@ -168,7 +168,7 @@ ends_as_told hs end q n (x ∷ xs) effects = (
 
 pub all_made : (h : ObservedHistory) (calls : List OrderedCall) (end k : ℕ) (entries : List Entry) (q n : ℕ)
     (o : IsLinearizationOf h calls) → MakesEntries o.order end k entries q n → length calls ≤ k →
-        entries ≡ points_from end 0 0 o.order
+    entries ≡ points_from end 0 0 o.order
 all_made h calls end k entries q n o is over =
     let none : drop k o.order ≡ [] = drop_all k o.order (omega (
       arith,

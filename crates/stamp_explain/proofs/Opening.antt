@@ -172,7 +172,7 @@ module _ (h : ObservedHistory) (ends : List (ℕ × ℕ)) (are : AreReturnKeys h
             ];
             in_order = all_pairs_push (λ (i j : ℕ). ¬ StandsBefore (key_indices ends) j i) calls i was.in_order
                 (λ p d less. later (get_or calls p d) (was.each (get_or calls p d) (Contains-get_or calls p d
-                    less)).1);
+                less)).1);
           }
 
   -- the calls that have returned are seen in this order
@@ -284,8 +284,11 @@ module _ (h : ObservedHistory) (ends : List (ℕ × ℕ)) (are : AreReturnKeys h
   past_or_returned j = (λ has. inl (past_returned (length ends) j has), back)
     where
       back : HasReturnedOr h.entries 0 j → IsPast ends (length ends) j
-      back (inl at) = rw (take_all (length ends) (key_indices ends) (omega (arith, length-map ends (λ (p : ℕ ×
-          ℕ). p.1))))
+      back (inl at) = rw (take_all (length ends) (key_indices ends) (omega (
+        arith,
+        length-map ends (λ (p : ℕ ×
+            ℕ). p.1),
+      )))
           (contains_map (λ (p : ℕ × ℕ). p.1) ends (at.return.last, j) (are.whole j at))
       back (inr none) = absurd (omega arith)
 

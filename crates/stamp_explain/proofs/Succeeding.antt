@@ -110,8 +110,7 @@ first_at_once : {h : ObservedHistory} {asked : Option ℕ} {timeline : Timeline}
     StandsFor h timeline.returns.items node s taken → AreOpen h timeline.returns.items node.past calls →
     NoneOfFirst h asked timeline.returns.items node calls k → k < length calls → get_or calls k 0 ≡ x.index →
     IsAtOnce asked x → IsFirstAtOnce h asked timeline.returns.items a s taken x
-first_at_once {h} {asked} {timeline} {a} {s} {taken} {calls} {k} {x} is stands are before inside here at_once = record
-    {
+first_at_once {h} {asked} {timeline} {a} {s} {taken} {calls} {k} {x} is stands are before inside here at_once = record {
   at_once = at_once;
   first = λ y t too may. by y t too may (are.whole y.index (open_may is.at stands.in_effect may));
 }
@@ -217,9 +216,9 @@ pub leads_at_once : {h : ObservedHistory} {asked : Option ℕ} {timeline : Timel
     node w
 leads_at_once {h} {asked} {timeline} {node} {a} {calls} {k} {w} is bit are before inside unchanging other took =
     record {
-  inside = is.inside;
-  leads = λ s taken stands. by s taken stands (took.takes a s taken (awaited_at is) stands);
-}
+      inside = is.inside;
+      leads = λ s taken stands. by s taken stands (took.takes a s taken (awaited_at is) stands);
+    }
   where
     i : ℕ
     i = get_or calls k 0
@@ -275,11 +274,11 @@ pub expands_at_once : {h : ObservedHistory} {asked : Option ℕ} {timeline : Tim
     Expands h asked timeline.returns.items node replies (next ∷ [])
 expands_at_once {h} {asked} {timeline} {node} {replies} {calls} {k} w next may are before inside test takes to =
     record {
-  each = λ v has. subst (ComesNext h asked timeline.returns.items node) (only_one next v has)
-      (follows_of (leads_at_once here.awaits here.bit are before inside test.1 test.0 takes) to.passes to.took
-      to.settled);
-  whole = λ g aim. whole g (aim_alike asked replies aim) (aim_awaits replies may aim);
-}
+      each = λ v has. subst (ComesNext h asked timeline.returns.items node) (only_one next v has)
+          (follows_of (leads_at_once here.awaits here.bit are before inside test.1 test.0 takes) to.passes to.took
+          to.settled);
+      whole = λ g aim. whole g (aim_alike asked replies aim) (aim_awaits replies may aim);
+    }
   where
     here : AwaitsOne h timeline node
     here = awaits_here may
@@ -313,12 +312,12 @@ pub chooses_one : {h : ObservedHistory} {asked : Option ℕ} {timeline : Timelin
     Chooses h asked timeline.returns.items node calls (k + 1) (nexts ++ next ∷ [])
 chooses_one {h} {asked} {timeline} {node} {calls} {k} {nexts} {w} next may none are chooses more same choice to =
     record {
-  led = each_push (ComesNext h asked timeline.returns.items node) nexts next chooses.led
-      (follows_of (choice_leads here.awaits here.bit none are (ap (λ (n : ℕ). slice_get h.entries n) (sym same) ∙
-      here.awaits.at) choice) to.passes to.took to.settled);
-  tries = λ g alike still. tried_some w next (chooses.tries g alike still) more
-      (took_alike alike choice.other choice.took) (passes_alike alike to.passes);
-}
+      led = each_push (ComesNext h asked timeline.returns.items node) nexts next chooses.led
+          (follows_of (choice_leads here.awaits here.bit none are (ap (λ (n : ℕ). slice_get h.entries n) (sym same) ∙
+          here.awaits.at) choice) to.passes to.took to.settled);
+      tries = λ g alike still. tried_some w next (chooses.tries g alike still) more
+          (took_alike alike choice.other choice.took) (passes_alike alike to.passes);
+    }
   where
     i : ℕ
     i = get_or calls (length calls - 1 - k) 0

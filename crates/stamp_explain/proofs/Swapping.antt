@@ -135,7 +135,7 @@ module _ (limits : Bounds) where
           | inl same ↦ absurd (other_call entries i a at y (effects 0 y (omega arith)) other same)
           | inr later ↦
               let b = brings entries i a runs.0 rest at (All-tail (IsEffectOf entries) y rest effects) runs.1.1 later
-                  in
+              in
               let w = swaps s runs.0 b.state (b.effect.entry.call, b.effect.reply) (y.entry.call, y.reply)
               (λ e. other (e ∙ b.kind)) runs.1.0 b.goes in
               record {

@@ -62,8 +62,11 @@ pub next_call : (indices : List ℕ) (order : List OrderedCall) (k : ℕ) (t : O
     t ≡ get_or order k t → drop k (map (in_whole indices) order) ≡
     in_whole indices t ∷ drop (k + 1) (map (in_whole indices) order)
 next_call indices order k t lt read =
-    drop_more (map (in_whole indices) order) k (in_whole indices t) (omega (arith, length-map order (in_whole
-        indices))) ∙
+    drop_more (map (in_whole indices) order) k (in_whole indices t) (omega (
+      arith,
+      length-map order (in_whole
+          indices),
+    )) ∙
     ap (λ (c : OrderedCall). c ∷ drop (k + 1) (map (in_whole indices) order))
     (get_or-map (in_whole indices) order k t (in_whole indices t) lt ∙ ap (in_whole indices) (sym read))
 

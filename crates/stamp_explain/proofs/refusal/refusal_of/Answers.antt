@@ -29,7 +29,7 @@ narrower c = elim c.match-branch-2.branch [
       c.args.return_keys.now c.requires.keys c.args.most c.loop-low.unexplained c.loop-low.low c.loop-low.high
       c.place_between-place.result c.loop-low.stuck c.requires.observed c.loop-low.invariant
       c.place_between-place.ensures.from c.place_between-place.ensures.to (rw w.in-NoOrder.is at
-          c.in_ok-found_at.ensures))
+      c.in_ok-found_at.ensures))
   | in-GaveUp w ↦ rw (w.low-is, w.high-is, w.unexplained-is, w.stuck-is) (between_undecided c.args.observed.now
       c.args.return_keys.now c.requires.keys c.args.most c.loop-low.unexplained c.loop-low.low c.loop-low.high
       c.place_between-place.result c.loop-low.stuck c.loop-low.invariant c.place_between-place.ensures.from

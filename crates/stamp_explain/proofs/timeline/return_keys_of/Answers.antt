@@ -15,7 +15,7 @@ loop-i-preserved c =
       | in-Some+in_ok-push w ↦ rw (w.keys-is, w.in_ok-push.ensures.items) (listed_more es c.loop-i.i
           c.loop-i.keys.items
           (record { entry = e; return = w.in-Some.returned; is_entry = at; returned = w.in-Some.is })
-              c.loop-i.invariant)
+          c.loop-i.invariant)
       | in_default w ↦ rw w.keys-is (listed_same es c.loop-i.i c.loop-i.keys.items (λ there. cc) c.loop-i.invariant)
     ]
 
