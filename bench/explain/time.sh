@@ -20,7 +20,7 @@ done
 room=$(mktemp -d)
 trap 'rm -rf "$room"' EXIT
 c++ -std=c++17 -O2 -o "$room/explain" "$here/explain.cpp"
-javac -d "$room" "$top"/recorders/java/{ObservedStampedLock,ObservedRun}.java
+javac -d "$room" "$top"/recorders/java/*.java
 faulty='{"call":["optimistic"],"first":288230376151711743,"last":0,"reply":256,"thread":63}'
 for calls in 12500 50000 200000; do
     java -cp "$room" ObservedRun 16 "$calls" 1 > "$room/$calls.json"

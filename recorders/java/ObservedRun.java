@@ -2,16 +2,21 @@ import java.io.IOException;
 import java.io.OutputStreamWriter;
 import java.io.Writer;
 import java.nio.charset.StandardCharsets;
+import java.nio.file.Path;
 import java.util.Random;
 
 /**
  * Threads make random calls on an observed lock, and then the observed history is written to standard
- * output: {@code ObservedRun THREADS CALLS SEED}. All seventeen calls come up, each only as the
- * documentation of {@code StampedLock} allows it. The seed chooses the calls; how the threads meet differs
- * from run to run.
+ * output: {@code ObservedRun THREADS CALLS SEED}. With a further word {@code FILE} the calls are written to
+ * this file as a stream. All seventeen calls come up, each only as the documentation of {@code StampedLock}
+ * allows it. The seed chooses the calls; how the threads meet differs from run to run.
  */
 public final class ObservedRun {
-    private final ObservedStampedLock lock = new ObservedStampedLock();
+    private final ObservedStampedLock lock;
+
+    private ObservedRun(ObservedStampedLock lock) {
+        this.lock = lock;
+    }
 
     /** A thread that holds at most one mode at a time, and keeps its last optimistic stamp. */
     private final class Worker extends Thread {
@@ -123,7 +128,9 @@ public final class ObservedRun {
         int threads = Integer.parseInt(words[0]);
         int calls = Integer.parseInt(words[1]);
         long seed = Long.parseLong(words[2]);
-        ObservedRun run = new ObservedRun();
+        boolean isStreamed = words.length > 3;
+        ObservedRun run = new ObservedRun(
+                isStreamed ? new ObservedStampedLock(Path.of(words[3])) : new ObservedStampedLock());
         Worker[] workers = new Worker[threads];
         for (int i = 0; i < threads; i++) {
             workers[i] = run.new Worker(calls / threads, seed + i);
@@ -132,8 +139,11 @@ public final class ObservedRun {
         for (Worker worker : workers) {
             worker.join();
         }
-        try (Writer out = new OutputStreamWriter(System.out, StandardCharsets.US_ASCII)) {
-            run.lock.writeTo(out);
+        run.lock.close();
+        if (!isStreamed) {
+            try (Writer out = new OutputStreamWriter(System.out, StandardCharsets.US_ASCII)) {
+                run.lock.writeTo(out);
+            }
         }
     }
 }

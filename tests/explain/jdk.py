@@ -7,6 +7,7 @@ threads are observed, CALLS each (2,000 if not said). All must be explained, and
 what explains them, with as many entries as calls; it takes 16 MiB, 130,000 to 170,000 calls. So must a run of the
 program Accounts. Where the JDK's class differs from this lock, the smallest observed history that shows it must be
 stuck."""
+import glob
 import itertools
 import json
 import subprocess
@@ -76,8 +77,7 @@ def main():
     try_differences(explain, stamped)
     total = 0
     with tempfile.TemporaryDirectory() as classes:
-        subprocess.run(["javac", "-d", classes] + [f"{JAVA}/{name}.java" for name in
-                                                   ("ObservedStampedLock", "Accounts", "ObservedRun")], check=True)
+        subprocess.run(["javac", "-d", classes, *sorted(glob.glob(f"{JAVA}/*.java"))], check=True)
         total += try_run(explain, stamped, [classes, "Accounts", "100"])[0]
         for seed, threads in itertools.product(range(rounds), THREADS):
             calls, seconds = try_run(explain, stamped, [classes, "ObservedRun", str(threads), str(most), str(seed)])

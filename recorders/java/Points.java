@@ -1,0 +1,85 @@
+import java.io.IOException;
+import java.io.OutputStreamWriter;
+import java.io.Writer;
+import java.nio.charset.StandardCharsets;
+
+/**
+ * An example of guarded words: {@code Points ROUNDS [forgets]}. Two threads move a point, and two ask where it is.
+ * Then the observed history is written to standard output. Both coordinates are recorded as the words of calls
+ * {@code get} and {@code put}, so with {@code forgets}, where a read is not validated, some get has a reply that no
+ * order explains: the coordinates of two places.
+ */
+public final class Points {
+    private final ObservedStampedLock lock;
+    private final boolean forgets;
+    private long x;
+    private long y;
+
+    Points(ObservedStampedLock lock, boolean forgets) {
+        this.lock = lock;
+        this.forgets = forgets;
+    }
+
+    void move(long right, long up) {
+        long stamp = lock.writeLock();
+        try {
+            lock.put(() -> {
+                x += right;
+                lock.delay();
+                y += up;
+            }, x + right, y + up);
+        } finally {
+            lock.unlockWrite(stamp);
+        }
+    }
+
+    double distanceFromOrigin() {
+        long[] place = lock.get(this::read);
+        return Math.hypot(place[0], place[1]);
+    }
+
+    private long[] read() {
+        long stamp = lock.tryOptimisticRead();
+        long[] place = {x, 0};
+        lock.delay();
+        place[1] = y;
+        if (forgets && stamp != 0 || lock.validate(stamp)) {
+            return place;
+        }
+        stamp = lock.readLock();
+        try {
+            return new long[] {x, y};
+        } finally {
+            lock.unlockRead(stamp);
+        }
+    }
+
+    /** Lets four threads make so many calls each. */
+    void run(int rounds) throws InterruptedException {
+        Thread[] threads = new Thread[4];
+        for (int i = 0; i < threads.length; i++) {
+            boolean moves = i % 2 == 0;
+            threads[i] = new Thread(() -> {
+                for (int round = 0; round < rounds; round++) {
+                    if (moves) {
+                        move(1, 2);
+                    } else {
+                        distanceFromOrigin();
+                    }
+                }
+            });
+            threads[i].start();
+        }
+        for (Thread thread : threads) {
+            thread.join();
+        }
+    }
+
+    public static void main(String[] words) throws InterruptedException, IOException {
+        ObservedStampedLock lock = new ObservedStampedLock().withDelays(1);
+        new Points(lock, words.length > 1).run(Integer.parseInt(words[0]));
+        try (Writer out = new OutputStreamWriter(System.out, StandardCharsets.US_ASCII)) {
+            lock.writeTo(out);
+        }
+    }
+}

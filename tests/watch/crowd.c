@@ -1,0 +1,52 @@
+/* 80 threads wait for read mode of a lock that is held, more than the recorder has lanes. Two calls are withdrawn
+   meanwhile, as if they gave up. Then the lock is released, and all read. At the end one call is under way. The stream
+   goes to standard output. */
+#include "lock.h"
+#include "observed_lock.h"
+
+enum { THREADS = 80 };
+
+static struct lock lock = {{1, STAMPED_READERS_1, STAMPED_VERSIONS_1}, 0};
+static struct observed run;
+
+static uint64_t made(enum observed_call call, uint64_t stamp) {
+    int lane = observed_begin(&run, call, stamp);
+    uint64_t reply = call_lock(&lock, call + 1, stamp);
+    observed_return(&run, lane, call, reply);
+    return reply;
+}
+
+static void *read_once(void *unused) {
+    (void)unused;
+    if (!made(OBSERVED_UNLOCK_READ, made(OBSERVED_READ_LOCK, 0))) abort();
+    return NULL;
+}
+
+static void *wait_for_ever(void *unused) {
+    (void)unused;
+    made(OBSERVED_WRITE_LOCK, 0);
+    return NULL;
+}
+
+static void rest(long milliseconds) {
+    struct timespec time = {0, milliseconds * 1000000};
+    nanosleep(&time, NULL);
+}
+
+int main(void) {
+    pthread_t threads[THREADS], waiting;
+    atomic_init(&lock.word, stamped_opening(lock.limits.layout));
+    if (observed_start(&run, 1, 1, STAMPED_READERS_1, STAMPED_VERSIONS_1)) abort();
+    uint64_t stamp = made(OBSERVED_WRITE_LOCK, 0);
+    for (int i = 0; i < THREADS; i++) {
+        if (pthread_create(&threads[i], NULL, read_once, NULL)) abort();
+    }
+    rest(100);
+    for (int i = 0; i < 2; i++) observed_withdraw(&run, observed_begin(&run, OBSERVED_TRY_READ, 0));
+    if (!made(OBSERVED_UNLOCK_WRITE, stamp)) abort();
+    for (int i = 0; i < THREADS; i++) pthread_join(threads[i], NULL);
+    made(OBSERVED_WRITE_LOCK, 0);
+    if (pthread_create(&waiting, NULL, wait_for_ever, NULL)) abort();
+    rest(100);
+    return observed_stop(&run);
+}

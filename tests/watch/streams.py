@@ -1,0 +1,87 @@
+"""What the tests of streams share: the converters as programs, and the judge."""
+import contextlib
+import json
+import subprocess
+import sys
+import threading
+
+TO_HISTORY, TO_STREAM = ([sys.executable, "-B", f"recorders/{name}.py"] for name in
+                         ("stream_to_history", "history_to_stream"))
+HEADER, EVENT = 16, 16
+BEGINS, STAMP, YES, NO, DONE, MISMATCH, COUNT, WITHDRAWN = range(17), 32, 33, 34, 35, 36, 37, 48
+
+
+def fail(name, *told):
+    sys.exit(f"{name}: {', '.join(str(it)[:300] for it in told)}")
+
+
+def run(words, text=b""):
+    return subprocess.run(words, input=text, capture_output=True, timeout=60)
+
+
+@contextlib.contextmanager
+def started(words, **files):
+    """A process, which ends with the block, and is killed if it goes on for too long."""
+    with subprocess.Popen(words, **files) as process:
+        timer = threading.Timer(50, process.kill)
+        timer.start()
+        try:
+            yield process
+            process.wait()
+        finally:
+            process.kill()
+            timer.cancel()
+
+
+def history_of(name, stream):
+    made = run(TO_HISTORY, stream)
+    if made.returncode != 0:
+        fail(name, made.stderr)
+    return json.loads(made.stdout)
+
+
+def stream_of(name, history):
+    made = run(TO_STREAM, json.dumps(history).encode())
+    if made.returncode != 0:
+        fail(name, made.stderr)
+    return made.stdout
+
+
+def verdict(explain, history):
+    """`explained`, or what the program printed."""
+    try:
+        found = run([explain], json.dumps(history).encode())
+    except subprocess.TimeoutExpired:
+        return f"no answer on {len(history['entries'])} entries"
+    if found.returncode == 0 and found.stdout.startswith(b'{"entries":'):
+        return "explained"
+    return (found.stdout or found.stderr).decode().rstrip("\n")
+
+
+def must_be_explained(name, explain, stream):
+    """The stream's history, which must be explained."""
+    history = history_of(name, stream)
+    found = verdict(explain, history)
+    if found != "explained":
+        fail(name, found)
+    return history
+
+
+def kinds_of(stream):
+    return list(stream[HEADER::EVENT])
+
+
+def event_at(stream, number):
+    at = HEADER + EVENT * number
+    return stream[at], stream[at + 1], int.from_bytes(stream[at + 8:at + EVENT], "little")
+
+
+def with_event(stream, number, kind, lane, value):
+    """The stream with another event at this place."""
+    at = HEADER + EVENT * number
+    event = bytes([kind, lane, 0, 0, 0, 0, 0, 0]) + value.to_bytes(8, "little")
+    return stream[:at] + event + stream[at + EVENT:]
+
+
+def entry_that_returns_at(history, position):
+    return next(i for i, entry in enumerate(history["entries"]) if entry.get("last") == position)
