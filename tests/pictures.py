@@ -83,7 +83,7 @@ VERDICTS = {
     "fault_wait": "entry 1: the lock would have answered otherwise (it would wait here)",
 }
 TOO_MANY = history([at(n, 0, ["read_count"], {"count": 0}) for n in range(2001)])
-TOO_MANY_LINE = b"stamped: 2001 entries to draw, over 2000: give --from A --to B\n"
+TOO_MANY_LINE = b"stamped_picture: 2001 entries to draw, over 2000: give --from A --to B\n"
 LEGEND = ", begins  | goes on  * takes effect  ' ends; the faulty entry has ! and X"
 HEADING = "    at  thread: call = reply -> what the lock was then (v: its version)"
 TEXTS = {
@@ -151,6 +151,7 @@ BAD_WORDS = [
     ["--from", "4", "--to", "3"],
     ["--text", "--from", "1", "--to"],
     ["--text", "--from", "1", "--to", "2", "--width", "8"],
+    ["--help", "--text"],
 ]
 
 
@@ -250,8 +251,14 @@ def main():
         sys.exit("2000 entries of a window are not drawn")
     for words in BAD_WORDS:
         answer = ended(program, b"", words)
-        if answer != (2, b"", b"stamped: bad command line\n"):
+        if answer != (2, b"", b"stamped_picture: bad command line\n"):
             sys.exit(f"{words}: {answer}")
+    answer = ended(program, b"", [])
+    if answer != (1, b"", b"stamped_picture: no input\n"):
+        sys.exit(f"no input: {answer}")
+    told = ended(program, b"[", ["--help"])
+    if told[0] != 0 or told[2] or not told[1].startswith(b"stamped_picture [--text [--width N]] [--from A --to B]"):
+        sys.exit(f"--help: {told}")
 
 
 main()

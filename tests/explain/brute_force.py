@@ -7,7 +7,8 @@ so it is right; half of them are then changed in a reply, a position, a thread, 
 The verdict is the same: a history that can't be observed so (the first entry that is over before it
 began, or overlaps one of its thread that is listed before it), the first return at which no order explains
 it, or a recorded history, which is of this one and which `stamped check` accepts. Where one is stuck, the line on
-standard error tells of that entry just the replies with which an order explains what was known then. The
+standard error tells of that entry just the replies with which an order explains what was known then. With `--judge`
+and `--told` it is the same but for one that is explained: that is `ok N`, and its calls are counted here too. The
 model of the lock is the call table in python (bench/common)."""
 import json
 import random
@@ -22,6 +23,7 @@ import call_table  # noqa: E402 (a file of bench/common)
 BARE = [name for name in call_table.TABLE if name.startswith(("try_", "is_"))] + [
     "write_lock", "read_lock", "optimistic", "read_count"]
 STAMPED = [name for name in call_table.TABLE if name not in BARE]
+ATTEMPTS, CONVERSIONS = ("try_write", "try_read", "optimistic"), ("to_write", "to_read", "to_optimistic")
 MOST = 1_000_000
 
 
@@ -156,7 +158,7 @@ def is_noted(model, entries, i, line):
     """The line tells what the entry answered, and just its possible replies, each once."""
     entry, possible = entries[i], possible_replies(model, entries, i)
     call = " ".join(in_words(part) for part in entry["call"])
-    start = f"stamped: entry {i} of thread {entry['thread']}: {call} answered {in_words(entry['reply'])}; "
+    start = f"stamped_explain: entry {i} of thread {entry['thread']}: {call} answered {in_words(entry['reply'])}; "
     if not possible:
         return line == start + "no reply was possible, it would have waited\n"
     start += "possible: "
@@ -244,6 +246,27 @@ def is_of(found, entries):
     return not any(has_returned(entry) for entry in left)
 
 
+def tried_line(found):
+    """What is told of the calls of a recorded history. Two of them overlap if neither ended before the other began."""
+
+    def failed(names, reply):
+        return sum(entry["call"][0] in names and entry["reply"] == reply for entry in found)
+
+    met = sum(any(other is not entry and other["first"] <= entry["last"] and entry["first"] <= other["last"]
+                  for other in found) for entry in found)
+    return (f"stamped_explain: {met} of {len(found)} calls overlapped another; failed: attempts {failed(ATTEMPTS, 0)}, "
+            f"validations {failed(['validate'], 'no')}, conversions {failed(CONVERSIONS, 0)}\n")
+
+
+def is_judged_so(explain, text, answer):
+    """What is judged in the same process is answered alike, but for a history that is explained."""
+    status, line, note = answer
+    if status == 0:
+        found = json.loads(line)["entries"]
+        line, note = f"ok {len(found)}\n", tried_line(found)
+    return output_of([explain, "--most", str(MOST), "--judge", "--told"], text) == (status, line, note)
+
+
 def judge(explain, stamped, model, entries):
     """Compares the verdicts; returns which it was."""
     text = json.dumps({"entries": entries, "format": 1, "readers": model.limits[0],
@@ -259,7 +282,7 @@ def judge(explain, stamped, model, entries):
     else:
         kind, at = "stuck", stuck_at(model, entries)
         right = (status, line) == (1, f"stuck {at}\n") and is_noted(model, entries, at, note)
-    if not right or (kind != "stuck" and note):
+    if not right or (kind != "stuck" and note) or not is_judged_so(explain, text, (status, line, note)):
         sys.exit(f"{kind}, and not {line!r} with status {status} and {note!r}, of {text}")
     return kind
 

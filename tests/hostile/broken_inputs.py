@@ -243,10 +243,11 @@ class Program:
             _, out, err = answer
             if line is None:
                 stuck = re.fullmatch(rb"stuck (\d+)\n", out)
-                told = rb"stamped: entry %s of .*\n" % stuck[1] if stuck else b""
+                told = rb"stamped_explain: entry %s of .*\n" % stuck[1] if stuck else b""
                 right = out != b"" and re.fullmatch(told, err)
             else:
-                right = answer == (1, b"", f"stamped: {line}\n".encode())
+                told = "no input" if order is EXPLAIN and not data else line
+                right = answer == (1, b"", f"{os.path.basename(words[0])}: {told}\n".encode())
             if not right:
                 sys.exit(f"{order} of {data[:400]}: {answer}"[:2000] + f", and not {line}")
 

@@ -33,16 +33,23 @@ OBSERVED = OLD.replace(b'"point":1,', b"")
 FOUND = OLD.replace(b'"last":1,"point":1', b'"last":127,"point":0')
 UNSEEN = OBSERVED.replace(b'"first":0', b'"first":2')
 STUCK = OBSERVED.replace(b'"reply":384', b'"reply":385')
-STUCK_LINE = b"stamped: entry 0 of thread 0: try_write answered 385; possible: 384\n"
+STUCK_LINE = b"stamped_explain: entry 0 of thread 0: try_write answered 385; possible: 384\n"
+TRIED_LINE = (
+    b"stamped_explain: 0 of 1 calls overlapped another; failed: attempts 0, validations 0, conversions 0\n"
+)
 EXPLAIN_TABLE = [
     ([], OBSERVED, FOUND, 0, b""),
     (["--most", "9"], OBSERVED, FOUND, 0, b""),
     ([], UNSEEN, b"bad 0 interval", 1, b""),
     ([], STUCK, b"stuck 0", 1, STUCK_LINE),
+    (["--judge"], OBSERVED, b"ok 1", 0, b""),
+    (["--judge", "--told"], OBSERVED, b"ok 1", 0, TRIED_LINE),
 ]
-READ_FAULT = (1, b"", b"stamped: read fault\n")
-WRITE_FAULT = b"stamped: write fault\n"
 WHOLE = ["--from", "0", "--to", "9"]
+
+
+def fault_line(words, what):
+    return b"%s: %s fault\n" % (os.path.basename(words[0]).encode(), what)
 
 
 def assert_ended(words, answer, wanted, when):
@@ -55,7 +62,7 @@ def reads_of(runs, words, text, ample):
     reads = 0 if "stamp" in words[1:] else len(text) + 1
     for number in range(1, reads + 1):
         answer, _ = runs.ended(words, text, FAIL_READ=number)
-        assert_ended(words, answer, READ_FAULT, f"read {number} fails")
+        assert_ended(words, answer, (1, b"", fault_line(words, b"read")), f"read {number} fails")
     answer, _ = runs.ended(words, text, FAIL_READ=reads + 1)
     assert_ended(words, answer, ample, "no read fails")
     return reads
@@ -65,7 +72,7 @@ def writes_of(runs, words, text, ample):
     """Fails each write, one in each run, in both ways; returns how many there were."""
     line = ample[1]
     for number in range(1, len(line) + 1):
-        front = (1, line[: number - 1], WRITE_FAULT)
+        front = (1, line[: number - 1], fault_line(words, b"write"))
         for way in ["FAIL_WRITE", "FULL_WRITE"]:
             answer, _ = runs.ended(words, text, **{way: number})
             assert_ended(words, answer, front, f"{way} {number}")
@@ -81,6 +88,15 @@ def pictures_of(runs, picture):
         reads = reads_of(runs, [picture, *words], OLD, drawn)
         writes = writes_of(runs, [picture, *words], OLD, drawn)
         print(f"{['stamped_picture', *words]}: {reads} reads and {writes} writes failed, one in each run")
+
+
+def help_of(runs, program):
+    """What a program tells of itself, for which it reads nothing."""
+    words = [program, "--help"]
+    told, _ = runs.ended(words, OLD)
+    writes = writes_of(runs, words, OLD, told)
+    assert_ended(words, runs.ended(words, OLD, FAIL_READ=1)[0], told, "the first read fails")
+    print(f"{[os.path.basename(program), *words[1:]]}: {writes} writes failed, one in each run")
 
 
 def without_errors(explain):
@@ -101,6 +117,8 @@ def main():
         writes = writes_of(runs, words, text, ample)
         print(f"{[os.path.basename(words[0]), *words[1:]]}: {reads} reads and {writes} writes failed, one in each run")
     pictures_of(runs, picture)
+    for program in [explain, picture]:
+        help_of(runs, program)
     without_errors(explain)
     runs.tell()
 

@@ -53,14 +53,18 @@ OBSERVED = (
     b'{"call":["try_read"],"first":9,"thread":1}],'
     b'"format":1,"readers":1,"versions":1,"width":0}'
 )
-STUCK_LINE = b"stamped: entry 1 of thread 0: try_write answered 385; possible: 384\n"
+STUCK_LINE = b"stamped_explain: entry 1 of thread 0: try_write answered 385; possible: 384\n"
 OVERLAPPING = (OBSERVED % b"384").replace(b'"first":3', b'"first":2')
 FOUND = (
     b'{"entries":[{"call":["try_write"],"first":0,"last":191,"point":0,"reply":384,"thread":0},'
     b'{"call":["unlock",384],"first":192,"last":383,"point":192,"reply":"done","thread":0}],'
     b'"format":1,"readers":1,"versions":1,"width":0}\n'
 )
-BAD_LINE = (2, b"", b"stamped: bad command line\n")
+NO_INPUT = (1, b"", b"stamped_explain: no input\n")
+TRIED_LINE = (
+    b"stamped_explain: 0 of 2 calls overlapped another; failed: attempts 0, validations 0, conversions 0\n"
+)
+WORDS = [["--from", "2", "--to", "3"], ["--text", "--width", "40"]]
 REFUSALS = [
     "record",
     "long_record",
@@ -83,8 +87,16 @@ MOST = 10_000
 BAD_REPLY = (HISTORY % b"").replace(b'"done"', b'"yes"')
 
 
+def line_of(program, text):
+    return f"{os.path.basename(program)}: {text}\n".encode()
+
+
+def bad_line(program):
+    return 2, b"", line_of(program, "bad command line")
+
+
 def drawn(picture, text, status, *words):
-    """What the program draws with ample memory, which tests/pictures.py looks at."""
+    """What the program draws, or tells of itself, with ample memory; tests/pictures.py looks at pictures."""
     ran = subprocess.run([picture, *words], input=text, capture_output=True, timeout=60)
     return status, ran.stdout, b""
 
@@ -108,7 +120,7 @@ def runs_of(runs, words, text, wanted, refusals):
 def main():
     shim, stamped, explain, picture, trial = (os.path.abspath(path) for path in sys.argv[1:])
     runs = CountedRuns(shim)
-    told = [(1, b"", b"stamped: memory\n"), (1, b"", b"")]
+    told, untold, undrawn = ([(1, b"", line_of(it, "memory")), (1, b"", b"")] for it in (stamped, explain, picture))
     table = [
         ([stamped, "replay"], REPLAY, (0, REPLIES, b""), told),
         ([stamped, "replay"], WAITS, (1, b"", b"stamped: call 1 waits\n"), told),
@@ -123,26 +135,30 @@ def main():
         ([stamped, "run"], NO_THREAD, (1, b"", NO_THREAD_LINE), told),
         ([stamped, "stamp", "257"], b"", (0, b"read 0 1\n", b""), told),
         ([stamped, "stamp", "--layout", "2", "196608"], b"", (0, b"write 1\n", b""), told),
-        ([stamped, "lock"], b"", BAD_LINE, told),
-        ([stamped], b"", BAD_LINE, told),
-        ([stamped, b"\xff"], b"", BAD_LINE, told),
+        ([stamped, "lock"], b"", bad_line(stamped), told),
+        ([stamped], b"", bad_line(stamped), told),
+        ([stamped, b"\xff"], b"", bad_line(stamped), told),
     ]
     table += [
-        ([explain], OBSERVED % b"384", (0, FOUND, b""), told),
-        ([explain, "--most", "100"], OBSERVED % b"385", (1, b"stuck 1\n", STUCK_LINE), [*told, (1, b"stuck 1\n", b"")]),
-        ([explain, "--most", "1"], OBSERVED % b"384", (1, b"undecided 0\n", b""), told),
-        ([explain], OVERLAPPING, (1, b"bad 1 overlap\n", b""), told),
-        ([explain], NO_THREAD, (1, b"", NO_HISTORY_LINE), told),
-        ([explain, "--most"], b"", BAD_LINE, told),
-        ([explain, "--most", "-1"], b"", BAD_LINE, told),
-        ([explain, b"\xff"], b"", BAD_LINE, told),
-        ([picture], HISTORY % b"", drawn(picture, HISTORY % b"", 0), told),
-        ([picture, "--from", "2", "--to", "3"], BAD_REPLY, drawn(picture, BAD_REPLY, 1, "--from", "2", "--to", "3"), told),
-        ([picture, "--text", "--width", "40"], BAD_REPLY, drawn(picture, BAD_REPLY, 1, "--text", "--width", "40"), told),
-        ([picture], NO_THREAD, (1, b"", NO_HISTORY_LINE), told),
-        ([picture], b"[", (1, b"", b"stamped: not json\n"), told),
-        ([picture, "--from", "2"], b"", BAD_LINE, told),
-        ([picture, "--text", "--width", "0"], b"", BAD_LINE, told),
+        ([explain], OBSERVED % b"384", (0, FOUND, b""), untold),
+        ([explain, "--most", "9"], OBSERVED % b"385", (1, b"stuck 1\n", STUCK_LINE), [*untold, (1, b"stuck 1\n", b"")]),
+        ([explain, "--most", "1"], OBSERVED % b"384", (1, b"undecided 0\n", b""), untold),
+        ([explain], OVERLAPPING, (1, b"bad 1 overlap\n", b""), untold),
+        ([explain], NO_THREAD, (1, b"", b"stamped_explain: not a history: top\n"), untold),
+        ([explain, "--judge"], OBSERVED % b"384", (0, b"ok 2\n", b""), untold),
+        ([explain, "--told", "--most", "9"], OBSERVED % b"384", (0, FOUND, TRIED_LINE), [*untold, (0, FOUND, b"")]),
+        ([explain, "--judge"], b"", NO_INPUT, untold),
+        ([explain, "--help"], b"", drawn(explain, b"", 0, "--help"), untold),
+        ([explain, "--most"], b"", bad_line(explain), untold),
+        ([explain, "--most", "-1"], b"", bad_line(explain), untold),
+        ([explain, b"\xff"], b"", bad_line(explain), untold),
+        ([picture], HISTORY % b"", drawn(picture, HISTORY % b"", 0), undrawn),
+        *(([picture, *words], BAD_REPLY, drawn(picture, BAD_REPLY, 1, *words), undrawn) for words in WORDS),
+        ([picture], NO_THREAD, (1, b"", b"stamped_picture: not a history: top\n"), undrawn),
+        ([picture], b"[", (1, b"", b"stamped_picture: not json\n"), undrawn),
+        ([picture, "--help"], b"", drawn(picture, b"", 0, "--help"), undrawn),
+        ([picture, "--from", "2"], b"", bad_line(picture), undrawn),
+        ([picture, "--text", "--width", "0"], b"", bad_line(picture), undrawn),
     ]
     right = b"", (0, b"right\n", b""), [(1, b"", b"")]
     table += [([trial, word], *right) for word in [*REFUSALS, "make", "check", "migrate"]]

@@ -214,7 +214,7 @@ def try_junit(java):
     wants("junit", made.stdout == b"everyPlaceWasThere passed\n", made.stdout, made.stderr)
     made = run(java.words("RunTests", "PointsTest", flags=(*flags, "-Dpoints.forget=true")))
     told = re.fullmatch(r"everyPlaceWasThere failed: java\.lang\.AssertionError: stuck \d+\n"
-                        r"stamped: entry \d+ of thread \d+: get answered \[.*\]; possible: \[.*\]\n"
+                        r"stamped_explain: entry \d+ of thread \d+: get answered \[.*\]; possible: \[.*\]\n"
                         r"The history is in (.*)\n", made.stdout.decode())
     wants("junit", told, made.stdout, made.stderr)
     with open(told[1], encoding="ascii") as file:

@@ -21,19 +21,27 @@ script_error_text TooManySteps = codes "too many steps"
 script_error_text (NoSuchThread i) = codes "no thread at step " ++ decimal i
 script_error_text RecordWidth = codes "record width"
 
+-- what is wrong, without the name of the program that says it
 abbrev pub read_error_text : ReadError → List ℕ
-read_error_text read.NotJson = codes "stamped: not json"
-read_error_text (read.NotHistory field) = codes "stamped: not a history: " ++ field_text field
-read_error_text (read.Limit field) = codes "stamped: over a limit: " ++ field_text field
-read_error_text read.Memory = codes "stamped: memory"
-read_error_text (read.NotScript field) = codes "stamped: not a script: " ++ field_text field
-read_error_text (read.BadScript e) = codes "stamped: script refused: " ++ script_error_text e
+read_error_text read.NotJson = codes "not json"
+read_error_text (read.NotHistory field) = codes "not a history: " ++ field_text field
+read_error_text (read.Limit field) = codes "over a limit: " ++ field_text field
+read_error_text read.Memory = codes "memory"
+read_error_text (read.NotScript field) = codes "not a script: " ++ field_text field
+read_error_text (read.BadScript e) = codes "script refused: " ++ script_error_text e
+
+abbrev pub cause_text : ServeFault → List ℕ
+cause_text ReadFault = codes "read fault"
+cause_text TooLong = codes "input over 16777216 bytes"
+cause_text (Refused e) = read_error_text e
+cause_text (Waits i) = codes "call " ++ decimal i ++ codes " waits"
+cause_text Memory = codes "memory"
+cause_text WriteFault = codes "write fault"
+cause_text (BadReply i) = codes "bad reply at entry " ++ decimal i
+
+-- the line of the program of this name
+abbrev pub named_fault_text : List ℕ → ServeFault → List ℕ
+named_fault_text name fault = name ++ codes ": " ++ cause_text fault
 
 abbrev pub fault_text : ServeFault → List ℕ
-fault_text ReadFault = codes "stamped: read fault"
-fault_text TooLong = codes "stamped: input over 16777216 bytes"
-fault_text (Refused e) = read_error_text e
-fault_text (Waits i) = codes "stamped: call " ++ decimal i ++ codes " waits"
-fault_text Memory = codes "stamped: memory"
-fault_text WriteFault = codes "stamped: write fault"
-fault_text (BadReply i) = codes "stamped: bad reply at entry " ++ decimal i
+fault_text fault = named_fault_text (codes "stamped") fault

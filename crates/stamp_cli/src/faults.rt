@@ -3,7 +3,8 @@
 ghost use Rattle.std.specs.Prelude.{◌≡◌, Some, IfOk, IsOkUnless, string_bytes};
 ghost use Rattle.stamp_cli.specs.declared.faults.ServeFault.TheVariants.{Memory};
 ghost use Rattle.stamp_cli.specs.Refusal.{refusal, unanswered};
-ghost use Rattle.stamp_cli.specs.FaultText.{script_error_text, read_error_text, fault_text};
+ghost use Rattle.stamp_cli.specs.FaultText.{script_error_text, read_error_text, cause_text};
+ghost use Rattle.stamp_cli.specs.FaultText.{named_fault_text, fault_text};
 
 use stamp_history::{AnswerError, ReadError};
 use stamp_machines::ScriptError;
@@ -94,45 +95,55 @@ impl fmt::Display for ScriptErrorText {
     }
 }
 
-/// The line of a refused input.
+/// Why an input is refused.
 #[derive(Drop)]
-struct ReadErrorLine(ReadError);
+struct ReadErrorText(ReadError);
 
-impl fmt::Display for ReadErrorLine {
-    ghost output = { λ line. Some (read_error_text line.0) };
+impl fmt::Display for ReadErrorText {
+    ghost output = { λ text. Some (read_error_text text.0) };
 
     fn fmt<W: fmt::Write>(&self, f: &mut fmt::Formatter<W>) -> fmt::Result {
         match self.0 {
-            ReadError::NotJson => write!(f, "stamped: not json"),
-            ReadError::NotHistory(field) => write!(f, "stamped: not a history: {field}"),
-            ReadError::Limit(field) => write!(f, "stamped: over a limit: {field}"),
-            ReadError::Memory => write!(f, "stamped: memory"),
-            ReadError::NotScript(field) => write!(f, "stamped: not a script: {field}"),
+            ReadError::NotJson => write!(f, "not json"),
+            ReadError::NotHistory(field) => write!(f, "not a history: {field}"),
+            ReadError::Limit(field) => write!(f, "over a limit: {field}"),
+            ReadError::Memory => write!(f, "memory"),
+            ReadError::NotScript(field) => write!(f, "not a script: {field}"),
             ReadError::BadScript(error) => {
-                write!(f, "stamped: script refused: {}", ScriptErrorText(error))
+                write!(f, "script refused: {}", ScriptErrorText(error))
             }
         }
     }
 }
 
-/// The line of a fault.
+/// What a fault is, as the end of its line.
 #[derive(Drop)]
-struct FaultLine(ServeFault);
+struct CauseText(ServeFault);
 
-impl fmt::Display for FaultLine {
-    ghost output = { λ line. Some (fault_text line.0) };
+impl fmt::Display for CauseText {
+    ghost output = { λ text. Some (cause_text text.0) };
 
     fn fmt<W: fmt::Write>(&self, f: &mut fmt::Formatter<W>) -> fmt::Result {
         match self.0 {
-            ServeFault::ReadFault => write!(f, "stamped: read fault"),
-            ServeFault::TooLong => write!(f, "stamped: input over 16777216 bytes"),
-            ServeFault::Refused(error) => write!(f, "{}", ReadErrorLine(error)),
-            ServeFault::Waits(call) => write!(f, "stamped: call {call} waits"),
-            ServeFault::Memory => write!(f, "stamped: memory"),
-            ServeFault::WriteFault => write!(f, "stamped: write fault"),
-            ServeFault::BadReply(entry) => write!(f, "stamped: bad reply at entry {entry}"),
+            ServeFault::ReadFault => write!(f, "read fault"),
+            ServeFault::TooLong => write!(f, "input over 16777216 bytes"),
+            ServeFault::Refused(error) => write!(f, "{}", ReadErrorText(error)),
+            ServeFault::Waits(call) => write!(f, "call {call} waits"),
+            ServeFault::Memory => write!(f, "memory"),
+            ServeFault::WriteFault => write!(f, "write fault"),
+            ServeFault::BadReply(entry) => write!(f, "bad reply at entry {entry}"),
         }
     }
+}
+
+/// The fault's line for standard error, as the program of this name writes it, without its line feed.
+/// It refuses only for want of memory.
+pub fn named_fault_line(alloc: Global, name: &str, fault: &ServeFault) -> Result<String, ServeFault>
+    ensures text { IfOk result (λ line. string_bytes line ≡ named_fault_text name.now fault.now) }
+    ensures refused { IsOkUnless result ServeFault.Memory }
+{
+    let cause = CauseText(*fault);
+    Ok(format!(in alloc; "{name}: {cause}")?)
 }
 
 /// The fault's line for standard error, without its line feed. It refuses only for want of memory.
@@ -140,5 +151,5 @@ pub fn fault_line(alloc: Global, fault: &ServeFault) -> Result<String, ServeFaul
     ensures text { IfOk result (λ line. string_bytes line ≡ fault_text fault.now) }
     ensures refused { IsOkUnless result ServeFault.Memory }
 {
-    Ok(FaultLine(*fault).to_string(alloc)?)
+    named_fault_line(alloc, "stamped", fault)
 }

@@ -24,12 +24,12 @@ mod sources;
 mod stamp_text;
 
 pub use answer::within;
-pub use faults::{ServeFault, fault_line};
+pub use faults::{ServeFault, fault_line, named_fault_line};
 pub use input::{MOST_BYTES, read_input};
 pub use line::{Line, Verdict, accepted, rejected};
 pub use orders::{CommandFault, Order, number_in, order_of};
 pub use output::write_text;
-pub use serving::serve;
+pub use serving::{serve, serve_help};
 pub use shell::{Answered, Ending, Program, ending_of, run, status_after};
 pub use sinks::{Sink, WriteSink};
 pub use sources::{ReadSource, Source};

@@ -1,6 +1,10 @@
 //! A command from the bytes that come in to the line that goes out.
 
-ghost use Rattle.stamp_cli.specs.Results.{taken_since};
+ghost use Rattle.std.specs.Prelude.{◌≡◌, length, IfOk, IfErr, OnOk, OnErr, is_err};
+ghost use Rattle.std.specs.Io.KnownBytes.{Appends};
+ghost use Rattle.stamp_cli.specs.Results.{Makes, any_since, taken_since};
+ghost use Rattle.stamp_cli.specs.Sink.{AppendsFront};
+ghost use Rattle.stamp_cli.specs.TakesNone.{takes_none};
 ghost use Rattle.stamp_cli.specs.Serving.{HasRead, HasWritten, WritesAnswer, RefusesAsDue, WritesFront};
 ghost use Rattle.stamp_cli.specs.Answer.{AnswersSource, IsVerdictOf, most_reads_of, most_taken_of, with_line_feed};
 
@@ -55,4 +59,19 @@ pub fn serve<S: Source, K: Sink>(
     text.push(b'\n')?;
     write_text(sink, &text)?;
     Ok(verdict)
+}
+
+/// Answers a command that asks how the program is called: writes this text and nothing else, whatever
+/// is left to be read, and accepts. Exactly where a write does or takes no byte it refuses, as 6
+/// `WriteFault`, and a front of the text is out, not all.
+pub fn serve_help<K: Sink>(help: &str, sink: &mut K) -> Result<Verdict, ServeFault>
+    ensures ok { OnOk result (Appends (K.sent sink.old) (K.sent sink.new) help.now) }
+    ensures whole { OnOk result (Makes (K.writes sink.old) (K.writes sink.new) (length help.now)) }
+    ensures verdict { IfOk result (λ verdict. verdict ≡ Verdict.Accepted) }
+    ensures front { OnErr result (AppendsFront (K.sent sink.old) (K.sent sink.new) help.now) }
+    ensures err { IfErr result (λ e. e ≡ ServeFault.WriteFault) }
+    ensures failed { any_since takes_none (K.writes sink.old) (K.writes sink.new) ≡ is_err result }
+{
+    write_text(sink, help.as_bytes())?;
+    Ok(Verdict::Accepted)
 }

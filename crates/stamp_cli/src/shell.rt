@@ -64,6 +64,9 @@ pub trait Program {
             (record { left = S.left source.new; reads = S.reads source.new; sent = K.sent sink.new; writes = K.writes sink.new })
             result };
 
+    /// The line that tells of arguments that give no order, without its line feed.
+    fn bad_command_line() -> &'static str;
+
     /// The line that tells of a fault, without its line feed, if there is memory for it.
     fn fault_line(alloc: Global, fault: &Self::Fault) -> Option<String>;
 }
@@ -152,7 +155,7 @@ pub fn run<P: Program, R: Env + Input + Print + Eprint + AllocGlobal>(rt: &R) ->
     let status = status_after(&ending);
     match ending {
         Ending::BadCommandLine => {
-            let _ = rt.eprintln("stamped: bad command line");
+            let _ = rt.eprintln(P::bad_command_line());
         }
         Ending::Answered(answered) => tell(rt, answered.note),
         Ending::Refused(fault) => tell(rt, P::fault_line(rt.alloc(), &fault)),

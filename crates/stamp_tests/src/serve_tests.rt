@@ -1,5 +1,6 @@
 use stamp_cli::{
-    CommandFault, Order, ReadSource, ServeFault, Verdict, WriteSink, fault_line, order_of, serve,
+    CommandFault, Order, ReadSource, ServeFault, Verdict, WriteSink, fault_line, named_fault_line,
+    order_of, serve, serve_help,
 };
 use stamp_core::Layout;
 use stamp_history::{Field, ReadError};
@@ -281,5 +282,21 @@ fn a_fault_has_its_line(rt: HostRuntime) -> Result<(), Fail> {
     for (fault, want) in table {
         assert!(rt; fault_line(rt.alloc(), &fault)?.as_str() == want);
     }
+    Ok(())
+}
+
+#[test]
+fn a_program_tells_a_fault_by_its_name(rt: HostRuntime) -> Result<(), Fail> {
+    let line = named_fault_line(rt.alloc(), "lock", &ServeFault::Waits(3))?;
+    assert!(rt; line.as_str() == "lock: call 3 waits");
+    Ok(())
+}
+
+#[test]
+fn a_help_is_written_whole(rt: HostRuntime) -> Result<(), Fail> {
+    let mut sink = WriteSink::new(Vec::new(rt.alloc()));
+    let told = serve_help("one\ntwo\n", &mut sink);
+    assert!(rt; told == Ok(Verdict::Accepted));
+    assert!(rt; String::from_utf8(sink.into_inner())?.as_str() == "one\ntwo\n");
     Ok(())
 }

@@ -43,6 +43,10 @@ impl Program for Stamped {
         })
     }
 
+    fn bad_command_line() -> &'static str {
+        "stamped: bad command line"
+    }
+
     fn fault_line(alloc: Global, fault: &ServeFault) -> Option<String> {
         fault_line(alloc, fault).ok()
     }

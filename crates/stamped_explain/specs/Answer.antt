@@ -1,5 +1,5 @@
 -- The line that answers an observed history, with the note beside it, or why there is none.
-use Rattle.std.specs.Prelude.{◌≡◌, ℕ, List, Option, Result, Ok, Err, String}
+use Rattle.std.specs.Prelude.{◌≡◌, ◌≢◌, ℕ, List, [], Option, Result, Ok, Err, String}
 use Rattle.std.specs.declared.alloc.AllocError.{AllocError}
 use Rattle.std.specs.declared.alloc.Global.{Global}
 use Rattle.stamp_cli.specs.Answer.{LineView, IsInputAnswer, AnswersRead, line_in, with_line_feed}
@@ -9,6 +9,9 @@ use Rattle.stamp_cli.specs.declared.faults.ServeFault.{ServeFault}
 use Rattle.stamp_explain.specs.Observed.{ObservedHistory}
 use Rattle.stamp_history.specs.declared.read_error.ReadError.{ReadError}
 use Rattle.stamp_observed.specs.ObservedReading.{observed_of}
+use Rattle.stamped_explain.specs.declared.orders.Explaining.{Explaining}
+use Rattle.stamped_explain.specs.declared.faults.ExplainFault.{ExplainFault}
+use Rattle.stamped_explain.specs.declared.faults.ExplainFault.TheVariants.{Serve, NoInput}
 use Rattle.stamped_explain.specs.declared.finding.Finding.{Finding}
 use Rattle.stamped_explain.specs.Finding.{IsFinding}
 use Rattle.stamped_explain.specs.FindingText.{finding_text, finding_verdict}
@@ -32,24 +35,31 @@ abbrev pub AreVerdictAndNoteOf : LineAndNoteView → VerdictAndNote → Type 0
 AreVerdictAndNoteOf answer told = (told.verdict ≡ answer.line.verdict) × (told.note ≡ answer.note)
 
 -- this is found of an observed history, the line says it, and this is the note
-pub record SaysWhatIsFound (h : ObservedHistory) (most : ℕ) (answer : LineAndNoteView) : Type 0 where
+pub record SaysWhatIsFound (h : ObservedHistory) (asked : Explaining) (answer : LineAndNoteView) : Type 0 where
   pub found : Finding
-  pub is : IsFinding h most found
-  pub says : answer.line.text ≡ finding_text found
+  pub is : IsFinding h asked.most found
+  pub says : answer.line.text ≡ finding_text asked.form found
   pub verdict : answer.line.verdict ≡ finding_verdict found
-  pub note : IsNote h most found answer.note
+  pub note : IsNote h asked found answer.note
 
 -- the answer to what an input reads as
-abbrev pub IsExplainAnswer : ℕ → Result ObservedHistory ReadError → Result LineAndNoteView ServeFault → Type 0
-IsExplainAnswer most (Ok h) (Ok answer) = SaysWhatIsFound h most answer
-IsExplainAnswer most (Ok h) (Err fault) = ⊥
-IsExplainAnswer most (Err e) answer = answer ≡ Err (refusal e)
+abbrev pub IsExplainAnswer : Explaining → Result ObservedHistory ReadError → Result LineAndNoteView ServeFault →
+    Type 0
+IsExplainAnswer asked (Ok h) (Ok answer) = SaysWhatIsFound h asked answer
+IsExplainAnswer asked (Ok h) (Err fault) = ⊥
+IsExplainAnswer asked (Err e) answer = answer ≡ Err (refusal e)
 
 -- without the line feed
-abbrev pub AnswersExplain : ℕ → List ℕ → Result LineAndNoteView ServeFault → Type 0
-AnswersExplain most input answer = IsExplainAnswer most (observed_of input) answer
+abbrev pub AnswersExplain : Explaining → List ℕ → Result LineAndNoteView ServeFault → Type 0
+AnswersExplain asked input answer = IsExplainAnswer asked (observed_of input) answer
+
+-- the answer to an input, or that there was none
+abbrev pub AnswersInput : Explaining → List ℕ → Result LineAndNoteView ExplainFault → Type 0
+AnswersInput asked input (Ok answer) = (input ≢ []) × IsInputAnswer (AnswersExplain asked) input (Ok answer)
+AnswersInput asked input (Err (Serve fault)) = (input ≢ []) × IsInputAnswer (AnswersExplain asked) input (Err fault)
+AnswersInput asked input (Err NoInput) = input ≡ []
 
 -- a source was read as input, and this is the answer
-abbrev pub AnswersSource : ℕ → Option (List ℕ) → Option (List ℕ) → ℕ → Result LineAndNoteView ServeFault → Type 0
-AnswersSource most old new taken answer =
-    AnswersRead (Reads old new) (IsInputAnswer (AnswersExplain most)) taken answer
+abbrev pub AnswersSource : Explaining → Option (List ℕ) → Option (List ℕ) → ℕ → Result LineAndNoteView ExplainFault →
+    Type 0
+AnswersSource asked old new taken answer = AnswersRead (Reads old new) (AnswersInput asked) taken answer

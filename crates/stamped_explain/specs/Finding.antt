@@ -1,5 +1,6 @@
 -- What is found of an observed history.
 use Rattle.std.specs.Prelude.{ℕ}
+use Rattle.stamp_core.specs.Linearized.{IsLinearized}
 use Rattle.stamp_explain.specs.Cut.{IsStuck}
 use Rattle.stamp_explain.specs.Observed.{ObservedHistory, IsObserved}
 use Rattle.stamp_explain.specs.Points.{HasPoints}
@@ -17,3 +18,8 @@ IsFinding h most (Explained made) = IsObserved h × HasPoints h made
 IsFinding h most (Stuck i) = IsObserved h × IsStuck h i
 IsFinding h most (Unexplained i) = IsObserved h × IsUnexplained h most i
 IsFinding h most (Undecided i) = IsObserved h × IsUndecided h most i
+
+-- the recorded history that was found, if one was, is linearized by its points
+abbrev pub IsLinearizedIfMade : Finding → Type 0
+IsLinearizedIfMade (Explained made) = IsLinearized made
+IsLinearizedIfMade found = Unit {0}

@@ -1,6 +1,9 @@
 pub mod Order
+pub mod FaultText
 pub mod Finding
 pub mod FindingText
+pub mod Trials
 pub mod Note
 pub mod Answer
+pub mod Served
 pub mod inner

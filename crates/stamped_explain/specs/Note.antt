@@ -1,4 +1,4 @@
--- The note of a history that no order explains.
+-- The note of what is found of an observed history.
 use Rattle.std.specs.Prelude.{ℕ, ◌≡◌, ◌++◌, List, [], ◌∷◌, Option, Some, None, Result, Ok, Err, String}
 use Rattle.std.specs.Prelude.{codes, decimal, string_bytes}
 use Rattle.std.specs.List.{flat_map}
@@ -6,12 +6,17 @@ use Rattle.std.specs.declared.alloc.AllocError.{AllocError}
 use Rattle.std.specs.declared.alloc.Global.{Global}
 use Rattle.stamp_core.specs.declared.call.Call.{Call}
 use Rattle.stamp_core.specs.declared.reply.Reply.{Reply}
+use Rattle.stamp_core.specs.Record.{Recorded}
 use Rattle.stamp_core.specs.Texts.{call_text, reply_text}
 use Rattle.stamp_explain.specs.declared.observed.Observation.{Observation}
 use Rattle.stamp_explain.specs.Observed.{ObservedHistory, IsReturnAt}
 use Rattle.stamp_explain.specs.Possible.{AreAllPossible, IsUndecidedAtAny}
 use Rattle.stamped_explain.specs.declared.finding.Finding.{Finding}
-use Rattle.stamped_explain.specs.declared.finding.Finding.TheVariants.{Stuck, Unexplained}
+use Rattle.stamped_explain.specs.declared.finding.Finding.TheVariants.{Explained, Stuck, Unexplained}
+use Rattle.stamped_explain.specs.declared.orders.Explaining.{Explaining}
+use Rattle.stamped_explain.specs.declared.orders.Told as orders
+use Rattle.stamped_explain.specs.declared.orders.Told.TheVariants.{Nothing, Trials}
+use Rattle.stamped_explain.specs.Trials.{trials_text}
 
 -- all the replies that the call of this entry could have had; or that is undecided
 abbrev pub ArePossibleAt : ObservedHistory → ℕ → ℕ → Option (List Reply) → Type 0
@@ -30,7 +35,7 @@ possible_text None = codes "; what was possible is undecided"
 possible_text (Some replies) = replies_text replies
 
 abbrev pub entry_text : ℕ → ℕ → List ℕ
-entry_text i thread = codes "stamped: entry " ++ (decimal i ++ (codes " of thread " ++ decimal thread))
+entry_text i thread = codes "stamped_explain: entry " ++ (decimal i ++ (codes " of thread " ++ decimal thread))
 
 abbrev pub answer_text : Call → Reply → List ℕ
 answer_text call reply = codes ": " ++ (call_text call ++ (codes " answered " ++ reply_text reply))
@@ -47,14 +52,24 @@ pub record IsStuckNote (h : ObservedHistory) (most i : ℕ) (text : List ℕ) : 
 
 -- the note where it is undecided from which return on
 abbrev pub unexplained_text : List ℕ
-unexplained_text = codes "stamped: no order explains the history; from which return on is undecided"
+unexplained_text = codes "stamped_explain: no order explains the history; from which return on is undecided"
 
--- the note of what was found: none, unless no order explains it; or memory was refused
-abbrev pub IsNote : ObservedHistory → ℕ → Finding → Result (Option (String Global)) AllocError → Type 0
-IsNote h most (Stuck i) (Ok (Some text)) = IsStuckNote h most i (string_bytes text)
-IsNote h most (Stuck i) (Ok None) = ⊥
-IsNote h most (Unexplained i) (Ok (Some text)) = string_bytes text ≡ unexplained_text
-IsNote h most (Unexplained i) (Ok None) = ⊥
-IsNote h most found (Ok (Some text)) = ⊥
-IsNote h most found (Ok None) = Unit {0}
-IsNote h most found (Err e) = Unit {0}
+-- the note of a recorded history that was found: what its calls tried, if that is to be told; or memory was refused
+abbrev pub IsToldNote : orders.Told → Recorded → Result (Option (String Global)) AllocError → Type 0
+IsToldNote Nothing made (Ok (Some text)) = ⊥
+IsToldNote Nothing made (Ok None) = Unit {0}
+IsToldNote Trials made (Ok (Some text)) = string_bytes text ≡ trials_text made.entries
+IsToldNote Trials made (Ok None) = ⊥
+IsToldNote told made (Err e) = Unit {0}
+
+-- the note of what was found: of a history that no order explains why, of one that is explained what is to be told,
+-- and else none; or memory was refused
+abbrev pub IsNote : ObservedHistory → Explaining → Finding → Result (Option (String Global)) AllocError → Type 0
+IsNote h asked (Explained made) note = IsToldNote asked.told made note
+IsNote h asked (Stuck i) (Ok (Some text)) = IsStuckNote h asked.most i (string_bytes text)
+IsNote h asked (Stuck i) (Ok None) = ⊥
+IsNote h asked (Unexplained i) (Ok (Some text)) = string_bytes text ≡ unexplained_text
+IsNote h asked (Unexplained i) (Ok None) = ⊥
+IsNote h asked found (Ok (Some text)) = ⊥
+IsNote h asked found (Ok None) = Unit {0}
+IsNote h asked found (Err e) = Unit {0}

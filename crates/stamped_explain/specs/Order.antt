@@ -1,20 +1,66 @@
 -- The command line of the program that explains.
-use Rattle.std.specs.Prelude.{ℕ, List, [], ◌∷◌, Option, Some, None, Result, Ok, Err, codes, if◌then◌else◌}
+use Rattle.std.specs.Prelude.{ℕ, ◌&&◌, List, [], ◌∷◌, Option, Some, None, Result, Ok, Err, codes, if◌then◌else◌}
+use Rattle.std.specs.Prelude.{option_map, option_and_then}
 use Rattle.std.specs.Option.{option_map_or}
 use Rattle.std.specs.Str.{bytes_eq}
 use Rattle.stamp_cli.specs.Order.{number_in}
 use Rattle.stamp_cli.specs.declared.orders.CommandFault.{CommandFault}
 use Rattle.stamp_cli.specs.declared.orders.CommandFault.TheVariants.{Bad}
+use Rattle.stamped_explain.specs.declared.orders.Form.{Form}
+use Rattle.stamped_explain.specs.declared.orders.Form.TheVariants.{History, Judgement}
+use Rattle.stamped_explain.specs.declared.orders.Told.{Told}
+use Rattle.stamped_explain.specs.declared.orders.Told.TheVariants.{Nothing, Trials}
+use Rattle.stamped_explain.specs.declared.orders.ExplainOrder.{ExplainOrder}
+use Rattle.stamped_explain.specs.declared.orders.ExplainOrder.TheVariants.{Help, Explain}
 
-abbrev pub two_args : List ℕ → List ℕ → Option ℕ
-two_args option number = if bytes_eq option (codes "--most") then number_in number else None
+abbrev pub asked : Form → Told → ℕ → ExplainOrder
+asked form told most = Explain (record { form = form; told = told; most = most })
 
--- the forms of the command line: no argument, and --most N
-abbrev pub form_of : List (List ℕ) → Option ℕ
-form_of [] = Some 4000000
-form_of (option ∷ number ∷ []) = two_args option number
+-- --judge, and --told
+abbrev pub one_word : List ℕ → ℕ → Option ExplainOrder
+one_word word most =
+    if bytes_eq word (codes "--judge") then Some (asked Judgement Nothing most)
+    else if bytes_eq word (codes "--told") then Some (asked History Trials most)
+    else None
+
+-- --judge --told
+abbrev pub two_words : List ℕ → List ℕ → ℕ → Option ExplainOrder
+two_words judge told most =
+    if bytes_eq judge (codes "--judge") && bytes_eq told (codes "--told") then Some (asked Judgement Trials most)
+    else None
+
+abbrev pub one_arg : List ℕ → Option ExplainOrder
+one_arg arg = if bytes_eq arg (codes "--help") then Some Help else one_word arg 4000000
+
+abbrev pub two_args : List ℕ → List ℕ → Option ExplainOrder
+two_args first second =
+    if bytes_eq first (codes "--most") then option_map (asked History Nothing) (number_in second)
+    else two_words first second 4000000
+
+-- --most N before one word, or behind it
+abbrev pub three_args : List ℕ → List ℕ → List ℕ → Option ExplainOrder
+three_args first second third =
+    if bytes_eq first (codes "--most") then option_and_then (one_word third) (number_in second)
+    else if bytes_eq second (codes "--most") then option_and_then (one_word first) (number_in third)
+    else None
+
+-- --most N before two words, or behind them
+abbrev pub four_args : List ℕ → List ℕ → List ℕ → List ℕ → Option ExplainOrder
+four_args first second third fourth =
+    if bytes_eq first (codes "--most") then option_and_then (two_words third fourth) (number_in second)
+    else if bytes_eq third (codes "--most") then option_and_then (two_words first second) (number_in fourth)
+    else None
+
+-- the forms of the command line: --help; or none, one or both of --judge and --told, in this order, and before
+-- them or behind --most N
+abbrev pub form_of : List (List ℕ) → Option ExplainOrder
+form_of [] = Some (asked History Nothing 4000000)
+form_of (arg ∷ []) = one_arg arg
+form_of (first ∷ second ∷ []) = two_args first second
+form_of (first ∷ second ∷ third ∷ []) = three_args first second third
+form_of (first ∷ second ∷ third ∷ fourth ∷ []) = four_args first second third fourth
 form_of _ = None
 
--- the most configurations that arguments give
-abbrev pub most_in : List (List ℕ) → Result ℕ CommandFault
-most_in args = option_map_or Ok (form_of args) (Err Bad)
+-- what arguments ask for
+abbrev pub order_in : List (List ℕ) → Result ExplainOrder CommandFault
+order_in args = option_map_or Ok (form_of args) (Err Bad)

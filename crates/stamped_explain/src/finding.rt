@@ -3,7 +3,7 @@
 ghost use Rattle.std.specs.Prelude.{IfOk};
 ghost use Rattle.stamp_explain.specs.Observed.{IsObserved};
 ghost use Rattle.stamp_observed.specs.Suited.{AreSuited};
-ghost use Rattle.stamped_explain.specs.Finding.{IsFinding};
+ghost use Rattle.stamped_explain.specs.Finding.{IsFinding, IsLinearizedIfMade};
 
 use stamp_core::Record;
 use stamp_explain::{ExplainError, Observed, explain};
@@ -28,7 +28,8 @@ pub(crate) enum Finding {
 /// What the search finds.
 fn searched(alloc: Global, observed: &Observed, most: u64) -> Result<Finding, AllocError>
     requires { IsObserved observed.now }
-    ensures { IfOk result (λ found. IsFinding observed.now most found) }
+    ensures found { IfOk result (λ found. IsFinding observed.now most found) }
+    ensures made { IfOk result (λ found. IsLinearizedIfMade found) }
 {
     match explain(alloc, observed, most) {
         Ok(record) => Ok(Finding::Explained(record)),
@@ -47,7 +48,8 @@ pub(crate) fn finding_of(
     most: u64,
 ) -> Result<Finding, AllocError>
     requires { AreSuited observed.now }
-    ensures { IfOk result (λ found. IsFinding observed.now most found) }
+    ensures found { IfOk result (λ found. IsFinding observed.now most found) }
+    ensures made { IfOk result (λ found. IsLinearizedIfMade found) }
 {
     match fault_of(alloc, observed)? {
         Some(fault) => Ok(Finding::Faulty(fault)),

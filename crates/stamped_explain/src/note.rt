@@ -1,15 +1,17 @@
-//! The note of a history that no order explains: where it is stuck, what the call answered, and what it
-//! could have answered.
+//! The note of an observed history: where it is stuck, what the call answered, and what it could have
+//! answered; where it is explained, what its calls tried, if that is to be told.
 
 ghost use Rattle.std.specs.Prelude.{◌≡◌, ◌++◌, IfOk, Some, slice_get, string_bytes};
 ghost use Rattle.stamp_explain.specs.Observed.{IsObserved, IsReturnAt};
 ghost use Rattle.stamped_explain.specs.Finding.{IsFinding};
-ghost use Rattle.stamped_explain.specs.Note.{IsNote, IsStuckNote, ArePossibleAt, answer_text, others_text, entry_text};
+ghost use Rattle.stamped_explain.specs.Note.{IsNote, IsToldNote, IsStuckNote, ArePossibleAt, answer_text, others_text, entry_text};
 ghost use Rattle.stamped_explain.specs.Note.{replies_text, possible_text, stuck_text, unexplained_text};
 ghost use Rattle.stamped_explain.specs.inner.Note.{replies_in};
 
 use crate::finding::Finding;
-use stamp_core::{Call, Reply};
+use crate::orders::{Explaining, Told};
+use crate::trials::trials_text;
+use stamp_core::{Call, Record, Reply};
 use stamp_explain::{Observation, Observed, PossibleError, possible_at};
 use std::alloc::{AllocError, Global};
 use std::fmt;
@@ -56,7 +58,7 @@ impl fmt::Display for EntryText {
     ghost output = { λ text. Some (entry_text text.0 text.1) };
 
     fn fmt<W: fmt::Write>(&self, f: &mut fmt::Formatter<W>) -> fmt::Result {
-        write!(f, "stamped: entry {} of thread {}", self.0, self.1)
+        write!(f, "stamped_explain: entry {} of thread {}", self.0, self.1)
     }
 }
 
@@ -132,23 +134,34 @@ fn unexplained_text(alloc: Global) -> Result<String, AllocError>
 {
     String::from_str(
         alloc,
-        "stamped: no order explains the history; from which return on is undecided",
+        "stamped_explain: no order explains the history; from which return on is undecided",
     )
 }
 
-/// The note of what was found, for standard error: none, unless no order explains the history. A search
-/// gives up once it has looked at more than `most` configurations.
+/// The note of a history that is explained, by this recorded one: what its calls tried, if that is to be told.
+fn told_note(alloc: Global, made: &Record, told: Told) -> Result<Option<String>, AllocError>
+    ensures { IsToldNote told made.now result }
+{
+    match told {
+        Told::Nothing => Ok(None),
+        Told::Trials => Ok(Some(trials_text(alloc, made.entries())?)),
+    }
+}
+
+/// The note of what was found, for standard error. A search gives up once it has looked at more than `most`
+/// configurations.
 pub(crate) fn note_of(
     alloc: Global,
     observed: &Observed,
     finding: &Finding,
-    most: u64,
+    asked: Explaining,
 ) -> Result<Option<String>, AllocError>
-    requires { IsFinding observed.now most finding.now }
-    ensures { IsNote observed.now most finding.now result }
+    requires { IsFinding observed.now asked.most finding.now }
+    ensures { IsNote observed.now asked finding.now result }
 {
     match finding {
-        Finding::Stuck(entry) => Ok(Some(stuck_note(alloc, observed, *entry, most)?)),
+        Finding::Explained(record) => told_note(alloc, record, asked.told),
+        Finding::Stuck(entry) => Ok(Some(stuck_note(alloc, observed, *entry, asked.most)?)),
         Finding::Unexplained(_) => Ok(Some(unexplained_text(alloc)?)),
         _ => Ok(None),
     }

@@ -8,30 +8,132 @@ use stamp_cli::{CommandFault, number_in};
 /// The most configurations that a search looks at, if the command line says no other number.
 pub const MOST_CONFIGURATIONS: u64 = 4_000_000;
 
-fn two_args(option: &str, number: &str) -> Option<u64>
-    ensures { result ≡ order.two_args option.now number.now }
+/// What is written of a history that is explained.
+#[derive(Clone, Copy, Debug, PartialEq, Eq)]
+pub enum Form {
+    /// The recorded history that was found.
+    History,
+    /// The line by which a check accepts that.
+    Judgement,
+}
+
+/// What is told on standard error of a history that is explained.
+#[derive(Clone, Copy, Debug, PartialEq, Eq)]
+pub enum Told {
+    /// Nothing.
+    Nothing,
+    /// What its calls tried.
+    Trials,
+}
+
+/// How an observed history is to be explained.
+#[derive(Clone, Copy, Debug, PartialEq, Eq)]
+pub struct Explaining {
+    /// What is written of it.
+    pub form: Form,
+    /// What is told beside that.
+    pub told: Told,
+    /// The most configurations that a search looks at.
+    pub most: u64,
+}
+
+/// What the program is asked to do.
+#[derive(Clone, Copy, Debug, PartialEq, Eq)]
+pub enum ExplainOrder {
+    /// To tell how it is called.
+    Help,
+    /// To explain an observed history.
+    Explain(Explaining),
+}
+
+fn asked(form: Form, told: Told, most: u64) -> ExplainOrder
+    ensures { result ≡ order.asked form told most }
 {
-    match option {
-        "--most" => number_in(number),
+    ExplainOrder::Explain(Explaining { form, told, most })
+}
+
+fn one_word(word: &str, most: u64) -> Option<ExplainOrder>
+    ensures { result ≡ order.one_word word.now most }
+{
+    match word {
+        "--judge" => Some(asked(Form::Judgement, Told::Nothing, most)),
+        "--told" => Some(asked(Form::History, Told::Trials, most)),
         _ => None,
     }
 }
 
-fn form_of(args: &[&str]) -> Option<u64>
+fn two_words(judge: &str, told: &str, most: u64) -> Option<ExplainOrder>
+    ensures { result ≡ order.two_words judge.now told.now most }
+{
+    if judge == "--judge" && told == "--told" {
+        Some(asked(Form::Judgement, Told::Trials, most))
+    } else {
+        None
+    }
+}
+
+fn one_arg(arg: &str) -> Option<ExplainOrder>
+    ensures { result ≡ order.one_arg arg.now }
+{
+    match arg {
+        "--help" => Some(ExplainOrder::Help),
+        _ => one_word(arg, MOST_CONFIGURATIONS),
+    }
+}
+
+fn two_args(first: &str, second: &str) -> Option<ExplainOrder>
+    ensures { result ≡ order.two_args first.now second.now }
+{
+    match first {
+        "--most" => Some(asked(Form::History, Told::Nothing, number_in(second)?)),
+        _ => two_words(first, second, MOST_CONFIGURATIONS),
+    }
+}
+
+fn three_args(first: &str, second: &str, third: &str) -> Option<ExplainOrder>
+    ensures { result ≡ order.three_args first.now second.now third.now }
+{
+    if first == "--most" {
+        one_word(third, number_in(second)?)
+    } else if second == "--most" {
+        one_word(first, number_in(third)?)
+    } else {
+        None
+    }
+}
+
+fn four_args(first: &str, second: &str, third: &str, fourth: &str) -> Option<ExplainOrder>
+    ensures { result ≡ order.four_args first.now second.now third.now fourth.now }
+{
+    if first == "--most" {
+        two_words(third, fourth, number_in(second)?)
+    } else if third == "--most" {
+        two_words(first, second, number_in(fourth)?)
+    } else {
+        None
+    }
+}
+
+fn form_of(args: &[&str]) -> Option<ExplainOrder>
     ensures { result ≡ order.form_of (map (λ arg. arg.now) args.now) }
 {
     match args {
-        [] => Some(MOST_CONFIGURATIONS),
-        [option, number] => two_args(option, number),
+        [] => Some(asked(Form::History, Told::Nothing, MOST_CONFIGURATIONS)),
+        [arg] => one_arg(arg),
+        [first, second] => two_args(first, second),
+        [first, second, third] => three_args(first, second, third),
+        [first, second, third, fourth] => four_args(first, second, third, fourth),
         _ => None,
     }
 }
 
-/// The most configurations that a search looks at, by the program's arguments. No argument gives
-/// 4,000,000, and `--most N` gives `N`, a number below 2^64 in decimal digits alone. It refuses as
-/// 1 `Bad` exactly where the arguments are no such form.
-pub fn most_configurations_of(args: &[&str]) -> Result<u64, CommandFault>
-    ensures { result ≡ order.most_in (map (λ arg. arg.now) args.now) }
+/// What the program's arguments ask for. `--help` alone asks how it is called. Otherwise a history is
+/// explained: `--judge` asks for a judgement of what was found, `--told` for what its calls tried, and
+/// `--most N`, before them or behind, gives the most configurations, a number below 2^64 in decimal
+/// digits alone; without it they are 4,000,000. It refuses as 1 `Bad` exactly where the arguments are
+/// no such form.
+pub fn order_of(args: &[&str]) -> Result<ExplainOrder, CommandFault>
+    ensures { result ≡ order.order_in (map (λ arg. arg.now) args.now) }
 {
     form_of(args).ok_or(CommandFault::Bad)
 }

@@ -1,5 +1,5 @@
 -- The picture that answers an order, or why there is none.
-use Rattle.std.specs.Prelude.{ℕ, ◌≡◌, ◌≤◌, length, List, Option, Result, Ok, Err}
+use Rattle.std.specs.Prelude.{ℕ, ◌≡◌, ◌≢◌, ◌≤◌, length, List, [], Option, Result, Ok, Err}
 use Rattle.stamp_core.specs.Record.{Recorded}
 use Rattle.stamp_history.specs.History.{recorded_of}
 use Rattle.stamp_cli.specs.Answer.{IsInputAnswer, AnswersCheck, AnswersRead}
@@ -19,7 +19,7 @@ use Rattle.stamped_picture.specs.declared.orders.PictureFormat.TheVariants.{Svg,
 use Rattle.stamped_picture.specs.declared.orders.PictureOrder.{PictureOrder}
 use Rattle.stamped_picture.specs.declared.answer.Drawing as made
 use Rattle.stamped_picture.specs.declared.faults.PictureFault.{PictureFault}
-use Rattle.stamped_picture.specs.declared.faults.PictureFault.TheVariants.{Serve, TooMany}
+use Rattle.stamped_picture.specs.declared.faults.PictureFault.TheVariants.{Serve, NoInput, TooMany}
 
 -- a picture as contracts see it: its text, and what it says of the history
 pub record DrawingView : Type 0 where
@@ -74,9 +74,10 @@ pub record IsTooMany (window : Window) (input : List ℕ) (n : ℕ) : Type 0 whe
   pub read : recorded_of input ≡ Ok history
   pub crowded : IsCrowded history window n
 
--- the fault is the one that a check of the input is refused by, or there are too many bars
+-- the fault is the one that a check of the input is refused by, or there was no input, or there are too many bars
 abbrev pub IsRefused : Window → List ℕ → PictureFault → Type 0
-IsRefused window input (Serve fault) = IsInputAnswer AnswersCheck input (Err fault)
+IsRefused window input (Serve fault) = (input ≢ []) × IsInputAnswer AnswersCheck input (Err fault)
+IsRefused window input NoInput = input ≡ []
 IsRefused window input (TooMany n) = IsTooMany window input n
 
 -- the answer to an input

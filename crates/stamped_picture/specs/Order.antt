@@ -1,6 +1,6 @@
 -- The command line.
 use Rattle.std.specs.Prelude.{ℕ, ◌&&◌, ◌==◌, nat_le, List, [], ◌∷◌, Option, Some, None, Result, Ok, Err, codes}
-use Rattle.std.specs.Prelude.{if◌then◌else◌}
+use Rattle.std.specs.Prelude.{Bool, false, if◌then◌else◌}
 use Rattle.std.specs.Prelude.{option_map, option_and_then}
 use Rattle.std.specs.Option.{option_map_or}
 use Rattle.std.specs.Str.{bytes_eq}
@@ -11,6 +11,8 @@ use Rattle.stamp_picture.specs.declared.window.Window.{Window}
 use Rattle.stamped_picture.specs.declared.orders.PictureFormat.{PictureFormat}
 use Rattle.stamped_picture.specs.declared.orders.PictureFormat.TheVariants.{Svg, Text}
 use Rattle.stamped_picture.specs.declared.orders.PictureOrder.{PictureOrder}
+use Rattle.stamped_picture.specs.declared.orders.PictureCommand.{PictureCommand}
+use Rattle.stamped_picture.specs.declared.orders.PictureCommand.TheVariants.{Help, Draw}
 
 -- a number that is not 0
 abbrev pub width_in : List ℕ → Option ℕ
@@ -57,13 +59,22 @@ form_within (text ∷ wide ∷ width ∷ option ∷ from ∷ other ∷ to ∷ []
     both (wide_format text wide width) (window_in option from other to)
 form_within _ = None
 
--- the forms of the command line: no argument, --text, --text --width N, or one of these with --from A --to B behind
+-- the forms by which a picture is drawn: no argument, --text, --text --width N, or one of these with --from A --to B
+-- behind
 abbrev pub form_of : List (List ℕ) → Option PictureOrder
 form_of [] = both (Some Svg) all
 form_of (text ∷ []) = both (text_format text) all
 form_of (text ∷ option ∷ width ∷ []) = both (wide_format text option width) all
 form_of args = form_within args
 
--- the order that arguments give
-abbrev pub order_in : List (List ℕ) → Result PictureOrder CommandFault
-order_in args = option_map_or Ok (form_of args) (Err Bad)
+-- --help alone
+abbrev pub asks_for_help : List (List ℕ) → Bool
+asks_for_help (arg ∷ []) = bytes_eq arg (codes "--help")
+asks_for_help _ = false
+
+abbrev pub command_of : List (List ℕ) → Option PictureCommand
+command_of args = if asks_for_help args then Some Help else option_map Draw (form_of args)
+
+-- what arguments ask for
+abbrev pub order_in : List (List ℕ) → Result PictureCommand CommandFault
+order_in args = option_map_or Ok (command_of args) (Err Bad)

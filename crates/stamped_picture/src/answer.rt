@@ -95,6 +95,9 @@ fn answer(
     ensures refused { IfErr result (λ e. e ≢ Serve Memory → IsRefused order.window input.now e) }
     ensures inner { IfErr result (λ e. is_of_end e ≡ false) }
 {
+    if input.is_empty() {
+        return Err(PictureFault::NoInput);
+    }
     if input.len() > MOST_BYTES {
         return Err(PictureFault::Serve(ServeFault::TooLong));
     }

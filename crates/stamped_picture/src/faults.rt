@@ -5,7 +5,7 @@ ghost use Rattle.stamp_cli.specs.declared.faults.ServeFault.TheVariants.{Memory}
 ghost use Rattle.stamped_picture.specs.declared.faults.PictureFault.TheVariants.{Serve, TooMany};
 ghost use Rattle.stamped_picture.specs.FaultText.{picture_fault, picture_fault_text};
 
-use stamp_cli::ServeFault;
+use stamp_cli::{ServeFault, named_fault_line};
 use stamp_history::ReadError;
 use stamp_picture::PictureError;
 use std::alloc::{AllocError, Global};
@@ -15,6 +15,8 @@ use std::alloc::{AllocError, Global};
 pub(crate) enum PictureFault {
     /// What `stamped check` refuses too.
     Serve(ServeFault),
+    /// There was no input, not a byte.
+    NoInput,
     /// So many entries were to be drawn.
     TooMany(u64),
 }
@@ -64,10 +66,11 @@ pub(crate) fn fault_line(alloc: Global, fault: &PictureFault) -> Result<String, 
     ensures refused { IfErr result (λ e. e ≡ Serve Memory) }
 {
     match fault {
-        PictureFault::Serve(fault) => Ok(stamp_cli::fault_line(alloc, fault)?),
+        PictureFault::Serve(fault) => Ok(named_fault_line(alloc, "stamped_picture", fault)?),
+        PictureFault::NoInput => Ok(String::from_str(alloc, "stamped_picture: no input")?),
         PictureFault::TooMany(count) => {
             Ok(format!(in alloc;
-                "stamped: {count} entries to draw, over 2000: give --from A --to B"
+                "stamped_picture: {count} entries to draw, over 2000: give --from A --to B"
             )?)
         }
     }

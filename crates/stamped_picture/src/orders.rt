@@ -1,7 +1,8 @@
 //! The command line.
 
 ghost use Rattle.std.specs.Prelude.{◌≡◌, map, option_and_then, option_map};
-ghost use Rattle.stamped_picture.specs.Order.{width_in, text_format, wide_format, window_of, window_in, both, form_within, form_of, order_in};
+ghost use Rattle.stamped_picture.specs.Order.{width_in, text_format, wide_format, window_of, window_in, both, form_within, form_of};
+ghost use Rattle.stamped_picture.specs.Order.{asks_for_help, command_of, order_in};
 
 use stamp_cli::{CommandFault, number_in};
 use stamp_picture::Window;
@@ -22,6 +23,15 @@ pub(crate) struct PictureOrder {
     pub(crate) format: PictureFormat,
     /// The part of the history.
     pub(crate) window: Window,
+}
+
+/// What the program is asked to do.
+#[derive(Clone, Copy)]
+pub(crate) enum PictureCommand {
+    /// To tell how it is called.
+    Help,
+    /// To draw a picture.
+    Draw(PictureOrder),
 }
 
 fn width_in(text: &str) -> Option<u64>
@@ -117,9 +127,28 @@ fn form_of(args: &[&str]) -> Option<PictureOrder>
     }
 }
 
-/// The order that the program's arguments give.
-pub(crate) fn order_of(args: &[&str]) -> Result<PictureOrder, CommandFault>
+fn asks_for_help(args: &[&str]) -> bool
+    ensures { result ≡ asks_for_help (map (λ arg. arg.now) args.now) }
+{
+    match args {
+        [arg] => *arg == "--help",
+        _ => false,
+    }
+}
+
+fn command_of(args: &[&str]) -> Option<PictureCommand>
+    ensures { result ≡ command_of (map (λ arg. arg.now) args.now) }
+{
+    if asks_for_help(args) {
+        Some(PictureCommand::Help)
+    } else {
+        Some(PictureCommand::Draw(form_of(args)?))
+    }
+}
+
+/// What the program's arguments ask for.
+pub(crate) fn order_of(args: &[&str]) -> Result<PictureCommand, CommandFault>
     ensures { result ≡ order_in (map (λ arg. arg.now) args.now) }
 {
-    form_of(args).ok_or(CommandFault::Bad)
+    command_of(args).ok_or(CommandFault::Bad)
 }

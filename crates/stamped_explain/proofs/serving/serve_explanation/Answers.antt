@@ -1,4 +1,6 @@
+use Rattle.std.proofs.Common.{ap}
 use Rattle.stamp_cli.proofs.HandedOn.{same_fault}
+use Rattle.stamped_explain.specs.declared.faults.ExplainFault.TheVariants.{Serve}
 use Rattle.stamped_explain.proofs.serving.serve_explanation.Goals as goal
 
 pub returns-in_err-line-clause-refused : goal.returns-in_err-line-clause-refused
@@ -8,6 +10,6 @@ returns-in_err-line-clause-refused g c =
 
 pub returns-in_err-write_text-clause-refused : goal.returns-in_err-write_text-clause-refused
 returns-in_err-write_text-clause-refused g c =
-    same_fault c.from_residual-in_err-write_text.result c.in_err-write_text.field-0.0 _
+    same_fault c.from_residual-in_err-write_text.result (Serve c.in_err-write_text.field-0.0) _
     c.from_residual-in_err-write_text.ensures.1
-    (λ read write memory. absurd (write c.in_err-write_text.ensures.err))
+    (λ read write memory. absurd (write (ap Serve c.in_err-write_text.ensures.err)))
