@@ -63,7 +63,7 @@ impl Watched {
     fn lose_exchanges<R: Wait>(&self, rt: &R) {
         let mut pass = self.lock.enter();
         self.both.wait(rt);
-        for _ in 0..10_000_000u64 {
+        for _ in 0..1_000_000_000u64 {
             self.lock.call(rt, &mut pass, Call::TryRead);
             self.lock.call(rt, &mut pass, Call::TryUnlockRead);
             if self.lock.once(&mut pass, Call::TryRead).is_err() {

@@ -52,9 +52,9 @@ impl Waiter {
         Ok(Waiter { stamp })
     }
 
-    /// The stamp that it is answered, `u64::MAX` where no answer came in some ten seconds.
+    /// The stamp that it is answered, `u64::MAX` where no answer came in half a minute.
     fn stamp<R: Clock>(&self, rt: &R) -> u64 {
-        for _ in 0..10_000u64 {
+        for _ in 0..30_000u64 {
             let stamp = self.stamp.load(Ordering::SeqCst);
             if stamp != u64::MAX {
                 return stamp;

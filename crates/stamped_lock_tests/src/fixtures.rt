@@ -159,9 +159,9 @@ pub fn right_rows<L: KnownLayout, R: Wait>(
     rows.len()
 }
 
-/// Whether two threads that nobody joins tell their end here, within some five seconds.
+/// Whether two threads that nobody joins tell their end here, within half a minute.
 pub fn both_end<R: Clock>(rt: &R, ended: &AtomicU64) -> bool {
-    for _ in 0..5_000u64 {
+    for _ in 0..30_000u64 {
         if ended.load(Ordering::SeqCst) == 2 {
             return true;
         }

@@ -76,7 +76,7 @@ struct Quoted {
 fn quote_beside<R: Wait>(rt: &R, quoted: &Quoted) {
     let mut board = quoted.board.enter();
     quoted.both.wait(rt);
-    for bid in 1..=10_000_000u64 {
+    for bid in 1..=1_000_000_000u64 {
         if board.put(rt, [bid, bid + 1]).is_err() {
             return;
         }
@@ -90,8 +90,8 @@ fn quote_beside<R: Wait>(rt: &R, quoted: &Quoted) {
     quoted.ended.fetch_add(1, Ordering::SeqCst);
 }
 
-/// Nobody joins the threads: where a put never comes back, the test ends nevertheless, after some five
-/// seconds.
+/// Nobody joins the threads: where a put never comes back, the test ends nevertheless, after half a
+/// minute.
 #[test]
 fn two_who_put_at_once_come_back(rt: HostRuntime) -> Result<(), Fail> {
     let Ok(board) = Board::new(rt.alloc(), [10, 11]) else {

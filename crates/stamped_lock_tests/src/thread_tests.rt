@@ -81,7 +81,7 @@ struct Beside {
 fn lose_exchanges<R: Wait>(rt: &R, beside: &Beside) {
     let mut handle = beside.lock.enter();
     beside.both.wait(rt);
-    for _ in 0..10_000_000u64 {
+    for _ in 0..1_000_000_000u64 {
         if let Some(stamp) = handle.try_read(rt) {
             let _ = handle.unlock_read(rt, stamp);
         }
