@@ -110,7 +110,7 @@ def try_stuck(room):
         sys.exit(f"entry {entry}: {printed}{note}")
     reply = possible_reply(note)
     words = f"{entry} {shlex.quote(reply)}" if reply else entry
-    room.must(UNTIL.replace(f"{ENTRY} '[1, 2]'", words), r"(?s).*thread 0.*")
+    room.must(UNTIL.replace(f"{ENTRY} '[1, 2]'", words), r"(?s).* at  thread: call = reply -> .*")
 
 
 def main():
