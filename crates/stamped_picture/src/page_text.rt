@@ -625,8 +625,9 @@ const keys = {
   PageUp: () => { view.down -= view.height / 2; settle(); draw(); },
   Escape: () => { picked = null; tell(null); hint(null); draw(); },
 };
-canvas.addEventListener('keydown', event => {
-  const key = event.key.length === 1 ? event.key.toLowerCase() : event.key;
+document.addEventListener('keydown', event => {
+  const key = event.key.length === 1 ? event.key.toLowerCase() : event.key, on = event.target.tagName;
+  if (on === 'INPUT' || (on === 'BUTTON' && key === 'Enter')) return;
   if (event.ctrlKey || event.metaKey || event.altKey || !keys[key] || !calls.length) return;
   event.preventDefault();
   keys[key](picked || calls[fault === null ? 0 : fault]);
