@@ -438,14 +438,16 @@ function paintPoint(c) {
   pen.stroke();
 }
 // Calls that are too small to be told apart are drawn once for each pixel; none but a plain one is left out.
+const isPlain = c => c.kind === 'call' || c.kind === 'unseen';
 function paintRow(row) {
   const marked = [];
-  let done = -Infinity;
+  let done = -Infinity, last = null;
   for (let i = firstFrom(row, positionAt(GUTTER)); i < row.length; i += 1) {
     const c = row[i], left = x(c.from), right = x(c.to + 1);
     if (left > view.width) break;
-    if (c.kind === 'call' && right - left < 1.5 && right < done + 1.5) continue;
+    if (isPlain(c) && c.kind === last && right - left < 1.5 && right < done + 0.5) continue;
     done = Math.max(right, left + 1.5);
+    last = c.kind;
     paintBar(c);
     if (right - left > 3) marked.push(c);
   }
