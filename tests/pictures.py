@@ -192,6 +192,19 @@ OBSERVED_PAGES = {
         },
         "entry 2 of thread 1: to_read 384 = 513; no order explains this return; possible: 0",
     ),
+    "stuck_under_way": (
+        [*UNDER_WAY, seen(3, ["optimistic"], 3, 6, 768), seen(1, ["read_count"], 9, 10, {"count": 0})],
+        {
+            "order": [
+                entry(0, ["try_write"], 384, 0, 0, 447),
+                entry(1, ["is_write_locked"], "yes", 64, 64, 191),
+                entry(3, ["optimistic"], 0, 192, 192, 447),
+            ],
+            "possible": [0],
+            "stuck": 3,
+        },
+        "entry 3 of thread 3: optimistic = 768; no order explains this return; possible: 0",
+    ),
     "stuck_waiting": (
         WAITS,
         {"order": [entry(0, ["try_write"], 384, 0, 0, 255)], "possible": [], "stuck": 1},
