@@ -1,0 +1,168 @@
+//! The part of a run that is kept while it is judged.
+ghost use Rattle.std.specs.Prelude.{◌≡◌, ◌+◌, ◌^◌, ◌<◌, ◌∷◌, ◌++◌, [], IfOk, OnOk, IsTrue, List, length};
+ghost use Rattle.stamp_core.specs.Limits.{Bounds};
+ghost use Rattle.stamp_watch.specs.declared.event.Event.{Event};
+ghost use Rattle.stamp_watch.specs.Verdict.{AreOfLock};
+ghost use Rattle.stamp_watch.specs.inner.Course.{HasGoneOn, HasRoom, IsCourse, IsKnown, IsOneLonger, IsOnCourse, IsOnward, IsRest};
+
+use crate::ending::Ending;
+use crate::event::Event;
+use crate::judge::{Outcome, end_told, find_stuck, judge_rest, step};
+use crate::progress::Progress;
+use crate::verdict::Verdict;
+use crate::watch::Watch;
+use stamp_core::Limits;
+use std::alloc::{AllocError, Global};
+use std::slice::from_ref;
+
+/// A run so far, from a place on: the events behind the first ones, a watch that has seen those first ones, and one
+/// that has also seen some of the events. Each call that a watch has seen begin ends among the events, where it is
+/// known how: for the first watch among those that the second has seen. So the runs that end at any event that the
+/// second watch has not seen can be judged from the first.
+#[derive(Drop)]
+pub(crate) struct Course {
+    pub(crate) base: Watch,
+    pub(crate) first: u64,
+    pub(crate) events: Vec<Event>,
+    pub(crate) watch: Watch,
+    pub(crate) seen: usize,
+}
+
+/// What comes of a step.
+#[derive(Clone, Copy)]
+pub(crate) enum Onward {
+    /// None was made: each event was seen, or how the call of the next one ends is not known yet.
+    Waits,
+    /// One more event was seen.
+    Steps,
+    /// This was found of the run.
+    Finds(Verdict),
+}
+
+/// Whether it is known how the call ends that begins by this event. Other events are known.
+fn is_known(event: &Event, ends: Ending) -> bool
+    ensures { IsTrue result → IsKnown event.now ends }
+{
+    match event {
+        Event::Begins(_, _) => !matches!(ends, Ending::Never),
+        _ => true,
+    }
+}
+
+impl Course {
+    /// That of a new lock with these limits, before any event.
+    pub(crate) fn new(alloc: Global, limits: Limits) -> Result<Course, AllocError>
+        ensures { IfOk result (λ course. IsCourse limits [] course) }
+    {
+        let base = Watch::new(alloc, limits)?;
+        let watch = base.copied()?;
+        let events = Vec::new(alloc);
+        Ok(Course {
+            base,
+            first: 0,
+            events,
+            watch,
+            seen: 0,
+        })
+    }
+
+    /// How many events the run has so far.
+    pub(crate) fn count(&self) -> u64
+        requires { HasRoom self.now }
+        ensures { result ≡ self.now.first + length self.now.events.items }
+    {
+        self.first + self.events.len() as u64
+    }
+
+    /// One more event, which may come there.
+    pub(crate) fn add(&mut self, event: &Event) -> Result<(), AllocError>
+        ensures course { OnOk result ((limits : Bounds) (run : List Event) → IsCourse limits run self.old
+            → AreOfLock (run ++ event.now ∷ []) → IsCourse limits (run ++ event.now ∷ []) self.new) }
+        ensures longer { OnOk result (IsOneLonger self.old self.new) }
+    {
+        self.events.extend_from_slice(from_ref(event))?;
+        Ok(())
+    }
+
+    /// Sees one more event, if how its call ends is known.
+    pub(crate) fn step_on(&mut self, most: u64) -> Result<Onward, AllocError>
+        requires on { IsOnCourse self.old }
+        requires room { HasRoom self.old }
+        ensures { IfOk result (λ onward. IsOnward most self.old self.new onward) }
+    {
+        if self.seen >= self.events.len() {
+            return Ok(Onward::Waits);
+        }
+        let events = self.events.as_slice();
+        let event = events[self.seen];
+        let number = self.first + self.seen as u64;
+        let ends = end_told(&event, &events[self.seen + 1..], number + 1);
+        if !is_known(&event, ends) {
+            return Ok(Onward::Waits);
+        }
+        let progress = step(&mut self.watch, &event, ends, most)?;
+        match progress {
+            Progress::Going => {
+                self.seen += 1;
+                Ok(Onward::Steps)
+            }
+            Progress::Dead => {
+                let verdict = find_stuck(
+                    &self.base,
+                    self.first,
+                    self.events.as_slice(),
+                    self.seen,
+                    most,
+                )?;
+                Ok(Onward::Finds(verdict))
+            }
+            Progress::TooMany => Ok(Onward::Finds(Verdict::Undecided(number))),
+            Progress::Refused => unreachable!(),
+        }
+    }
+
+    /// Sees event after event, as far as it is known how their calls end: what is found of the run then, if anything
+    /// is.
+    pub(crate) fn go_on(&mut self, most: u64) -> Result<Option<Verdict>, AllocError>
+        requires on { IsOnCourse self.old }
+        requires room { HasRoom self.old }
+        ensures { IfOk result (λ found. HasGoneOn most self.old self.new found) }
+    {
+        for _ in self.seen..self.events.len() {
+            let onward = self.step_on(most)?;
+            match onward {
+                Onward::Waits => return Ok(None),
+                Onward::Steps => {}
+                Onward::Finds(verdict) => return Ok(Some(verdict)),
+            }
+        }
+        Ok(None)
+    }
+
+    /// Judges the run as one that ends here: a call that has not ended never ends.
+    pub(crate) fn rest(&self, most: u64) -> Result<Verdict, AllocError>
+        requires on { IsOnCourse self.now }
+        requires room { HasRoom self.now }
+        ensures { IfOk result (λ verdict. (limits : Bounds) (run : List Event) → IsCourse limits run self.now
+            → IsRest limits run most verdict) }
+    {
+        let start = self.watch.copied()?;
+        let number = self.first + self.seen as u64;
+        let events = self.events.as_slice();
+        let outcome = judge_rest(start, number, &events[self.seen..], most)?;
+        match outcome {
+            Outcome::Explained => Ok(Verdict::Explained),
+            Outcome::Unexplained(k) => {
+                let explained = self.seen + k;
+                find_stuck(
+                    &self.base,
+                    self.first,
+                    self.events.as_slice(),
+                    explained,
+                    most,
+                )
+            }
+            Outcome::TooMany(k) => Ok(Verdict::Undecided(number + k as u64)),
+        }
+    }
+}

@@ -1,0 +1,106 @@
+use stamp_core::{Call, Limits, Reply};
+use stamp_watch::{Event, Judge, Verdict};
+use std::test::Fail;
+
+/// What is found while the events of a run come, for up to 127 readers and 1,000 write acquisitions, and what is found
+/// at its end.
+fn found(
+    rt: &impl AllocGlobal,
+    most: u64,
+    events: &[Event],
+) -> Result<(Option<Verdict>, Verdict), Fail> {
+    let Ok(limits) = Limits::new(127, 1000) else {
+        return Err(Fail::from("limits"));
+    };
+    let mut judge = Judge::new(rt.alloc(), limits, most)?;
+    let mut found = None;
+    for event in events {
+        if judge.is_full() {
+            return Err(Fail::from("full"));
+        }
+        found = judge.push(event)?;
+    }
+    Ok((found, judge.finish()?))
+}
+
+#[test]
+fn a_run_is_explained_while_it_goes_on(rt: HostRuntime) -> Result<(), Fail> {
+    assert!(rt; found(&rt, 100, &[])? == (None, Verdict::Explained));
+    let two_writers = [
+        Event::Begins(0, Call::WriteLock),
+        Event::Begins(1, Call::WriteLock),
+        Event::Returns(1, Reply::Stamp(384)),
+        Event::Begins(1, Call::UnlockWrite(384)),
+        Event::Returns(0, Reply::Stamp(640)),
+        Event::Returns(1, Reply::Done),
+        Event::Begins(2, Call::ReadLock),
+        Event::Withdraws(2),
+        Event::Begins(0, Call::UnlockWrite(640)),
+    ];
+    assert!(rt; found(&rt, 100, &two_writers)? == (None, Verdict::Explained));
+    Ok(())
+}
+
+#[test]
+fn a_stuck_run_is_found_once_its_calls_have_ended(rt: HostRuntime) -> Result<(), Fail> {
+    let two_holders = [
+        Event::Begins(0, Call::TryWrite),
+        Event::Begins(1, Call::TryWrite),
+        Event::Returns(0, Reply::Stamp(384)),
+        Event::Returns(1, Reply::Stamp(640)),
+        Event::Begins(0, Call::Validate(384)),
+        Event::Returns(0, Reply::Yes),
+    ];
+    assert!(rt; found(&rt, 100, &two_holders[..3])? == (None, Verdict::Explained));
+    let stuck = Verdict::Stuck(3);
+    assert!(rt; found(&rt, 100, &two_holders[..4])? == (Some(stuck), stuck));
+    assert!(rt; found(&rt, 100, &two_holders)? == (Some(stuck), stuck));
+    let never_ended = [
+        Event::Begins(0, Call::WriteLock),
+        Event::Begins(1, Call::IsWriteLocked),
+        Event::Returns(1, Reply::Yes),
+        Event::Begins(1, Call::TryRead),
+        Event::Returns(1, Reply::Stamp(257)),
+    ];
+    assert!(rt; found(&rt, 100, &never_ended[..3])? == (None, Verdict::Explained));
+    assert!(rt; found(&rt, 100, &never_ended)? == (None, Verdict::Stuck(4)));
+    Ok(())
+}
+
+#[test]
+fn a_broken_run_is_found_at_once(rt: HostRuntime) -> Result<(), Fail> {
+    let begun_twice = [
+        Event::Begins(0, Call::TryRead),
+        Event::Begins(0, Call::TryRead),
+        Event::Returns(0, Reply::Stamp(257)),
+    ];
+    let broken = Verdict::Broken(1);
+    assert!(rt; found(&rt, 100, &begun_twice)? == (Some(broken), broken));
+    let stuck_before = [
+        Event::Begins(0, Call::WriteLock),
+        Event::Begins(1, Call::IsReadLocked),
+        Event::Returns(1, Reply::Yes),
+        Event::Returns(2, Reply::Yes),
+    ];
+    let stuck = Verdict::Stuck(2);
+    assert!(rt; found(&rt, 100, &stuck_before)? == (Some(stuck), stuck));
+    Ok(())
+}
+
+#[test]
+fn a_run_with_too_many_configurations_is_not_decided(rt: HostRuntime) -> Result<(), Fail> {
+    let either = [
+        Event::Begins(0, Call::TryRead),
+        Event::Begins(1, Call::ReadLock),
+        Event::Begins(2, Call::ReadCount),
+        Event::Returns(2, Reply::Count(1)),
+        Event::Returns(0, Reply::Stamp(258)),
+        Event::Returns(1, Reply::Stamp(258)),
+    ];
+    let stuck = Verdict::Stuck(5);
+    assert!(rt; found(&rt, 2, &either)? == (Some(stuck), stuck));
+    let within = Verdict::StuckWithin(3, 6);
+    assert!(rt; found(&rt, 1, &either)? == (Some(within), within));
+    assert!(rt; found(&rt, 1, &either[..4])? == (None, Verdict::Undecided(3)));
+    Ok(())
+}
