@@ -14,7 +14,8 @@ use Rattle.stamp_watch.specs.declared.event.Event.{Event}
 use Rattle.stamp_watch.specs.declared.event.Event.TheVariants.{Begins, Returns, Withdraws}
 use Rattle.stamp_watch.specs.Form.{is_busy_then, is_busy_after, MayCome, AreInFormFrom}
 use Rattle.stamp_watch.specs.Verdict.{AreOfLock, IsOfLock}
-use Rattle.stamp_watch.specs.inner.Judging.{MayComeIn, SetsBusy, AreBusyLanes, IsInFormUpTo}
+use Rattle.stamp_watch.specs.Judging.{AreBusyLanes}
+use Rattle.stamp_watch.specs.inner.Judging.{MayComeIn, SetsBusy, IsInFormUpTo}
 use Rattle.stamp_watch.proofs.Form.{form_goes_on, form_up_to, busy_after_one}
 use Rattle.stamp_watch.proofs.Reading.{take_read}
 

@@ -11,8 +11,10 @@ use Rattle.stamp_watch.specs.declared.verdict.Verdict.{Verdict}
 use Rattle.stamp_watch.specs.declared.watch.Watch.{Watch}
 use Rattle.stamp_watch.specs.Judge.{HasRoomForOne, IsJudge, IsUnderWay}
 use Rattle.stamp_watch.specs.Verdict.{AreOfLock}
-use Rattle.stamp_watch.specs.inner.Judging.{AreBusyLanes, IsFound, MayComeIn, SetsBusy}
-use Rattle.stamp_watch.specs.inner.Course.{HasGoneOn, HasRoom, IsCourse, IsOneLonger, IsRest, IsRunOn, broken_off}
+use Rattle.stamp_watch.specs.Judging.{AreBusyLanes, IsFound}
+use Rattle.stamp_watch.specs.inner.Judging.{MayComeIn, SetsBusy}
+use Rattle.stamp_watch.specs.Course.{HasRoom, IsCourse, IsRunOn}
+use Rattle.stamp_watch.specs.inner.Course.{HasGoneOn, IsOneLonger, IsRest, broken_off}
 use Rattle.stamp_watch.proofs.Forming.{busy_lanes_then, form_first, of_lock_on}
 use Rattle.stamp_watch.proofs.Running.{broken_found, found_later}
 

@@ -15,7 +15,8 @@ use Rattle.stamp_watch.specs.declared.watch.Watch.{Watch}
 use Rattle.stamp_watch.specs.Run.{AreExplained}
 use Rattle.stamp_watch.specs.Verdict.{AreOfLock, AreTooMany, IsVerdict}
 use Rattle.stamp_watch.specs.Watch.{IsCopy, IsUntold, IsWatching}
-use Rattle.stamp_watch.specs.inner.Judging.{IsJudging, IsStep, IsInFormUpTo, IsFound, IsBetween, IsOutcome}
+use Rattle.stamp_watch.specs.Judging.{IsJudging, IsFound}
+use Rattle.stamp_watch.specs.inner.Judging.{IsStep, IsInFormUpTo, IsBetween, IsOutcome}
 use Rattle.stamp_watch.specs.inner.Judging.{IsBase, IsStuckBehind, IsStuckFrom}
 use Rattle.stamp_watch.specs.declared.judge.Outcome.{Outcome}
 use Rattle.stamp_watch.specs.declared.judge.Outcome.TheVariants.{Unexplained, TooMany}

@@ -40,7 +40,8 @@ use Rattle.stamp_watch.specs.Run.Survives.{at_end}
 use Rattle.stamp_watch.specs.Verdict.{AreOfLock, IsOfLock, AreTooMany}
 use Rattle.stamp_watch.specs.Watch.{AreKept, IsCopy, IsWatching, IsUntold, IsInForm, IsProgress, IsTaken}
 use Rattle.stamp_watch.specs.Watch.{BeginsTold, ReturnsTold, WithdrawsTold}
-use Rattle.stamp_watch.specs.inner.Judging.{ends_as, IsEndTold, IsFollowed, IsJudging, IsStep}
+use Rattle.stamp_watch.specs.Judging.{ends_as, IsFollowed, IsJudging}
+use Rattle.stamp_watch.specs.inner.Judging.{IsEndTold, IsStep}
 use Rattle.stamp_watch.proofs.Form.{busy_after_one}
 use Rattle.stamp_watch.proofs.Forming.{next_comes, next_of_lock}
 use Rattle.stamp_watch.proofs.Numbered.{return_ends, return_spares, withdrawal_ends, withdrawal_spares, one_return}

@@ -21,7 +21,8 @@ use Rattle.stamp_watch.specs.declared.position.Position.{Position}
 use Rattle.stamp_watch.specs.Run.{Configuration}
 use Rattle.stamp_watch.specs.Run.Phase.{Idle, Gets}
 use Rattle.stamp_watch.specs.Run.Leads.{leads_nowhere, by_return}
-use Rattle.stamp_watch.specs.Foretold.{open_at, IsReturn, MayGet, ComesAsTold}
+use Rattle.stamp_watch.specs.Foretold.{open_at, MayGet, ComesAsTold}
+use Rattle.stamp_watch.specs.inner.Foretold.{IsReturn}
 use Rattle.stamp_watch.specs.Watch.{HasPhase, IsInEffect, StandsFor, IsPossible, MayGoOn, OneGoesOn}
 use Rattle.stamp_watch.specs.inner.Lanes.{SetsBit, lanes_in}
 use Rattle.stamp_watch.specs.inner.Effect.{Follows}

@@ -24,9 +24,12 @@ use Rattle.stamp_watch.specs.Foretold.{open_at}
 use Rattle.stamp_watch.specs.Form.{is_busy_then, is_busy_after}
 use Rattle.stamp_watch.specs.Run.{AreExplained}
 use Rattle.stamp_watch.specs.Verdict.{AreOfLock, AreTooMany, IsVerdict}
-use Rattle.stamp_watch.specs.inner.Judging.{ends_as, IsBase, IsEndTold, IsFound, IsJudging, IsOutcome, IsStep}
-use Rattle.stamp_watch.specs.inner.Judging.{AreBusyLanes, IsStuckBehind, IsStuckFrom, MayComeIn}
-use Rattle.stamp_watch.specs.inner.Course.{AreEnded, IsKnown, IsRest, IsRunOn, IsStanding, broken_off}
+use Rattle.stamp_watch.specs.Judging.{ends_as, IsFound, IsJudging}
+use Rattle.stamp_watch.specs.inner.Judging.{IsBase, IsEndTold, IsOutcome, IsStep}
+use Rattle.stamp_watch.specs.Judging.{AreBusyLanes}
+use Rattle.stamp_watch.specs.inner.Judging.{IsStuckBehind, IsStuckFrom, MayComeIn}
+use Rattle.stamp_watch.specs.Course.{AreEnded, IsRunOn, IsStanding}
+use Rattle.stamp_watch.specs.inner.Course.{IsKnown, IsRest, broken_off}
 use Rattle.stamp_watch.specs.declared.judge.Outcome.TheVariants as judged
 use Rattle.stamp_watch.specs.declared.verdict.Verdict.{Verdict}
 use Rattle.stamp_watch.specs.declared.verdict.Verdict.TheVariants as verdict

@@ -28,7 +28,8 @@ use Rattle.stamp_watch.specs.LockCall.{call_as}
 use Rattle.stamp_watch.specs.Run.{Configuration, opening, AreExplained}
 use Rattle.stamp_watch.specs.Run.Phase.{Idle, Asks}
 use Rattle.stamp_watch.specs.Run.Leads.{leads_nowhere, by_beginning, by_withdrawal}
-use Rattle.stamp_watch.specs.Foretold.{open_at, HasEachOpen, IsReturn, MayGet, ComesAsTold}
+use Rattle.stamp_watch.specs.Foretold.{open_at, HasEachOpen, MayGet, ComesAsTold}
+use Rattle.stamp_watch.specs.inner.Foretold.{IsReturn}
 use Rattle.stamp_watch.specs.Watch.{HasPhase, StandsFor, IsPossible, MayGoOn, OneGoesOn, AreKept}
 use Rattle.stamp_watch.specs.Watch.{IsWatched, IsWatching, IsProgress, MoreArePossible}
 use Rattle.stamp_watch.specs.inner.Lanes.{SetsBit}

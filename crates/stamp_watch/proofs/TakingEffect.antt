@@ -23,7 +23,8 @@ use Rattle.stamp_watch.specs.LockCall.{call_as}
 use Rattle.stamp_watch.specs.Run.{Configuration, Lanes, Leads, LockStep, Sets, all_idle}
 use Rattle.stamp_watch.specs.Run.Phase.{Asks, Gets}
 use Rattle.stamp_watch.specs.Run.Leads.{leads_nowhere, by_effect}
-use Rattle.stamp_watch.specs.Foretold.{open_at, EndsSo, IsReturn, MayGet, ComesAsTold}
+use Rattle.stamp_watch.specs.Foretold.{open_at, EndsSo, MayGet, ComesAsTold}
+use Rattle.stamp_watch.specs.inner.Foretold.{IsReturn}
 use Rattle.stamp_watch.specs.Watch.{HasPhase, StandsFor, IsPossible, MayGoOn}
 use Rattle.stamp_watch.specs.inner.Lanes.{SetsBit}
 use Rattle.stamp_watch.specs.inner.Effect.{TakesEffectTo, IsEffect, IsUnchanging, Settles, IsFree}

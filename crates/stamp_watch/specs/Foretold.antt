@@ -28,12 +28,6 @@ EndsSo lane (Returns told place) events = Tells lane (reply_as told) events
 EndsSo lane Withdraws events = IsWithdrawn lane events
 EndsSo lane Never events = EndsNever lane events
 
--- it returns, with this reply
-abbrev pub IsReturn : Ending → Reply → Type 0
-IsReturn (Returns told place) reply = reply_as told ≡ reply
-IsReturn Withdraws reply = ⊥
-IsReturn Never reply = ⊥
-
 -- a call that ends so may be given this reply: the one with which it returns; none, if it is withdrawn; any, if it
 -- never ends
 abbrev pub MayGet : Ending → Reply → Type 0

@@ -5,8 +5,8 @@ use Rattle.stamp_watch.specs.declared.event.Event.{Event}
 use Rattle.stamp_watch.specs.declared.online.Judge.{Judge}
 use Rattle.stamp_watch.specs.declared.verdict.Verdict.{Verdict}
 use Rattle.stamp_watch.specs.Verdict.{AreOfLock}
-use Rattle.stamp_watch.specs.inner.Judging.{AreBusyLanes, IsFound}
-use Rattle.stamp_watch.specs.inner.Course.{HasRoom, IsCourse}
+use Rattle.stamp_watch.specs.Judging.{AreBusyLanes, IsFound}
+use Rattle.stamp_watch.specs.Course.{HasRoom, IsCourse}
 
 -- nothing was found of the run yet
 pub record IsUnderWay (limits : Bounds) (run : List Event) (judge : Judge) : Type 0 where

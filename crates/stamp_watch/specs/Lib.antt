@@ -3,6 +3,8 @@ pub mod LockCall
 pub mod Foretold
 pub mod Watch
 pub mod Verdict
+pub mod Judging
+pub mod Course
 pub mod Judge
 pub mod Run
 pub mod Ahead

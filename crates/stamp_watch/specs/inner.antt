@@ -5,3 +5,4 @@ pub mod Step
 pub mod Judging
 pub mod Course
 pub mod Stamps
+pub mod Foretold

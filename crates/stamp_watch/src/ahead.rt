@@ -3,7 +3,8 @@ ghost use Rattle.std.specs.Prelude.{◌≡◌, ◌+◌, ◌^◌, ◌<◌, length
 ghost use Rattle.std.specs.List.{All};
 ghost use Rattle.stamp_watch.specs.AsObserved.{ending_of};
 ghost use Rattle.stamp_watch.specs.Verdict.{IsOfLock};
-ghost use Rattle.stamp_watch.specs.inner.Judging.{ends_as, IsEndBy};
+ghost use Rattle.stamp_watch.specs.Judging.{ends_as};
+ghost use Rattle.stamp_watch.specs.inner.Judging.{IsEndBy};
 
 use crate::ending::Ending;
 use crate::event::Event;

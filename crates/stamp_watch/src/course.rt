@@ -3,7 +3,8 @@ ghost use Rattle.std.specs.Prelude.{◌≡◌, ◌+◌, ◌^◌, ◌<◌, ◌∷
 ghost use Rattle.stamp_core.specs.Limits.{Bounds};
 ghost use Rattle.stamp_watch.specs.declared.event.Event.{Event};
 ghost use Rattle.stamp_watch.specs.Verdict.{AreOfLock};
-ghost use Rattle.stamp_watch.specs.inner.Course.{HasGoneOn, HasRoom, IsCourse, IsKnown, IsOneLonger, IsOnCourse, IsOnward, IsRest};
+ghost use Rattle.stamp_watch.specs.Course.{HasRoom, IsCourse};
+ghost use Rattle.stamp_watch.specs.inner.Course.{HasGoneOn, IsKnown, IsOneLonger, IsOnCourse, IsOnward, IsRest};
 
 use crate::ending::Ending;
 use crate::event::Event;

@@ -1,7 +1,8 @@
 //! What is told ahead of the end of a call.
 ghost use Rattle.std.specs.Prelude.{◌≡◌, ◌↔◌, IsTrue};
 ghost use Rattle.stamp_core.specs.LockDecision.{reply_as};
-ghost use Rattle.stamp_watch.specs.Foretold.{IsReturn, MayGet};
+ghost use Rattle.stamp_watch.specs.Foretold.{MayGet};
+ghost use Rattle.stamp_watch.specs.inner.Foretold.{IsReturn};
 
 use stamp_core::{LockReply, Reply};
 

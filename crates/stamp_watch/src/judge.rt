@@ -5,7 +5,8 @@ ghost use Rattle.stamp_core.specs.Limits.{Bounds};
 ghost use Rattle.stamp_watch.specs.declared.event.Event.{Event};
 ghost use Rattle.stamp_watch.specs.Watch.{IsWatched};
 ghost use Rattle.stamp_watch.specs.Verdict.{IsOfLock, IsVerdict};
-ghost use Rattle.stamp_watch.specs.inner.Judging.{IsBase, IsEndTold, IsFound, IsJudging, IsJudgingOn, IsOutcome, IsStep, IsStuckBehind, IsStuckFrom};
+ghost use Rattle.stamp_watch.specs.Judging.{IsFound, IsJudging};
+ghost use Rattle.stamp_watch.specs.inner.Judging.{IsBase, IsEndTold, IsJudgingOn, IsOutcome, IsStep, IsStuckBehind, IsStuckFrom};
 
 use crate::ahead::end_ahead;
 use crate::ending::Ending;

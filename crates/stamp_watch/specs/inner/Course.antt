@@ -1,5 +1,5 @@
--- What is kept of a run while it is judged, event by event.
-use Rattle.std.specs.Prelude.{ℕ, ◌≡◌, ◌≢◌, ◌+◌, ◌^◌, ◌<◌, ◌≤◌, ◌⊎◌, ◌++◌, true, List, length, take, drop}
+-- What comes of one more event of a run that is judged.
+use Rattle.std.specs.Prelude.{ℕ, ◌≡◌, ◌≢◌, ◌+◌, List, length}
 use Rattle.std.specs.Prelude.{Option, Some, None}
 use Rattle.stamp_core.specs.Limits.{Bounds}
 use Rattle.stamp_watch.specs.declared.event.Event.{Event}
@@ -11,22 +11,10 @@ use Rattle.stamp_watch.specs.declared.verdict.Verdict.TheVariants as verdict
 use Rattle.stamp_watch.specs.declared.course.Course.{Course}
 use Rattle.stamp_watch.specs.declared.course.Onward.{Onward}
 use Rattle.stamp_watch.specs.declared.course.Onward.TheVariants.{Waits, Steps, Finds}
-use Rattle.stamp_watch.specs.declared.watch.Watch.{Watch}
-use Rattle.stamp_watch.specs.AsObserved.{ending_of}
-use Rattle.stamp_watch.specs.AsObserved.Ending.{StaysOpen}
-use Rattle.stamp_watch.specs.Form.{is_busy_after}
 use Rattle.stamp_watch.specs.Run.{AreExplained}
 use Rattle.stamp_watch.specs.Verdict.{AreOfLock}
-use Rattle.stamp_watch.specs.inner.Judging.{IsFound, IsJudging}
-
--- the open calls of a run end among the events that come; the first of these has this number
-pub record AreEnded (n : ℕ) (past future : List Event) : Type 0 where
-  pub ends : (lane : ℕ) → is_busy_after past lane ≡ true → ending_of lane n future ≢ StaysOpen
-
--- a watch judges a run, whatever comes behind these events
-pub record IsStanding (limits : Bounds) (n : ℕ) (past future : List Event) (watch : Watch) : Type 0 where
-  pub judging : IsJudging limits n past future watch
-  pub ended : AreEnded n past future
+use Rattle.stamp_watch.specs.Judging.{IsFound}
+use Rattle.stamp_watch.specs.Course.{IsCourse}
 
 -- how the call ends that begins by the event is known
 abbrev pub IsKnown : Event → Ending → Type 0
@@ -34,32 +22,11 @@ IsKnown (event.Begins lane call) ends = ends ≢ Never
 IsKnown (event.Returns lane reply) ends = Unit {0}
 IsKnown (event.Withdraws lane) ends = Unit {0}
 
--- a run so far: the events before the one with the first number, and these; a watch stands behind those before, and
--- another behind so many of these as well
-pub record IsRunOn (limits : Bounds) (run : List Event) (first seen : ℕ) (events : List Event) (base watch : Watch) :
-    Type 0 where
-  pub past : List Event
-  pub run_is : run ≡ past ++ events
-  pub place : first ≡ length past
-  pub whole : AreOfLock (past ++ events)
-  pub within : seen ≤ length events
-  pub from_base : IsStanding limits first past (take seen events) base
-  pub now : IsStanding limits (first + seen) (past ++ take seen events) (drop seen events) watch
-
--- the course of this run
-abbrev pub IsCourse : Bounds → List Event → Course → Type 0
-IsCourse limits run course =
-    IsRunOn limits run course.first course.seen course.events.items course.base course.watch
-
 -- it is that of some run
 pub record IsOnCourse (course : Course) : Type 0 where
   pub limits : Bounds
   pub run : List Event
   pub course_of : IsCourse limits run course
-
--- its events can be numbered
-pub record HasRoom (course : Course) : Type 0 where
-  pub room : course.first + length course.events.items < 2 ^ 64
 
 -- it has one event more
 pub record IsOneLonger (old new : Course) : Type 0 where

@@ -10,7 +10,8 @@ use Rattle.stamp_watch.specs.declared.event.Event.{Event}
 use Rattle.stamp_watch.specs.declared.event.Event.TheVariants.{Returns}
 use Rattle.stamp_watch.specs.declared.open_call.OpenCall.{OpenCall}
 use Rattle.stamp_watch.specs.declared.position.Position.{Position}
-use Rattle.stamp_watch.specs.Foretold.{open_at, IsReturn, ComesAsTold}
+use Rattle.stamp_watch.specs.Foretold.{open_at, ComesAsTold}
+use Rattle.stamp_watch.specs.inner.Foretold.{IsReturn}
 use Rattle.stamp_watch.specs.Watch.{IsPossible, OneGoesOn}
 use Rattle.stamp_watch.specs.inner.Lanes.{SetsBit, lanes_in}
 use Rattle.stamp_watch.specs.inner.Effect.{EffectGoesOn, Follows, GivesWay}

@@ -6,7 +6,8 @@ use Rattle.std.proofs.lemmas.List.Elements.{All-drop}
 use Rattle.stamp_core.specs.Limits.{Bounds}
 use Rattle.stamp_watch.specs.declared.event.Event.{Event}
 use Rattle.stamp_watch.specs.Verdict.{IsOfLock}
-use Rattle.stamp_watch.specs.inner.Judging.{IsEndTold, IsJudging, IsStep}
+use Rattle.stamp_watch.specs.Judging.{IsJudging}
+use Rattle.stamp_watch.specs.inner.Judging.{IsEndTold, IsStep}
 use Rattle.stamp_watch.proofs.Forming.{rest_of_lock}
 use Rattle.stamp_watch.proofs.Judged.{judging_start, judging_here, judging_more, unexplained_here, too_many_here}
 use Rattle.stamp_watch.proofs.Judged.{never_refused, all_explained}

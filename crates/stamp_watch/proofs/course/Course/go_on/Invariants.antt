@@ -1,7 +1,8 @@
 use Rattle.std.proofs.Common.{List}
 use Rattle.stamp_core.specs.Limits.{Bounds}
 use Rattle.stamp_watch.specs.declared.event.Event.{Event}
-use Rattle.stamp_watch.specs.inner.Course.{IsCourse, IsSamePart}
+use Rattle.stamp_watch.specs.Course.{IsCourse}
+use Rattle.stamp_watch.specs.inner.Course.{IsSamePart}
 use Rattle.stamp_watch.proofs.course.Course.go_on.Given as goal
 
 abbrev pub invariant-loop : goal.invariant-loop

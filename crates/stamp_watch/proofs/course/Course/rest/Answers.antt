@@ -4,8 +4,9 @@ use Rattle.std.proofs.lemmas.List.{take_rest}
 use Rattle.std.proofs.lemmas.Result.{IfOk-weaker}
 use Rattle.stamp_core.specs.Limits.{Bounds}
 use Rattle.stamp_watch.specs.declared.event.Event.{Event}
-use Rattle.stamp_watch.specs.inner.Judging.{IsJudging, IsOutcome}
-use Rattle.stamp_watch.specs.inner.Course.{IsCourse}
+use Rattle.stamp_watch.specs.Judging.{IsJudging}
+use Rattle.stamp_watch.specs.inner.Judging.{IsOutcome}
+use Rattle.stamp_watch.specs.Course.{IsCourse}
 use Rattle.stamp_watch.proofs.Judging.{judging_copied}
 use Rattle.stamp_watch.proofs.Running.{rest_explained, rest_stuck, rest_undecided, rest_within, rest_found, run_finds}
 use Rattle.stamp_watch.proofs.Running.{run_stuck_from}

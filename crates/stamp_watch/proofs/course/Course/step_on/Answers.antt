@@ -7,7 +7,7 @@ use Rattle.stamp_core.specs.Limits.{Bounds}
 use Rattle.stamp_watch.specs.declared.event.Event.{Event}
 use Rattle.stamp_watch.specs.Verdict.{IsOfLock}
 use Rattle.stamp_watch.specs.inner.Judging.{IsEndTold, IsStep}
-use Rattle.stamp_watch.specs.inner.Course.{IsCourse}
+use Rattle.stamp_watch.specs.Course.{IsCourse}
 use Rattle.stamp_watch.proofs.Forming.{rest_of_lock}
 use Rattle.stamp_watch.proofs.Running.{run_here, run_steps, run_dead, run_too_many, run_stuck_from, run_finds}
 use Rattle.stamp_watch.proofs.course.Course.step_on.Goals as goal

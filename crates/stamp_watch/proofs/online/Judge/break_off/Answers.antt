@@ -1,6 +1,6 @@
 use Rattle.std.proofs.Common.{[], ◌∷◌, ◌++◌, refl, sym, subst}
 use Rattle.stamp_watch.specs.declared.verdict.Verdict.{Verdict}
-use Rattle.stamp_watch.specs.inner.Judging.{IsFound}
+use Rattle.stamp_watch.specs.Judging.{IsFound}
 use Rattle.stamp_watch.proofs.GoingOn.{found_broken, judge_broken}
 use Rattle.stamp_watch.proofs.online.Judge.break_off.Goals as goal
 
