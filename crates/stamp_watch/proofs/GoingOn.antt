@@ -35,7 +35,7 @@ judge_first limits most judge same free none course_of = record {
         room = record {
           room = let long : judge.course.first + length judge.course.events.items ≡ 0 =
               run_long limits [] judge.course.first judge.course.seen judge.course.events.items judge.course.base
-              judge.course.watch course_of in omega (arith, long);
+              judge.course.watch course_of.on in omega (arith, long);
         };
       });
 }
@@ -65,7 +65,7 @@ module _ (limits : Bounds) (most : ℕ) (run : List Event) (e : Event) (old : Ju
       under_way = way_of limits most run old is none
 
       whole_before : AreOfLock run
-      whole_before = subst AreOfLock (sym under_way.course_of.run_is) under_way.course_of.whole
+      whole_before = subst AreOfLock (sym under_way.course_of.on.run_is) under_way.course_of.on.whole
 
       -- the event may come there
       module _ (busy : ℕ) (may : MayComeIn old.busy e) (sets : SetsBusy old.busy e busy) (then_course : Course)
@@ -95,12 +95,12 @@ module _ (limits : Bounds) (most : ℕ) (run : List Event) (e : Event) (old : Ju
                   (λ (v : Verdict). IsFound limits (run ++ e ∷ []) most v)
               by None gone_on = record {
                 course_of = subst (λ (c : Course). IsCourse limits (run ++ e ∷ []) c) (sym course_is)
-                    (gone_on.1 limits (run ++ e ∷ []) then_of);
+                    (gone_on.courses limits (run ++ e ∷ []) then_of);
                 lanes = subst (AreBusyLanes (run ++ e ∷ [])) (sym busy_is)
                     (busy_lanes_then run old.busy busy e under_way.lanes sets);
                 room = subst HasRoom (sym course_is) (record {
-                  room = subst (λ (n : ℕ). n + length new_course.events.items < 2 ^ 64) (sym gone_on.0.first)
-                      (subst (λ (xs : List Event). then_course.first + length xs < 2 ^ 64) (sym gone_on.0.events)
+                  room = subst (λ (n : ℕ). n + length new_course.events.items < 2 ^ 64) (sym gone_on.first)
+                      (subst (λ (xs : List Event). then_course.first + length xs < 2 ^ 64) (sym gone_on.events)
                       space.room);
                 });
               }
@@ -113,7 +113,7 @@ module _ (limits : Bounds) (most : ℕ) (run : List Event) (e : Event) (old : Ju
           IsFound limits (run ++ e ∷ []) most (broken_off rest number)
       found_broken number rest at not_there ends = broken_found limits run most old.busy number e
           (at ∙ run_long limits run old.course.first old.course.seen old.course.events.items old.course.base
-          old.course.watch under_way.course_of) under_way.lanes not_there rest
+          old.course.watch under_way.course_of.on) under_way.lanes not_there rest
           (subst (λ (m : ℕ). IsRest limits run m rest) is.most_is (ends limits run under_way.course_of))
 
       pub judge_broken : (new : Judge) (v : Verdict) → new.most ≡ old.most → new.found ≡ Some v →

@@ -108,7 +108,7 @@ withdrawn_here lane events ends is = subst (λ (e : Ending). EndsSo lane e (even
     (sym (withdraws_so ends is)) withdrawn_next
 
 -- a call ends as its entry tells
-ends_so : (lane n : ℕ) (events : List Event) (ends : Ending) → ends_as ends ≡ ending_of lane n events →
+pub ends_so : (lane n : ℕ) (events : List Event) (ends : Ending) → ends_as ends ≡ ending_of lane n events →
     EndsSo lane ends events
 ends_so lane n [] (Returns told place) is = absurd (open_or_ended (sym is))
 ends_so lane n [] Withdraws is = absurd (withdrawn_or_open is)

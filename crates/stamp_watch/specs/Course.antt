@@ -1,9 +1,11 @@
 -- What is kept of a run while it is judged, event by event.
-use Rattle.std.specs.Prelude.{ℕ, ◌≡◌, ◌≢◌, ◌+◌, ◌^◌, ◌<◌, ◌≤◌, ◌++◌, true, List, length, take, drop}
+use Rattle.std.specs.Prelude.{ℕ, ◌≡◌, ◌≢◌, ◌+◌, ◌^◌, ◌<◌, ◌≤◌, ◌++◌, true, List, [], ◌∷◌, length, take, drop}
 use Rattle.stamp_core.specs.Limits.{Bounds}
 use Rattle.stamp_watch.specs.declared.event.Event.{Event}
+use Rattle.stamp_watch.specs.declared.event.Event.TheVariants.{Begins, Returns, Withdraws}
 use Rattle.stamp_watch.specs.declared.course.Course.{Course}
 use Rattle.stamp_watch.specs.declared.watch.Watch.{Watch}
+use Rattle.stamp_watch.specs.Ahead.{EndsNever}
 use Rattle.stamp_watch.specs.AsObserved.{ending_of}
 use Rattle.stamp_watch.specs.AsObserved.Ending.{StaysOpen}
 use Rattle.stamp_watch.specs.Form.{is_busy_after}
@@ -31,10 +33,21 @@ pub record IsRunOn (limits : Bounds) (run : List Event) (first seen : ℕ) (even
   pub from_base : IsStanding limits first past (take seen events) base
   pub now : IsStanding limits (first + seen) (past ++ take seen events) (drop seen events) watch
 
+-- none of these events ends the call that begins by the event
+abbrev pub LeavesOpen : Event → List Event → Type 0
+LeavesOpen (Begins lane call) events = EndsNever lane events
+LeavesOpen (Returns lane reply) events = Unit {0}
+LeavesOpen (Withdraws lane) events = Unit {0}
+
+-- none of so many events behind the first of these ends its call
+abbrev pub IsLooked : ℕ → List Event → Type 0
+IsLooked looked [] = looked ≡ 0
+IsLooked looked (event ∷ events) = (looked ≤ length events) × LeavesOpen event (take looked events)
+
 -- the course of this run
-abbrev pub IsCourse : Bounds → List Event → Course → Type 0
-IsCourse limits run course =
-    IsRunOn limits run course.first course.seen course.events.items course.base course.watch
+pub record IsCourse (limits : Bounds) (run : List Event) (course : Course) : Type 0 where
+  pub on : IsRunOn limits run course.first course.seen course.events.items course.base course.watch
+  pub looked : IsLooked course.looked (drop course.seen course.events.items)
 
 -- its events can be numbered
 pub record HasRoom (course : Course) : Type 0 where

@@ -1,10 +1,10 @@
 //! The part of a run that is kept while it is judged.
-ghost use Rattle.std.specs.Prelude.{◌≡◌, ◌+◌, ◌^◌, ◌<◌, ◌∷◌, ◌++◌, [], IfOk, OnOk, IsTrue, List, length};
+ghost use Rattle.std.specs.Prelude.{◌≡◌, ◌+◌, ◌^◌, ◌<◌, ◌∷◌, ◌++◌, [], IfOk, OnOk, IsTrue, List, false, length};
 ghost use Rattle.stamp_core.specs.Limits.{Bounds};
 ghost use Rattle.stamp_watch.specs.declared.event.Event.{Event};
 ghost use Rattle.stamp_watch.specs.Verdict.{AreOfLock};
 ghost use Rattle.stamp_watch.specs.Course.{HasRoom, IsCourse};
-ghost use Rattle.stamp_watch.specs.inner.Course.{HasGoneOn, IsKnown, IsOneLonger, IsOnCourse, IsOnward, IsRest};
+ghost use Rattle.stamp_watch.specs.inner.Course.{HasGoneOn, IsEndAtFront, IsFront, IsKnown, IsOneLonger, IsOnCourse, IsOnward, IsRest, IsUnknown};
 
 use crate::ending::Ending;
 use crate::event::Event;
@@ -27,6 +27,8 @@ pub(crate) struct Course {
     pub(crate) events: Vec<Event>,
     pub(crate) watch: Watch,
     pub(crate) seen: usize,
+    /// So many events behind the first one that was not seen are known not to end its call.
+    pub(crate) looked: usize,
 }
 
 /// What comes of a step.
@@ -42,7 +44,8 @@ pub(crate) enum Onward {
 
 /// Whether it is known how the call ends that begins by this event. Other events are known.
 fn is_known(event: &Event, ends: Ending) -> bool
-    ensures { IsTrue result → IsKnown event.now ends }
+    ensures known { IsTrue result → IsKnown event.now ends }
+    ensures unknown { result ≡ false → IsUnknown event.now ends }
 {
     match event {
         Event::Begins(_, _) => !matches!(ends, Ending::Never),
@@ -64,6 +67,7 @@ impl Course {
             events,
             watch,
             seen: 0,
+            looked: 0,
         })
     }
 
@@ -85,26 +89,33 @@ impl Course {
         Ok(())
     }
 
-    /// Sees one more event, if how its call ends is known.
-    pub(crate) fn step_on(&mut self, most: u64) -> Result<Onward, AllocError>
+    /// How the call ends that begins by this event, at the front, as far as is known.
+    fn end_at_front(&self, event: &Event) -> Ending
+        requires on { IsOnCourse self.now }
+        requires room { HasRoom self.now }
+        requires front { IsFront self.now event.now }
+        ensures { IsEndAtFront self.now event.now result }
+    {
+        let from = self.seen + 1 + self.looked;
+        let events = self.events.as_slice();
+        end_told(event, &events[from..], self.first + from as u64)
+    }
+
+    /// Sees this event, at the front, whose call ends so.
+    fn see(&mut self, event: &Event, ends: Ending, most: u64) -> Result<Onward, AllocError>
         requires on { IsOnCourse self.old }
         requires room { HasRoom self.old }
+        requires front { IsFront self.old event.now }
+        requires told { IsEndAtFront self.old event.now ends }
+        requires known { IsKnown event.now ends }
         ensures { IfOk result (λ onward. IsOnward most self.old self.new onward) }
     {
-        if self.seen >= self.events.len() {
-            return Ok(Onward::Waits);
-        }
-        let events = self.events.as_slice();
-        let event = events[self.seen];
         let number = self.first + self.seen as u64;
-        let ends = end_told(&event, &events[self.seen + 1..], number + 1);
-        if !is_known(&event, ends) {
-            return Ok(Onward::Waits);
-        }
-        let progress = step(&mut self.watch, &event, ends, most)?;
+        let progress = step(&mut self.watch, event, ends, most)?;
         match progress {
             Progress::Going => {
                 self.seen += 1;
+                self.looked = 0;
                 Ok(Onward::Steps)
             }
             Progress::Dead => {
@@ -120,6 +131,25 @@ impl Course {
             Progress::TooMany => Ok(Onward::Finds(Verdict::Undecided(number))),
             Progress::Refused => unreachable!(),
         }
+    }
+
+    /// Sees one more event, if how its call ends is known.
+    pub(crate) fn step_on(&mut self, most: u64) -> Result<Onward, AllocError>
+        requires on { IsOnCourse self.old }
+        requires room { HasRoom self.old }
+        ensures { IfOk result (λ onward. IsOnward most self.old self.new onward) }
+    {
+        if self.seen >= self.events.len() {
+            return Ok(Onward::Waits);
+        }
+        let events = self.events.as_slice();
+        let event = events[self.seen];
+        let ends = self.end_at_front(&event);
+        if !is_known(&event, ends) {
+            self.looked = self.events.len() - self.seen - 1;
+            return Ok(Onward::Waits);
+        }
+        self.see(&event, ends, most)
     }
 
     /// Sees event after event, as far as it is known how their calls end: what is found of the run then, if anything

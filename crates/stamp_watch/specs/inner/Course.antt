@@ -1,5 +1,5 @@
 -- What comes of one more event of a run that is judged.
-use Rattle.std.specs.Prelude.{ℕ, ◌≡◌, ◌≢◌, ◌+◌, List, length}
+use Rattle.std.specs.Prelude.{ℕ, ◌≡◌, ◌≢◌, ◌+◌, ◌<◌, List, length, drop, slice_index_or}
 use Rattle.std.specs.Prelude.{Option, Some, None}
 use Rattle.stamp_core.specs.Limits.{Bounds}
 use Rattle.stamp_watch.specs.declared.event.Event.{Event}
@@ -15,12 +15,28 @@ use Rattle.stamp_watch.specs.Run.{AreExplained}
 use Rattle.stamp_watch.specs.Verdict.{AreOfLock}
 use Rattle.stamp_watch.specs.Judging.{IsFound}
 use Rattle.stamp_watch.specs.Course.{IsCourse}
+use Rattle.stamp_watch.specs.inner.Judging.{IsEndTold}
 
 -- how the call ends that begins by the event is known
 abbrev pub IsKnown : Event → Ending → Type 0
 IsKnown (event.Begins lane call) ends = ends ≢ Never
 IsKnown (event.Returns lane reply) ends = Unit {0}
 IsKnown (event.Withdraws lane) ends = Unit {0}
+
+-- it is not
+abbrev pub IsUnknown : Event → Ending → Type 0
+IsUnknown (event.Begins lane call) ends = ends ≡ Never
+IsUnknown (event.Returns lane reply) ends = ⊥
+IsUnknown (event.Withdraws lane) ends = ⊥
+
+-- the event is the first that was not seen
+pub record IsFront (course : Course) (e : Event) : Type 0 where
+  pub less : course.seen < length course.events.items
+  pub read : e ≡ slice_index_or course.events.items course.seen e
+
+-- the call that begins by this event, at the front, ends so
+pub record IsEndAtFront (course : Course) (e : Event) (ends : Ending) : Type 0 where
+  pub told : IsEndTold e (course.first + course.seen + 1) (drop (course.seen + 1) course.events.items) ends
 
 -- it is that of some run
 pub record IsOnCourse (course : Course) : Type 0 where
@@ -33,25 +49,27 @@ pub record IsOneLonger (old new : Course) : Type 0 where
   pub first : new.first ≡ old.first
   pub longer : length new.events.items ≡ length old.events.items + 1
 
--- the same part of a run
+-- the same part of a run, gone on with
 pub record IsSamePart (old new : Course) : Type 0 where
   pub first : new.first ≡ old.first
   pub events : new.events.items ≡ old.events.items
+  pub courses : (limits : Bounds) (run : List Event) → IsCourse limits run old → IsCourse limits run new
+
+-- this is found of a run, whatever comes later
+abbrev pub IsFoundOn : ℕ → Course → Verdict → Type 0
+IsFoundOn most course verdict = (limits : Bounds) (run : List Event) → IsCourse limits run course →
+    IsFound limits run most verdict
 
 -- what comes of a step
 abbrev pub IsOnward : ℕ → Course → Course → Onward → Type 0
-IsOnward most old new Waits = new ≡ old
-IsOnward most old new Steps = IsSamePart old new × ((limits : Bounds) (run : List Event) → IsCourse limits run old →
-    IsCourse limits run new)
-IsOnward most old new (Finds verdict) = (limits : Bounds) (run : List Event) → IsCourse limits run old →
-    IsFound limits run most verdict
+IsOnward most old new Waits = IsSamePart old new
+IsOnward most old new Steps = IsSamePart old new
+IsOnward most old new (Finds verdict) = IsFoundOn most old verdict
 
 -- what comes of several
 abbrev pub HasGoneOn : ℕ → Course → Course → Option Verdict → Type 0
-HasGoneOn most old new None = IsSamePart old new × ((limits : Bounds) (run : List Event) → IsCourse limits run old →
-    IsCourse limits run new)
-HasGoneOn most old new (Some verdict) = (limits : Bounds) (run : List Event) → IsCourse limits run old →
-    IsFound limits run most verdict
+HasGoneOn most old new None = IsSamePart old new
+HasGoneOn most old new (Some verdict) = IsFoundOn most old verdict
 
 -- what is found of a run that ends here; what is not explained is found whatever comes later
 abbrev pub IsRest : Bounds → List Event → ℕ → Verdict → Type 0

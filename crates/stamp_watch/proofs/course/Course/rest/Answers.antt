@@ -19,15 +19,15 @@ unseen : (c : In_ok-outcome) → take (length c.as_slice-events.result.now - c.a
 unseen c = take_rest c.as_slice-events.result.now c.args.self.now.seen ∙ ap (drop c.args.self.now.seen) c.as_slice-events.ensures.value
 
 outcome_here : (c : In_ok-outcome) (limits : Bounds) (run : List Event) (is : IsCourse limits run c.args.self.now) →
-    IsOutcome limits (is.past ++ take c.args.self.now.seen c.args.self.now.events.items) (drop c.args.self.now.seen c.args.self.now.events.items) c.args.most
+    IsOutcome limits (is.on.past ++ take c.args.self.now.seen c.args.self.now.events.items) (drop c.args.self.now.seen c.args.self.now.events.items) c.args.most
     c.in_ok-outcome.outcome
 outcome_here c limits run is = subst (λ (xs : List Event). IsOutcome limits
-    (is.past ++ take c.args.self.now.seen c.args.self.now.events.items) xs c.args.most c.in_ok-outcome.outcome) (unseen c)
-    (c.in_ok-outcome.ensures limits (is.past ++ take c.args.self.now.seen c.args.self.now.events.items)
+    (is.on.past ++ take c.args.self.now.seen c.args.self.now.events.items) xs c.args.most c.in_ok-outcome.outcome) (unseen c)
+    (c.in_ok-outcome.ensures limits (is.on.past ++ take c.args.self.now.seen c.args.self.now.events.items)
     (subst (λ (xs : List Event). IsJudging limits (c.args.self.now.first + c.args.self.now.seen)
-    (is.past ++ take c.args.self.now.seen c.args.self.now.events.items) xs c.in_ok-start.start) (sym (unseen c))
-    (judging_copied limits (c.args.self.now.first + c.args.self.now.seen) (is.past ++ take c.args.self.now.seen c.args.self.now.events.items)
-    (drop c.args.self.now.seen c.args.self.now.events.items) c.args.self.now.watch c.in_ok-start.start c.in_ok-start.ensures is.now.judging)))
+    (is.on.past ++ take c.args.self.now.seen c.args.self.now.events.items) xs c.in_ok-start.start) (sym (unseen c))
+    (judging_copied limits (c.args.self.now.first + c.args.self.now.seen) (is.on.past ++ take c.args.self.now.seen c.args.self.now.events.items)
+    (drop c.args.self.now.seen c.args.self.now.events.items) c.args.self.now.watch c.in_ok-start.start c.in_ok-start.ensures is.on.now.judging)))
 
 pub overflow_add-explained : goal.overflow_add-explained
 overflow_add-explained c =
@@ -36,7 +36,7 @@ overflow_add-explained c =
     let outcome = rw c.in-Unexplained.is at (outcome_here at on.limits on.run on.course_of) in
     let below : c.args.self.now.seen + c.in-Unexplained.k < length c.args.self.now.events.items =
     rest_within on.limits on.run c.args.self.now.first c.args.self.now.seen c.args.self.now.events.items
-    c.args.self.now.base c.args.self.now.watch on.course_of c.in-Unexplained.k outcome.0 in
+    c.args.self.now.base c.args.self.now.watch on.course_of.on c.in-Unexplained.k outcome.0 in
     omega (arith, below, c.requires.room.room)
 
 pub find_stuck-requires-clause-within : goal.find_stuck-requires-clause-within
@@ -46,17 +46,17 @@ find_stuck-requires-clause-within c =
     let outcome = rw c.in-Unexplained.is at (outcome_here at on.limits on.run on.course_of) in
     subst (λ (xs : List Event). c.args.self.now.seen + c.in-Unexplained.k < length xs) (sym c.as_slice.ensures.value)
     (rest_within on.limits on.run c.args.self.now.first c.args.self.now.seen c.args.self.now.events.items
-    c.args.self.now.base c.args.self.now.watch on.course_of c.in-Unexplained.k outcome.0)
+    c.args.self.now.base c.args.self.now.watch on.course_of.on c.in-Unexplained.k outcome.0)
 
 pub find_stuck-requires-clause-stuck : goal.find_stuck-requires-clause-stuck
 find_stuck-requires-clause-stuck c =
     let at = (goal.at.find_stuck-requires-clause-stuck c).In_ok-outcome in
     let on = c.requires.on in
     run_stuck_from on.limits on.run c.args.self.now.first c.args.self.now.seen c.args.self.now.events.items
-    c.args.self.now.base c.args.self.now.watch on.course_of
+    c.args.self.now.base c.args.self.now.watch on.course_of.on
     (c.args.self.now.seen + c.in-Unexplained.k) c.as_slice.result.now c.as_slice.ensures.value (omega arith)
     (rest_stuck on.limits on.run c.args.self.now.first c.args.self.now.seen c.args.self.now.events.items
-    c.args.self.now.base c.args.self.now.watch on.course_of c.args.most c.in-Unexplained.k
+    c.args.self.now.base c.args.self.now.watch on.course_of.on c.args.most c.in-Unexplained.k
     (rw c.in-Unexplained.is at (outcome_here at on.limits on.run on.course_of)))
 
 pub overflow_add-result : goal.overflow_add-result
@@ -66,14 +66,14 @@ overflow_add-result c =
     let outcome = rw c.in-TooMany.is at (outcome_here at on.limits on.run on.course_of) in
     let below : c.args.self.now.seen + c.in-TooMany.k < length c.args.self.now.events.items =
     rest_within on.limits on.run c.args.self.now.first c.args.self.now.seen c.args.self.now.events.items
-    c.args.self.now.base c.args.self.now.watch on.course_of c.in-TooMany.k outcome.0 in
+    c.args.self.now.base c.args.self.now.watch on.course_of.on c.in-TooMany.k outcome.0 in
     omega (arith, below, c.requires.room.room)
 
 pub returns-in-Explained : goal.returns-in-Explained
 returns-in-Explained c limits run is =
     let at = (goal.at.returns-in-Explained c).In_ok-outcome in
     rest_explained limits run c.args.self.now.first c.args.self.now.seen c.args.self.now.events.items
-    c.args.self.now.base c.args.self.now.watch is c.args.most
+    c.args.self.now.base c.args.self.now.watch is.on c.args.most
     (rw c.in-Explained.is at (outcome_here at limits run is))
 
 pub returns-in-Unexplained : goal.returns-in-Unexplained
@@ -81,15 +81,15 @@ returns-in-Unexplained c =
     let at = (goal.at.returns-in-Unexplained c).In_ok-outcome in
     IfOk-weaker c.find_stuck.result _ _
     (λ verdict found limits run is. rest_found limits run c.args.most verdict (run_finds limits run c.args.self.now.first c.args.self.now.seen c.args.self.now.events.items
-    c.args.self.now.base c.args.self.now.watch is
+    c.args.self.now.base c.args.self.now.watch is.on
     (c.args.self.now.seen + c.in-Unexplained.k) c.args.most c.as_slice.result.now verdict c.as_slice.ensures.value (omega arith)
     (rest_stuck limits run c.args.self.now.first c.args.self.now.seen c.args.self.now.events.items
-    c.args.self.now.base c.args.self.now.watch is c.args.most c.in-Unexplained.k
+    c.args.self.now.base c.args.self.now.watch is.on c.args.most c.in-Unexplained.k
     (rw c.in-Unexplained.is at (outcome_here at limits run is))) found)) c.find_stuck.ensures
 
 pub returns-in-TooMany : goal.returns-in-TooMany
 returns-in-TooMany c limits run is =
     let at = (goal.at.returns-in-TooMany c).In_ok-outcome in
     rest_undecided limits run c.args.self.now.first c.args.self.now.seen c.args.self.now.events.items
-    c.args.self.now.base c.args.self.now.watch is c.args.most c.in-TooMany.k
+    c.args.self.now.base c.args.self.now.watch is.on c.args.most c.in-TooMany.k
     (rw c.in-TooMany.is at (outcome_here at limits run is))
