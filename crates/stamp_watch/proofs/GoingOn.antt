@@ -17,6 +17,7 @@ use Rattle.stamp_watch.specs.Course.{HasRoom, IsCourse, IsRunOn}
 use Rattle.stamp_watch.specs.inner.Course.{HasGoneOn, IsOneLonger, IsRest, broken_off}
 use Rattle.stamp_watch.proofs.Forming.{busy_lanes_then, form_first, of_lock_on}
 use Rattle.stamp_watch.proofs.Running.{broken_found, found_later}
+use Rattle.stamp_watch.proofs.SameRuns.{room_still}
 
 -- how many events a run has
 pub run_long : (limits : Bounds) (run : List Event) (first seen : ℕ) (events : List Event) (base watch : Watch) →
@@ -98,11 +99,7 @@ module _ (limits : Bounds) (most : ℕ) (run : List Event) (e : Event) (old : Ju
                     (gone_on.courses limits (run ++ e ∷ []) then_of);
                 lanes = subst (AreBusyLanes (run ++ e ∷ [])) (sym busy_is)
                     (busy_lanes_then run old.busy busy e under_way.lanes sets);
-                room = subst HasRoom (sym course_is) (record {
-                  room = subst (λ (n : ℕ). n + length new_course.events.items < 2 ^ 64) (sym gone_on.first)
-                      (subst (λ (xs : List Event). then_course.first + length xs < 2 ^ 64) (sym gone_on.events)
-                      space.room);
-                });
+                room = subst HasRoom (sym course_is) (room_still then_course new_course gone_on space);
               }
               by (Some v) found = subst (λ (m : ℕ). IsFound limits (run ++ e ∷ []) m v) is.most_is
                   (found limits (run ++ e ∷ []) then_of)

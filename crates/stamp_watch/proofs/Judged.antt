@@ -98,7 +98,7 @@ pub cut_behind : (n k : ℕ) (past events : List Event) → n ≡ length past �
     take (n + k) (past ++ events) ≡ past ++ take k events
 cut_behind n k past events at = ap (λ (m : ℕ). take (m + k) (past ++ events)) at ∙ take-append-add past events k
 
-length_behind : (n : ℕ) (past events : List Event) → n ≡ length past → length (past ++ events) ≡ n + length events
+pub length_behind : (n : ℕ) (past events : List Event) → n ≡ length past → length (past ++ events) ≡ n + length events
 length_behind n past events at =
     length-append past events ∙ ap (λ (m : ℕ). m + length events) (sym at)
 

@@ -18,7 +18,6 @@ use Rattle.stamp_watch.specs.declared.open_call.OpenCall.{OpenCall}
 use Rattle.stamp_watch.specs.declared.progress.Progress.{Progress}
 use Rattle.stamp_watch.specs.declared.progress.Progress.TheVariants as progress
 use Rattle.stamp_watch.specs.declared.watch.Watch.{Watch}
-use Rattle.stamp_watch.specs.declared.course.Course.{Course}
 use Rattle.stamp_watch.specs.AsObserved.{ending_of}
 use Rattle.stamp_watch.specs.AsObserved.Ending.{StaysOpen}
 use Rattle.stamp_watch.specs.Foretold.{open_at}
@@ -30,7 +29,7 @@ use Rattle.stamp_watch.specs.inner.Judging.{IsBase, IsEndTold, IsOutcome, IsStep
 use Rattle.stamp_watch.specs.Judging.{AreBusyLanes}
 use Rattle.stamp_watch.specs.inner.Judging.{IsStuckBehind, IsStuckFrom, MayComeIn}
 use Rattle.stamp_watch.specs.Course.{AreEnded, IsRunOn, IsStanding}
-use Rattle.stamp_watch.specs.inner.Course.{IsKnown, IsRest, IsSamePart, broken_off}
+use Rattle.stamp_watch.specs.inner.Course.{IsKnown, IsRest, broken_off}
 use Rattle.stamp_watch.specs.declared.judge.Outcome.TheVariants as judged
 use Rattle.stamp_watch.specs.declared.verdict.Verdict.{Verdict}
 use Rattle.stamp_watch.specs.declared.verdict.Verdict.TheVariants as verdict
@@ -162,14 +161,6 @@ ended_on n past (Withdraws v) ahead ends old told known = record {
     by lane busy (inr apart) open_still = old.ends lane
         (sym (ap (λ (b : Bool). not b && is_busy_after past lane) (ne_eqb v lane apart)) ∙ busy)
         (withdrawal_spares lane v n ahead apart ∙ open_still)
-
--- gone on with twice
-pub same_part_on : (old next new : Course) → IsSamePart old next → IsSamePart next new → IsSamePart old new
-same_part_on old next new before after = record {
-  first = after.first ∙ before.first;
-  events = after.events ∙ before.events;
-  courses = λ limits run is. after.courses limits run (before.courses limits run is);
-}
 
 -- before any event
 pub run_first : (limits : Bounds) (events : List Event) (base watch : Watch) → events ≡ [] → IsWatching [] base →

@@ -33,6 +33,11 @@ pub record IsRunOn (limits : Bounds) (run : List Event) (first seen : ℕ) (even
   pub from_base : IsStanding limits first past (take seen events) base
   pub now : IsStanding limits (first + seen) (past ++ take seen events) (drop seen events) watch
 
+-- a watch stands behind so many events of a run, and its open calls end among so many that come then
+pub record IsSpare (limits : Bounds) (run : List Event) (place reach : ℕ) (spare : Watch) : Type 0 where
+  pub within : place + reach ≤ length run
+  pub standing : IsStanding limits place (take place run) (take reach (drop place run)) spare
+
 -- none of these events ends the call that begins by the event
 abbrev pub LeavesOpen : Event → List Event → Type 0
 LeavesOpen (Begins lane call) events = EndsNever lane events
@@ -48,6 +53,7 @@ IsLooked looked (event ∷ events) = (looked ≤ length events) × LeavesOpen ev
 pub record IsCourse (limits : Bounds) (run : List Event) (course : Course) : Type 0 where
   pub on : IsRunOn limits run course.first course.seen course.events.items course.base course.watch
   pub looked : IsLooked course.looked (drop course.seen course.events.items)
+  pub spare_is : IsSpare limits run (course.first + course.place) course.reach course.spare
 
 -- its events can be numbered
 pub record HasRoom (course : Course) : Type 0 where

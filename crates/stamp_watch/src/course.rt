@@ -1,10 +1,10 @@
 //! The part of a run that is kept while it is judged.
-ghost use Rattle.std.specs.Prelude.{◌≡◌, ◌+◌, ◌^◌, ◌<◌, ◌∷◌, ◌++◌, [], IfOk, OnOk, IsTrue, List, false, length};
+ghost use Rattle.std.specs.Prelude.{◌≡◌, ◌+◌, ◌^◌, ◌<◌, ◌≤◌, ◌∷◌, ◌++◌, [], IfOk, OnOk, IsTrue, List, false, length};
 ghost use Rattle.stamp_core.specs.Limits.{Bounds};
 ghost use Rattle.stamp_watch.specs.declared.event.Event.{Event};
 ghost use Rattle.stamp_watch.specs.Verdict.{AreOfLock};
 ghost use Rattle.stamp_watch.specs.Course.{HasRoom, IsCourse};
-ghost use Rattle.stamp_watch.specs.inner.Course.{HasGoneOn, IsEndAtFront, IsFront, IsKnown, IsOneLonger, IsOnCourse, IsOnward, IsRest, IsUnknown};
+ghost use Rattle.stamp_watch.specs.inner.Course.{HasGoneOn, HasLetGo, IsEndAtFront, IsFront, IsKnown, IsOneLonger, IsOnCourse, IsOnward, IsRest, IsUnknown};
 
 use crate::ending::Ending;
 use crate::event::Event;
@@ -14,14 +14,20 @@ use crate::verdict::Verdict;
 use crate::watch::Watch;
 use stamp_core::Limits;
 use std::alloc::{AllocError, Global};
+use std::mem::replace;
 use std::slice::from_ref;
+
+/// So many events at least are let go of at a time.
+const ENOUGH: usize = 1024;
 
 /// A run so far, from a place on: the events behind the first ones, a watch that has seen those first ones, and one
 /// that has also seen some of the events. Each call that a watch has seen begin ends among the events, where it is
 /// known how: for the first watch among those that the second has seen. So the runs that end at any event that the
-/// second watch has not seen can be judged from the first.
+/// second watch has not seen can be judged from the first. A third watch, a copy of the second one at an earlier
+/// place, takes the place of the first once the ends of its open calls were seen: the events before it are let go of.
 #[derive(Drop)]
 pub(crate) struct Course {
+    alloc: Global,
     pub(crate) base: Watch,
     pub(crate) first: u64,
     pub(crate) events: Vec<Event>,
@@ -29,12 +35,17 @@ pub(crate) struct Course {
     pub(crate) seen: usize,
     /// So many events behind the first one that was not seen are known not to end its call.
     pub(crate) looked: usize,
+    pub(crate) spare: Watch,
+    /// The spare watch has seen so many of the events.
+    pub(crate) place: usize,
+    /// Its open calls end among so many events behind those.
+    pub(crate) reach: usize,
 }
 
 /// What comes of a step.
 #[derive(Clone, Copy)]
 pub(crate) enum Onward {
-    /// None was made: each event was seen, or how the call of the next one ends is not known yet.
+    /// None was made: how the call of the next event ends is not known yet.
     Waits,
     /// One more event was seen.
     Steps,
@@ -60,14 +71,19 @@ impl Course {
     {
         let base = Watch::new(alloc, limits)?;
         let watch = base.copied()?;
+        let spare = watch.copied()?;
         let events = Vec::new(alloc);
         Ok(Course {
+            alloc,
             base,
             first: 0,
             events,
             watch,
             seen: 0,
             looked: 0,
+            spare,
+            place: 0,
+            reach: 0,
         })
     }
 
@@ -134,14 +150,12 @@ impl Course {
     }
 
     /// Sees one more event, if how its call ends is known.
-    pub(crate) fn step_on(&mut self, most: u64) -> Result<Onward, AllocError>
+    fn step_on(&mut self, most: u64) -> Result<Onward, AllocError>
         requires on { IsOnCourse self.old }
         requires room { HasRoom self.old }
+        requires more { self.old.seen < length self.old.events.items }
         ensures { IfOk result (λ onward. IsOnward most self.old self.new onward) }
     {
-        if self.seen >= self.events.len() {
-            return Ok(Onward::Waits);
-        }
         let events = self.events.as_slice();
         let event = events[self.seen];
         let ends = self.end_at_front(&event);
@@ -152,6 +166,41 @@ impl Course {
         self.see(&event, ends, most)
     }
 
+    /// Whether the spare watch can be the base, and it is time: enough events were seen behind it, and not fewer than
+    /// were not seen.
+    fn is_ripe(&self) -> bool
+        requires { IsOnCourse self.now }
+        ensures { IsTrue result → self.now.place + self.now.reach ≤ self.now.seen }
+    {
+        if self.seen < self.place + self.reach {
+            return false;
+        }
+        let fresh = self.seen - self.place;
+        fresh >= ENOUGH && fresh >= self.events.len() - self.seen
+    }
+
+    /// Makes the spare watch the base, if it can be and it is time, and lets go of the events before it. The spare
+    /// watch is a copy of the other one then.
+    fn let_go(&mut self) -> Result<(), AllocError>
+        requires on { IsOnCourse self.old }
+        requires room { HasRoom self.old }
+        ensures { OnOk result (HasLetGo self.old self.new) }
+    {
+        if !self.is_ripe() {
+            return Ok(());
+        }
+        let copy = self.watch.copied()?;
+        let events = self.events.as_slice();
+        let rest = Vec::from_slice(self.alloc, &events[self.place..])?;
+        self.base = replace(&mut self.spare, copy);
+        self.events = rest;
+        self.first += self.place as u64;
+        self.seen -= self.place;
+        self.place = self.seen;
+        self.reach = self.events.len() - self.seen;
+        Ok(())
+    }
+
     /// Sees event after event, as far as it is known how their calls end: what is found of the run then, if anything
     /// is.
     pub(crate) fn go_on(&mut self, most: u64) -> Result<Option<Verdict>, AllocError>
@@ -159,11 +208,11 @@ impl Course {
         requires room { HasRoom self.old }
         ensures { IfOk result (λ found. HasGoneOn most self.old self.new found) }
     {
-        for _ in self.seen..self.events.len() {
+        'unseen: while self.seen < self.events.len() {
             let onward = self.step_on(most)?;
             match onward {
                 Onward::Waits => return Ok(None),
-                Onward::Steps => {}
+                Onward::Steps => self.let_go()?,
                 Onward::Finds(verdict) => return Ok(Some(verdict)),
             }
         }

@@ -1,5 +1,5 @@
 -- What comes of one more event of a run that is judged.
-use Rattle.std.specs.Prelude.{ℕ, ◌≡◌, ◌≢◌, ◌+◌, ◌<◌, List, length, drop, slice_index_or}
+use Rattle.std.specs.Prelude.{ℕ, ◌≡◌, ◌≢◌, ◌+◌, ◌-◌, ◌<◌, List, length, drop, slice_index_or}
 use Rattle.std.specs.Prelude.{Option, Some, None}
 use Rattle.stamp_core.specs.Limits.{Bounds}
 use Rattle.stamp_watch.specs.declared.event.Event.{Event}
@@ -49,11 +49,24 @@ pub record IsOneLonger (old new : Course) : Type 0 where
   pub first : new.first ≡ old.first
   pub longer : length new.events.items ≡ length old.events.items + 1
 
--- the same part of a run, gone on with
-pub record IsSamePart (old new : Course) : Type 0 where
-  pub first : new.first ≡ old.first
-  pub events : new.events.items ≡ old.events.items
+-- so many events were not seen
+abbrev pub unseen : Course → ℕ
+unseen course = length course.events.items - course.seen
+
+-- the course of the same runs
+pub record IsSameRun (old new : Course) : Type 0 where
+  pub long : new.first + length new.events.items ≡ old.first + length old.events.items
   pub courses : (limits : Bounds) (run : List Event) → IsCourse limits run old → IsCourse limits run new
+
+-- one more event was seen
+pub record HasStepped (old new : Course) : Type 0 where
+  pub same : IsSameRun old new
+  pub fewer : unseen new + 1 ≡ unseen old
+
+-- events were let go of, or none
+pub record HasLetGo (old new : Course) : Type 0 where
+  pub same : IsSameRun old new
+  pub as_many : unseen new ≡ unseen old
 
 -- this is found of a run, whatever comes later
 abbrev pub IsFoundOn : ℕ → Course → Verdict → Type 0
@@ -62,13 +75,13 @@ IsFoundOn most course verdict = (limits : Bounds) (run : List Event) → IsCours
 
 -- what comes of a step
 abbrev pub IsOnward : ℕ → Course → Course → Onward → Type 0
-IsOnward most old new Waits = IsSamePart old new
-IsOnward most old new Steps = IsSamePart old new
+IsOnward most old new Waits = IsSameRun old new
+IsOnward most old new Steps = HasStepped old new
 IsOnward most old new (Finds verdict) = IsFoundOn most old verdict
 
 -- what comes of several
 abbrev pub HasGoneOn : ℕ → Course → Course → Option Verdict → Type 0
-HasGoneOn most old new None = IsSamePart old new
+HasGoneOn most old new None = IsSameRun old new
 HasGoneOn most old new (Some verdict) = IsFoundOn most old verdict
 
 -- what is found of a run that ends here; what is not explained is found whatever comes later

@@ -26,15 +26,18 @@ pub returns-in-Going : goal.returns-in-Going
 returns-in-Going c =
     let at = (goal.at.returns-in-Going c).In_ok-progress in
     record {
-      first = refl;
-      events = refl;
-      courses = λ limits run is. record {
-        on = run_steps limits run c.args.self.now.first c.args.self.now.seen c.args.self.now.events.items
-            c.args.self.now.base c.args.self.now.watch is.on c.args.event.now c.requires.front.less
-            c.requires.front.read c.args.most c.args.ends c.step.new.watch c.in_ok-progress.progress c.in-Going.is
-            c.requires.told.told c.requires.known (step_here at limits run is);
-        looked = looked_none (drop (c.args.self.now.seen + 1) c.args.self.now.events.items);
+      same = record {
+        long = refl;
+        courses = λ limits run is. record {
+          on = run_steps limits run c.args.self.now.first c.args.self.now.seen c.args.self.now.events.items
+              c.args.self.now.base c.args.self.now.watch is.on c.args.event.now c.requires.front.less
+              c.requires.front.read c.args.most c.args.ends c.step.new.watch c.in_ok-progress.progress c.in-Going.is
+              c.requires.told.told c.requires.known (step_here at limits run is);
+          looked = looked_none (drop (c.args.self.now.seen + 1) c.args.self.now.events.items);
+          spare_is = is.spare_is;
+        };
       };
+      fewer = omega (arith, c.requires.front.less);
     }
 
 pub find_stuck-requires-clause-stuck : goal.find_stuck-requires-clause-stuck

@@ -1,39 +1,34 @@
-use Rattle.std.proofs.Common.{List, ◌≡◌, ◌+◌, ◌-◌, ◌<◌, length, get_or, arith, refl, subst}
+use Rattle.std.proofs.Common.{List, ◌≡◌, ◌+◌, ◌-◌, get_or, arith, refl, subst}
 use Rattle.stamp_watch.specs.declared.event.Event.{Event}
 use Rattle.stamp_watch.proofs.Looking.{looked_all}
 use Rattle.stamp_watch.proofs.course.Course.step_on.Goals as goal
 
-pub returns-then-self-len : goal.returns-then-self-len
-returns-then-self-len c = record { first = refl; events = refl; courses = λ limits run is. is }
-
 pub end_at_front-ends-requires-clause-front : goal.end_at_front-ends-requires-clause-front
 end_at_front-ends-requires-clause-front c = record {
-  less = omega (arith, c.len.ensures, c.args.self.now.events.ok.0, c.if-self-len.false);
+  less = c.requires.more;
   read = subst (λ (xs : List Event). c.index-events-self.result ≡
       get_or xs c.args.self.now.seen c.index-events-self.result) c.as_slice-events.ensures.value c.index-events-self.is;
 }
 
 pub returns-then-not-is_known : goal.returns-then-not-is_known
-returns-then-not-is_known c =
-    let less : c.args.self.now.seen < length c.args.self.now.events.items =
-    omega (arith, c.len.ensures, c.args.self.now.events.ok.0, c.if-self-len.false) in
-    let read = subst (λ (xs : List Event). c.index-events-self.result ≡
-    get_or xs c.args.self.now.seen c.index-events-self.result) c.as_slice-events.ensures.value c.index-events-self.is in
-    record {
-      first = refl;
-      events = refl;
-      courses = λ limits run is. record {
-        on = is.on;
-        looked = looked_all c.args.self.now.seen c.args.self.now.events.items c.index-events-self.result less read
-            (c.args.self.now.first + c.args.self.now.seen + 1) (c.len-2.result - c.args.self.now.seen - 1)
-            c.end_at_front-ends.result (omega (arith, c.len-2.ensures, c.args.self.now.events.ok.0, less))
-            (c.is_known.ensures.unknown c.if-not-is_known.true) c.end_at_front-ends.ensures.told;
-      };
-    }
+returns-then-not-is_known c = record {
+  long = refl;
+  courses = λ limits run is. record {
+    on = is.on;
+    looked = looked_all c.args.self.now.seen c.args.self.now.events.items c.index-events-self.result c.requires.more
+        (subst (λ (xs : List Event). c.index-events-self.result ≡
+        get_or xs c.args.self.now.seen c.index-events-self.result) c.as_slice-events.ensures.value
+        c.index-events-self.is) (c.args.self.now.first + c.args.self.now.seen + 1)
+        (c.len.result - c.args.self.now.seen - 1) c.end_at_front-ends.result
+        (omega (arith, c.len.ensures, c.args.self.now.events.ok.0, c.requires.more))
+        (c.is_known.ensures.unknown c.if-not-is_known.true) c.end_at_front-ends.ensures.told;
+    spare_is = is.spare_is;
+  };
+}
 
 pub see-requires-clause-front : goal.see-requires-clause-front
 see-requires-clause-front c = record {
-  less = omega (arith, c.len.ensures, c.args.self.now.events.ok.0, c.if-self-len.false);
+  less = c.requires.more;
   read = subst (λ (xs : List Event). c.index-events-self.result ≡
       get_or xs c.args.self.now.seen c.index-events-self.result) c.as_slice-events.ensures.value c.index-events-self.is;
 }
