@@ -25,101 +25,117 @@ pub run_long : (limits : Bounds) (run : List Event) (first seen : ℕ) (events :
 run_long limits run first seen events base watch is =
     ap (λ (n : ℕ). n + length events) is.place ∙ sym (length-append is.past events) ∙ ap length (sym is.run_is)
 
-pub judge_first : (limits : Bounds) (most : ℕ) (judge : Judge) → judge.most ≡ most → judge.busy ≡ 0 →
-    judge.found ≡ None → IsCourse limits [] judge.course → IsJudge limits most [] judge
-judge_first limits most judge same free none course_of = record {
+-- what a judge knows of a run, by what it has found
+abbrev pub IsState : Bounds → ℕ → ℕ → List Event → Judge → Option Verdict → Type 0
+IsState limits most ahead run judge found = MatchOption found (IsUnderWay limits run judge)
+    (λ (v : Verdict). IsFound limits run most (Some ahead) v)
+
+pub judge_first : (limits : Bounds) (most ahead : ℕ) (judge : Judge) → judge.most ≡ most → judge.ahead ≡ ahead →
+    judge.busy ≡ 0 → judge.found ≡ None → IsCourse limits [] judge.course → IsJudge limits most ahead [] judge
+judge_first limits most ahead judge same far free none course_of = record {
   most_is = same;
-  state = subst (λ (o : Option Verdict). MatchOption o (IsUnderWay limits [] judge)
-      (λ (v : Verdict). IsFound limits [] most v)) (sym none) (record {
-        course_of = course_of;
-        lanes = subst (AreBusyLanes []) (sym free) form_first.1;
-        room = record {
-          room = let long : judge.course.first + length judge.course.events.items ≡ 0 =
-              run_long limits [] judge.course.first judge.course.seen judge.course.events.items judge.course.base
-              judge.course.watch course_of.on in omega (arith, long);
-        };
-      });
+  ahead_is = far;
+  state = subst (λ (o : Option Verdict). IsState limits most ahead [] judge o) (sym none) (record {
+    course_of = course_of;
+    lanes = subst (AreBusyLanes []) (sym free) form_first.1;
+    room = record {
+      room = let long : judge.course.first + length judge.course.events.items ≡ 0 =
+          run_long limits [] judge.course.first judge.course.seen judge.course.events.items judge.course.base
+          judge.course.watch course_of.on in omega (arith, long);
+    };
+  });
 }
 
 -- what a judge has found, or that it has found nothing
-module _ (limits : Bounds) (most : ℕ) (run : List Event) (judge : Judge) (is : IsJudge limits most run judge) where
-  pub found_of : (v : Verdict) → judge.found ≡ Some v → IsFound limits run most v
-  found_of v some = subst (λ (o : Option Verdict). MatchOption o (IsUnderWay limits run judge)
-      (λ (x : Verdict). IsFound limits run most x)) some is.state
+module _ (limits : Bounds) (most ahead : ℕ) (run : List Event) (judge : Judge)
+    (is : IsJudge limits most ahead run judge) where
+  pub found_of : (v : Verdict) → judge.found ≡ Some v → IsFound limits run most (Some ahead) v
+  found_of v some = subst (λ (o : Option Verdict). IsState limits most ahead run judge o) some is.state
 
   pub way_of : judge.found ≡ None → IsUnderWay limits run judge
-  way_of none = subst (λ (o : Option Verdict). MatchOption o (IsUnderWay limits run judge)
-      (λ (v : Verdict). IsFound limits run most v)) none is.state
+  way_of none = subst (λ (o : Option Verdict). IsState limits most ahead run judge o) none is.state
 
-module _ (limits : Bounds) (most : ℕ) (run : List Event) (e : Event) (old : Judge) (is : IsJudge limits most run old)
-  where
-    pub judge_stays : (v : Verdict) → old.found ≡ Some v → IsJudge limits most (run ++ e ∷ []) old
-    judge_stays v some = record {
-      most_is = is.most_is;
-      state = subst (λ (o : Option Verdict). MatchOption o (IsUnderWay limits (run ++ e ∷ []) old)
-          (λ (x : Verdict). IsFound limits (run ++ e ∷ []) most x)) (sym some)
-          (found_later limits run most v e (found_of limits most run old is v some));
+module _ (limits : Bounds) (most ahead : ℕ) (run : List Event) (e : Event) (old : Judge)
+    (is : IsJudge limits most ahead run old) where
+  pub judge_stays : (v : Verdict) → old.found ≡ Some v → IsJudge limits most ahead (run ++ e ∷ []) old
+  judge_stays v some = record {
+    most_is = is.most_is;
+    ahead_is = is.ahead_is;
+    state = subst (λ (o : Option Verdict). IsState limits most ahead (run ++ e ∷ []) old o) (sym some)
+        (found_later limits run most (Some ahead) v e (found_of limits most ahead run old is v some));
+  }
+
+  -- what is found by the judge's own numbers
+  found_as : (v : Verdict) → IsFound limits (run ++ e ∷ []) old.most (Some old.ahead) v →
+      IsFound limits (run ++ e ∷ []) most (Some ahead) v
+  found_as v found = subst (λ (m : ℕ). IsFound limits (run ++ e ∷ []) m (Some ahead) v) is.most_is
+      (subst (λ (n : ℕ). IsFound limits (run ++ e ∷ []) old.most (Some n) v) is.ahead_is found)
+
+  module _ (none : old.found ≡ None) where
+    under_way : IsUnderWay limits run old
+    under_way = way_of limits most ahead run old is none
+
+    whole_before : AreOfLock run
+    whole_before = subst AreOfLock (sym under_way.course_of.on.run_is) under_way.course_of.on.whole
+
+    -- the event may come there
+    module _ (busy : ℕ) (may : MayComeIn old.busy e) (sets : SetsBusy old.busy e busy) (then_course : Course)
+        (added : (l : Bounds) (r : List Event) → IsCourse l r old.course → AreOfLock (r ++ e ∷ []) →
+        IsCourse l (r ++ e ∷ []) then_course) where
+      whole_then : AreOfLock (run ++ e ∷ [])
+      whole_then = of_lock_on run old.busy e under_way.lanes may whole_before
+
+      pub then_of : IsCourse limits (run ++ e ∷ []) then_course
+      then_of = added limits run under_way.course_of whole_then
+
+      module _ (new_course : Course) where
+        pub found_then : (found : Option Verdict) →
+            HasGoneOn old.most (Some old.ahead) then_course new_course found →
+            MatchOption found (AreOfLock (run ++ e ∷ []))
+            (λ (v : Verdict). IsFound limits (run ++ e ∷ []) most (Some ahead) v)
+        found_then None gone = whole_then
+        found_then (Some v) gone = found_as v (gone limits (run ++ e ∷ []) then_of)
+
+        pub judge_then : (new : Judge) → new.most ≡ old.most → new.ahead ≡ old.ahead → new.busy ≡ busy →
+            new.course ≡ new_course → HasRoom then_course →
+            HasGoneOn old.most (Some old.ahead) then_course new_course new.found →
+            IsJudge limits most ahead (run ++ e ∷ []) new
+        judge_then new same far busy_is course_is space gone = record {
+          most_is = same ∙ is.most_is;
+          ahead_is = far ∙ is.ahead_is;
+          state = by new.found gone;
+        }
+          where
+            by : (found : Option Verdict) → HasGoneOn old.most (Some old.ahead) then_course new_course found →
+                IsState limits most ahead (run ++ e ∷ []) new found
+            by None gone_on = record {
+              course_of = subst (λ (c : Course). IsCourse limits (run ++ e ∷ []) c) (sym course_is)
+                  (gone_on.courses limits (run ++ e ∷ []) then_of);
+              lanes = subst (AreBusyLanes (run ++ e ∷ [])) (sym busy_is)
+                  (busy_lanes_then run old.busy busy e under_way.lanes sets);
+              room = subst HasRoom (sym course_is) (room_still then_course new_course gone_on space);
+            }
+            by (Some v) found = found_as v (found limits (run ++ e ∷ []) then_of)
+
+    -- it may not
+    pub found_broken : (number : ℕ) (rest : Verdict) →
+        number ≡ old.course.first + length old.course.events.items → ¬ MayComeIn old.busy e →
+        ((far : Option ℕ) (l : Bounds) (r : List Event) → IsCourse l r old.course → IsRest l r old.most far rest) →
+        IsFound limits (run ++ e ∷ []) most (Some ahead) (broken_off rest number)
+    found_broken number rest at not_there ends = broken_found limits run most (Some ahead) old.busy number e
+        (at ∙ run_long limits run old.course.first old.course.seen old.course.events.items old.course.base
+        old.course.watch under_way.course_of.on) under_way.lanes not_there rest
+        (subst (λ (m : ℕ). IsRest limits run m (Some ahead) rest) is.most_is
+        (ends (Some ahead) limits run under_way.course_of))
+
+    pub judge_broken : (new : Judge) (v : Verdict) → new.most ≡ old.most → new.ahead ≡ old.ahead →
+        new.found ≡ Some v → IsFound limits (run ++ e ∷ []) most (Some ahead) v →
+        IsJudge limits most ahead (run ++ e ∷ []) new
+    judge_broken new v same far some found = record {
+      most_is = same ∙ is.most_is;
+      ahead_is = far ∙ is.ahead_is;
+      state = subst (λ (o : Option Verdict). IsState limits most ahead (run ++ e ∷ []) new o) (sym some) found;
     }
-
-    module _ (none : old.found ≡ None) where
-      under_way : IsUnderWay limits run old
-      under_way = way_of limits most run old is none
-
-      whole_before : AreOfLock run
-      whole_before = subst AreOfLock (sym under_way.course_of.on.run_is) under_way.course_of.on.whole
-
-      -- the event may come there
-      module _ (busy : ℕ) (may : MayComeIn old.busy e) (sets : SetsBusy old.busy e busy) (then_course : Course)
-          (added : (l : Bounds) (r : List Event) → IsCourse l r old.course → AreOfLock (r ++ e ∷ []) →
-          IsCourse l (r ++ e ∷ []) then_course) where
-        whole_then : AreOfLock (run ++ e ∷ [])
-        whole_then = of_lock_on run old.busy e under_way.lanes may whole_before
-
-        pub then_of : IsCourse limits (run ++ e ∷ []) then_course
-        then_of = added limits run under_way.course_of whole_then
-
-        module _ (new_course : Course) where
-          pub found_then : (found : Option Verdict) → HasGoneOn old.most then_course new_course found →
-              MatchOption found (AreOfLock (run ++ e ∷ [])) (λ (v : Verdict). IsFound limits (run ++ e ∷ []) most v)
-          found_then None gone = whole_then
-          found_then (Some v) gone = subst (λ (m : ℕ). IsFound limits (run ++ e ∷ []) m v) is.most_is
-              (gone limits (run ++ e ∷ []) then_of)
-
-          pub judge_then : (new : Judge) → new.most ≡ old.most → new.busy ≡ busy → new.course ≡ new_course →
-              HasRoom then_course → HasGoneOn old.most then_course new_course new.found →
-              IsJudge limits most (run ++ e ∷ []) new
-          judge_then new same busy_is course_is space gone =
-              record { most_is = same ∙ is.most_is; state = by new.found gone }
-            where
-              by : (found : Option Verdict) → HasGoneOn old.most then_course new_course found →
-                  MatchOption found (IsUnderWay limits (run ++ e ∷ []) new)
-                  (λ (v : Verdict). IsFound limits (run ++ e ∷ []) most v)
-              by None gone_on = record {
-                course_of = subst (λ (c : Course). IsCourse limits (run ++ e ∷ []) c) (sym course_is)
-                    (gone_on.courses limits (run ++ e ∷ []) then_of);
-                lanes = subst (AreBusyLanes (run ++ e ∷ [])) (sym busy_is)
-                    (busy_lanes_then run old.busy busy e under_way.lanes sets);
-                room = subst HasRoom (sym course_is) (room_still then_course new_course gone_on space);
-              }
-              by (Some v) found = subst (λ (m : ℕ). IsFound limits (run ++ e ∷ []) m v) is.most_is
-                  (found limits (run ++ e ∷ []) then_of)
-
-      -- it may not
-      pub found_broken : (number : ℕ) (rest : Verdict) → number ≡ old.course.first + length old.course.events.items →
-          ¬ MayComeIn old.busy e → ((l : Bounds) (r : List Event) → IsCourse l r old.course → IsRest l r old.most rest) →
-          IsFound limits (run ++ e ∷ []) most (broken_off rest number)
-      found_broken number rest at not_there ends = broken_found limits run most old.busy number e
-          (at ∙ run_long limits run old.course.first old.course.seen old.course.events.items old.course.base
-          old.course.watch under_way.course_of.on) under_way.lanes not_there rest
-          (subst (λ (m : ℕ). IsRest limits run m rest) is.most_is (ends limits run under_way.course_of))
-
-      pub judge_broken : (new : Judge) (v : Verdict) → new.most ≡ old.most → new.found ≡ Some v →
-          IsFound limits (run ++ e ∷ []) most v → IsJudge limits most (run ++ e ∷ []) new
-      judge_broken new v same some found = record {
-        most_is = same ∙ is.most_is;
-        state = subst (λ (o : Option Verdict). MatchOption o (IsUnderWay limits (run ++ e ∷ []) new)
-            (λ (x : Verdict). IsFound limits (run ++ e ∷ []) most x)) (sym some) found;
-      }
 
 pub one_longer_room : (old : Judge) (then_course : Course) → HasRoomForOne old → IsOneLonger old.course then_course →
     HasRoom then_course

@@ -1,5 +1,5 @@
 -- What is found of events that are in form, and of a run of which they are the first.
-use Rattle.std.proofs.Common.{ℕ, ◌≡◌, ◌≢◌, ◌+◌, ◌<◌, ◌≤◌, List, [], ◌∷◌, ◌++◌, length, get_or, refl, sym, ◌∙◌, ap}
+use Rattle.std.proofs.Common.{ℕ, ◌≡◌, ◌≢◌, ◌+◌, ◌<◌, ◌≤◌, List, [], ◌∷◌, ◌++◌, length, get_or, Option, refl, sym, ◌∙◌, ap}
 use Rattle.std.proofs.Common.{subst, arith, add_assoc, add-zero, append_assoc, append-nil}
 use Rattle.std.specs.Prelude.{take, drop, IfOk, Result, Ok, Err}
 use Rattle.std.proofs.lemmas.List.{take_all, take-append-drop, take-append-le, take-take}
@@ -11,6 +11,7 @@ use Rattle.stamp_watch.specs.declared.progress.Progress.{Progress}
 use Rattle.stamp_watch.specs.declared.progress.Progress.TheVariants as progress
 use Rattle.stamp_watch.specs.declared.verdict.Verdict.{Verdict}
 use Rattle.stamp_watch.specs.declared.verdict.Verdict.TheVariants.{Explained, Stuck, StuckWithin, Undecided, Broken}
+use Rattle.stamp_watch.specs.declared.verdict.Why.TheVariants as cause
 use Rattle.stamp_watch.specs.declared.watch.Watch.{Watch}
 use Rattle.stamp_watch.specs.Run.{AreExplained}
 use Rattle.stamp_watch.specs.Verdict.{AreOfLock, AreTooMany, IsVerdict}
@@ -122,9 +123,9 @@ module _ (limits : Bounds) (events : List Event) where
     stuck = stuck;
   }
 
-  module _ (most : ℕ) (whole : AreOfLock events) where
+  module _ (most : ℕ) (ahead : Option ℕ) (whole : AreOfLock events) where
     pub found_stuck : (low high : ℕ) → high ≤ low + 1 → IsBetween limits events low high →
-        IsFound limits events most (Stuck low)
+        IsFound limits events most ahead (Stuck low)
     found_stuck low high near between more = (
       subst AreOfLock (sym cut) (of_lock_up_to (low + 1) events whole),
       record {
@@ -148,7 +149,7 @@ module _ (limits : Bounds) (events : List Event) where
         cut = take-append-le (low + 1) events more (omega (arith, next, within))
 
     pub found_within : (low high place : ℕ) → place < high → IsBetween limits events low high →
-        AreTooMany limits (take place events) most → IsFound limits events most (StuckWithin low high)
+        AreTooMany limits (take place events) most → IsFound limits events most ahead (StuckWithin low high)
     found_within low high place before between many more = record {
       whole = subst AreOfLock (sym (take-append-le high events more between.within))
           (of_lock_up_to high events whole);
@@ -237,14 +238,14 @@ module _ (n k : ℕ) (events : List Event) (base : Watch) where
           (subst (AreExplained limits) (cut_behind n middle past events from.place) whole));
     }
 
-    pub search_too_many : (middle most place : ℕ) (start : Watch) (answer : Outcome) → low < middle → middle < high →
+    pub search_too_many : (middle most place : ℕ) (ahead : Option ℕ) (start : Watch) (answer : Outcome) → low < middle → middle < high →
         answer ≡ TooMany place → IsCopy base start →
         ((limits : Bounds) (past : List Event) → IsJudging limits n past (take middle events) start →
         IsOutcome limits past (take middle events) most answer) → (limits : Bounds) (past : List Event) →
         IsBase limits n k past events base → IsStuckBehind limits past events k →
-        IsFound limits (past ++ events) most (StuckWithin (n + low) (n + high))
-    search_too_many middle most place start answer more less found same is limits past from stuck =
-        found_within limits (past ++ events) most (base_whole limits past from) (n + low) (n + high) (n + place)
+        IsFound limits (past ++ events) most ahead (StuckWithin (n + low) (n + high))
+    search_too_many middle most place ahead start answer more less found same is limits past from stuck =
+        found_within limits (past ++ events) most ahead (base_whole limits past from) (n + low) (n + high) (n + place)
         (omega (arith, below, less)) (searching.between limits past from stuck)
         (subst (λ (before : List Event). AreTooMany limits before most)
         (ap (λ (xs : List Event). past ++ xs) (take-take place middle events (omega (arith, below))) ∙
@@ -261,17 +262,17 @@ module _ (n k : ℕ) (events : List Event) (base : Watch) where
             let long : length (take middle events) ≡ middle =
             length-take-le middle events (omega (arith, less, within)) in omega (arith, before, long)
 
-    pub search_ends : (most : ℕ) → high ≤ low + 1 → (limits : Bounds) (past : List Event) →
+    pub search_ends : (most : ℕ) (ahead : Option ℕ) → high ≤ low + 1 → (limits : Bounds) (past : List Event) →
         IsBase limits n k past events base → IsStuckBehind limits past events k →
-        IsFound limits (past ++ events) most (Stuck (n + low))
-    search_ends most near limits past from stuck = found_stuck limits (past ++ events) most
+        IsFound limits (past ++ events) most ahead (Stuck (n + low))
+    search_ends most ahead near limits past from stuck = found_stuck limits (past ++ events) most ahead
         (base_whole limits past from) (n + low) (n + high) (omega (arith, near))
         (searching.between limits past from stuck)
 
 -- the verdict on a run of which the first events are in form
-pub undecided_at : (limits : Bounds) (events : List Event) (most many k : ℕ) → IsInFormUpTo events many →
-    IsOutcome limits [] (take many events) most (TooMany k) → IsVerdict limits events most (Undecided k)
-undecided_at limits events most many k form outcome = (
+pub undecided_at : (limits : Bounds) (events : List Event) (most many k : ℕ) (ahead : Option ℕ) → IsInFormUpTo events many →
+    IsOutcome limits [] (take many events) most (TooMany k) → IsVerdict limits events most ahead (Undecided k cause.TooMany)
+undecided_at limits events most many k ahead form outcome = (
   subst AreOfLock cut (of_lock_up_to k (take many events) form.whole),
   subst (AreExplained limits) cut outcome.1,
   subst (λ (past : List Event). AreTooMany limits past most) cut outcome.2,
@@ -282,9 +283,9 @@ undecided_at limits events most many k form outcome = (
         let long : length (take many events) ≡ many = length-take-le many events form.within in
         take-take k many events (omega (arith, less, long))
 
-pub broken_at : (limits : Bounds) (events : List Event) (most many : ℕ) → many ≢ length events →
-    IsInFormUpTo events many → AreExplained limits (take many events) → IsVerdict limits events most (Broken many)
-broken_at limits events most many short form explained = (
+pub broken_at : (limits : Bounds) (events : List Event) (most many : ℕ) (ahead : Option ℕ) → many ≢ length events →
+    IsInFormUpTo events many → AreExplained limits (take many events) → IsVerdict limits events most ahead (Broken many)
+broken_at limits events most many ahead short form explained = (
   record {
     whole = form.whole;
     broken = form.broken (let within : many ≤ length events = form.within in omega (arith, within, short));
@@ -292,18 +293,18 @@ broken_at limits events most many short form explained = (
   explained,
 )
 
-pub explained_whole : (limits : Bounds) (events : List Event) (most many : ℕ) → many ≡ length events →
-    IsInFormUpTo events many → AreExplained limits (take many events) → IsVerdict limits events most Explained
-explained_whole limits events most many all form explained =
+pub explained_whole : (limits : Bounds) (events : List Event) (most many : ℕ) (ahead : Option ℕ) → many ≡ length events →
+    IsInFormUpTo events many → AreExplained limits (take many events) → IsVerdict limits events most ahead Explained
+explained_whole limits events most many ahead all form explained =
     (subst AreOfLock same form.whole, subst (AreExplained limits) same explained)
   where
     same : take many events ≡ events
     same = take_all many events (omega (arith, all))
 
-pub found_in_whole : (limits : Bounds) (events : List Event) (most many : ℕ) (verdict : Verdict) →
-    IsFound limits (take many events) most verdict → IsVerdict limits events most verdict
-found_in_whole limits events most many verdict found =
-    subst (λ (run : List Event). IsVerdict limits run most verdict) (take-append-drop many events)
+pub found_in_whole : (limits : Bounds) (events : List Event) (most many : ℕ) (ahead : Option ℕ) (verdict : Verdict) →
+    IsFound limits (take many events) most ahead verdict → IsVerdict limits events most ahead verdict
+found_in_whole limits events most many ahead verdict found =
+    subst (λ (run : List Event). IsVerdict limits run most ahead verdict) (take-append-drop many events)
     (found (drop many events))
 
 -- any of the events can be judged from the opening

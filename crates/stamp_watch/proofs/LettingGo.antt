@@ -49,7 +49,7 @@ module _ (limits : Bounds) (run : List Event) (first seen : ℕ) (events : List 
   run_before : (k : ℕ) → take (first + k) run ≡ is.past ++ take k events
   run_before k = ap (λ (xs : List Event). take (first + k) xs) is.run_is ∙ cut_behind first k is.past events is.place
 
-  run_behind : (k : ℕ) → drop (first + k) run ≡ drop k events
+  pub run_behind : (k : ℕ) → drop (first + k) run ≡ drop k events
   run_behind k = ap (λ (xs : List Event). drop (first + k) xs) is.run_is ∙
       ap (λ (n : ℕ). drop (n + k) (is.past ++ events)) is.place ∙ drop-append-add is.past events k
 

@@ -33,6 +33,7 @@ use Rattle.stamp_watch.specs.inner.Course.{IsKnown, IsRest, broken_off}
 use Rattle.stamp_watch.specs.declared.judge.Outcome.TheVariants as judged
 use Rattle.stamp_watch.specs.declared.verdict.Verdict.{Verdict}
 use Rattle.stamp_watch.specs.declared.verdict.Verdict.TheVariants as verdict
+use Rattle.stamp_watch.specs.declared.verdict.Why.TheVariants as cause
 use Rattle.stamp_watch.proofs.Form.{busy_after_one}
 use Rattle.stamp_watch.proofs.Forming.{form_first, of_lock_not, of_lock_up_to}
 use Rattle.stamp_watch.proofs.Judged.{cut_behind, judging_here, judging_more, past_on, unexplained_here, too_many_here}
@@ -227,8 +228,8 @@ module _ (limits : Bounds) (run : List Event) (first seen : ℕ) (events : List 
         is.from_base).judging;
   }
 
-  pub run_found : (most : ℕ) (v : Verdict) → IsFound limits (is.past ++ events) most v → IsFound limits run most v
-  run_found most v found = subst (λ (xs : List Event). IsFound limits xs most v) (sym is.run_is) found
+  pub run_found : (most : ℕ) (ahead : Option ℕ) (v : Verdict) → IsFound limits (is.past ++ events) most ahead v → IsFound limits run most ahead v
+  run_found most ahead v found = subst (λ (xs : List Event). IsFound limits xs most ahead v) (sym is.run_is) found
 
   pub run_stuck_from : (k : ℕ) (slice : List Event) → slice ≡ events → seen ≤ k → IsStuckBehind limits is.past events k →
       IsStuckFrom first k slice base
@@ -239,27 +240,27 @@ module _ (limits : Bounds) (run : List Event) (first seen : ℕ) (events : List 
     stuck = stuck;
   })
 
-  pub run_finds : (k most : ℕ) (slice : List Event) (v : Verdict) → slice ≡ events → seen ≤ k →
+  pub run_finds : (k most : ℕ) (ahead : Option ℕ) (slice : List Event) (v : Verdict) → slice ≡ events → seen ≤ k →
       IsStuckBehind limits is.past events k →
       ((l : Bounds) (past : List Event) → IsBase l first k past slice base → IsStuckBehind l past slice k →
-      IsFound l (past ++ slice) most v) → IsFound limits run most v
-  run_finds k most slice v same less stuck found = run_found most v
-      (subst (λ (xs : List Event). IsFound limits (is.past ++ xs) most v) same (found limits is.past
+      IsFound l (past ++ slice) most ahead v) → IsFound limits run most ahead v
+  run_finds k most ahead slice v same less stuck found = run_found most ahead v
+      (subst (λ (xs : List Event). IsFound limits (is.past ++ xs) most ahead v) same (found limits is.past
       (subst (λ (xs : List Event). IsBase limits first k is.past xs base) (sym same) (run_base k less))
       (subst (λ (xs : List Event). IsStuckBehind limits is.past xs k) (sym same) stuck)))
 
-  cut_run : (k : ℕ) (more : List Event) → k ≤ length events → take (first + k) (run ++ more) ≡ is.past ++ take k events
+  pub cut_run : (k : ℕ) (more : List Event) → k ≤ length events → take (first + k) (run ++ more) ≡ is.past ++ take k events
   cut_run k more within = ap (λ (xs : List Event). take (first + k) (xs ++ more)) is.run_is ∙
       ap (take (first + k)) (append_assoc is.past events more) ∙ cut_behind first k is.past (events ++ more) is.place ∙
       ap (λ (xs : List Event). is.past ++ xs) (take-append-le k events more within)
 
-  part_of_lock : (k : ℕ) → AreOfLock (is.past ++ take k events)
+  pub part_of_lock : (k : ℕ) → AreOfLock (is.past ++ take k events)
   part_of_lock k = subst AreOfLock (cut_behind (length is.past) k is.past events refl)
       (of_lock_up_to (length is.past + k) (is.past ++ events) is.whole)
 
-  pub run_undecided : (most k : ℕ) → k ≤ length events → AreExplained limits (is.past ++ take k events) →
-      AreTooMany limits (is.past ++ take k events) most → IsFound limits run most (verdict.Undecided (first + k))
-  run_undecided most k within explained many more = (
+  pub run_undecided : (most k : ℕ) (ahead : Option ℕ) → k ≤ length events → AreExplained limits (is.past ++ take k events) →
+      AreTooMany limits (is.past ++ take k events) most → IsFound limits run most ahead (verdict.Undecided (first + k) cause.TooMany)
+  run_undecided most k ahead within explained many more = (
     subst AreOfLock (sym (cut_run k more within)) (part_of_lock k),
     subst (AreExplained limits) (sym (cut_run k more within)) explained,
     subst (λ (xs : List Event). AreTooMany limits xs most) (sym (cut_run k more within)) many,
@@ -302,10 +303,10 @@ module _ (limits : Bounds) (run : List Event) (first seen : ℕ) (events : List 
           is.now.judging.explained).2;
     }
 
-    pub run_too_many : (new : Watch) (answer : Progress) → answer ≡ progress.TooMany →
+    pub run_too_many : (ahead : Option ℕ) (new : Watch) (answer : Progress) → answer ≡ progress.TooMany →
         IsStep limits (first + seen) (is.past ++ take seen events) e (drop (seen + 1) events) most new answer →
-        IsFound limits run most (verdict.Undecided (first + seen))
-    run_too_many new answer many step = run_undecided most seen is.within is.now.judging.explained
+        IsFound limits run most ahead (verdict.Undecided (first + seen) cause.TooMany)
+    run_too_many ahead new answer many step = run_undecided most seen ahead is.within is.now.judging.explained
         (too_many_here limits first is.past events most seen e less read new answer step many
         is.now.judging.explained).2
 
@@ -322,9 +323,9 @@ module _ (limits : Bounds) (run : List Event) (first seen : ℕ) (events : List 
   rest_within k less = let rest : length (drop seen events) ≡ length events - seen = length-drop seen events in
       let within : seen ≤ length events = is.within in omega (arith, less, rest, within)
 
-  module _ (most : ℕ) where
+  module _ (most : ℕ) (ahead : Option ℕ) where
     pub rest_explained : IsOutcome limits (is.past ++ take seen events) (drop seen events) most judged.Explained →
-        IsRest limits run most verdict.Explained
+        IsRest limits run most ahead verdict.Explained
     rest_explained explained = (
       subst AreOfLock (sym is.run_is) is.whole,
       subst (AreExplained limits) (seen_and_rest ∙ sym is.run_is) explained,
@@ -340,9 +341,9 @@ module _ (limits : Bounds) (run : List Event) (first seen : ℕ) (events : List 
 
     pub rest_undecided : (k : ℕ) →
         IsOutcome limits (is.past ++ take seen events) (drop seen events) most (judged.TooMany k) →
-        IsRest limits run most (verdict.Undecided (first + seen + k))
-    rest_undecided k outcome = subst (λ (n : ℕ). IsFound limits run most (verdict.Undecided n))
-        (sym (add_assoc first seen k)) (run_undecided most (seen + k)
+        IsRest limits run most ahead (verdict.Undecided (first + seen + k) cause.TooMany)
+    rest_undecided k outcome = subst (λ (n : ℕ). IsFound limits run most ahead (verdict.Undecided n cause.TooMany))
+        (sym (add_assoc first seen k)) (run_undecided most (seen + k) ahead
         (let less : k < length (drop seen events) = outcome.0 in
         let rest : length (drop seen events) ≡ length events - seen = length-drop seen events in
         let within : seen ≤ length events = is.within in omega (arith, less, rest, within))
@@ -350,34 +351,34 @@ module _ (limits : Bounds) (run : List Event) (first seen : ℕ) (events : List 
         (subst (λ (xs : List Event). AreTooMany limits xs most) (seen_and_some k) outcome.2))
 
 -- what is found, whatever comes later
-pub found_now : (limits : Bounds) (run : List Event) (most : ℕ) (v : Verdict) → IsFound limits run most v →
-    IsVerdict limits run most v
-found_now limits run most v found =
-    subst (λ (xs : List Event). IsVerdict limits xs most v) (append-nil run) (found [])
+pub found_now : (limits : Bounds) (run : List Event) (most : ℕ) (ahead : Option ℕ) (v : Verdict) → IsFound limits run most ahead v →
+    IsVerdict limits run most ahead v
+found_now limits run most ahead v found =
+    subst (λ (xs : List Event). IsVerdict limits xs most ahead v) (append-nil run) (found [])
 
-pub found_later : (limits : Bounds) (run : List Event) (most : ℕ) (v : Verdict) (e : Event) →
-    IsFound limits run most v → IsFound limits (run ++ e ∷ []) most v
-found_later limits run most v e found more =
-    subst (λ (xs : List Event). IsVerdict limits xs most v) (sym (append_assoc run (e ∷ []) more)) (found (e ∷ more))
+pub found_later : (limits : Bounds) (run : List Event) (most : ℕ) (ahead : Option ℕ) (v : Verdict) (e : Event) →
+    IsFound limits run most ahead v → IsFound limits (run ++ e ∷ []) most ahead v
+found_later limits run most ahead v e found more =
+    subst (λ (xs : List Event). IsVerdict limits xs most ahead v) (sym (append_assoc run (e ∷ []) more)) (found (e ∷ more))
 
-pub rest_found : (limits : Bounds) (run : List Event) (most : ℕ) (v : Verdict) → IsFound limits run most v →
-    IsRest limits run most v
-rest_found limits run most verdict.Explained found = found_now limits run most verdict.Explained found
-rest_found limits run most (verdict.Stuck k) found = found
-rest_found limits run most (verdict.StuckWithin k m) found = found
-rest_found limits run most (verdict.Undecided k) found = found
-rest_found limits run most (verdict.Broken k) found = found
+pub rest_found : (limits : Bounds) (run : List Event) (most : ℕ) (ahead : Option ℕ) (v : Verdict) → IsFound limits run most ahead v →
+    IsRest limits run most ahead v
+rest_found limits run most ahead verdict.Explained found = found_now limits run most ahead verdict.Explained found
+rest_found limits run most ahead (verdict.Stuck k) found = found
+rest_found limits run most ahead (verdict.StuckWithin k m) found = found
+rest_found limits run most ahead (verdict.Undecided k why) found = found
+rest_found limits run most ahead (verdict.Broken k) found = found
 
-pub rest_now : (limits : Bounds) (run : List Event) (most : ℕ) (v : Verdict) → IsRest limits run most v →
-    IsVerdict limits run most v
-rest_now limits run most verdict.Explained rest = rest
-rest_now limits run most (verdict.Stuck k) rest = found_now limits run most (verdict.Stuck k) rest
-rest_now limits run most (verdict.StuckWithin k m) rest = found_now limits run most (verdict.StuckWithin k m) rest
-rest_now limits run most (verdict.Undecided k) rest = found_now limits run most (verdict.Undecided k) rest
-rest_now limits run most (verdict.Broken k) rest = found_now limits run most (verdict.Broken k) rest
+pub rest_now : (limits : Bounds) (run : List Event) (most : ℕ) (ahead : Option ℕ) (v : Verdict) → IsRest limits run most ahead v →
+    IsVerdict limits run most ahead v
+rest_now limits run most ahead verdict.Explained rest = rest
+rest_now limits run most ahead (verdict.Stuck k) rest = found_now limits run most ahead (verdict.Stuck k) rest
+rest_now limits run most ahead (verdict.StuckWithin k m) rest = found_now limits run most ahead (verdict.StuckWithin k m) rest
+rest_now limits run most ahead (verdict.Undecided k why) rest = found_now limits run most ahead (verdict.Undecided k why) rest
+rest_now limits run most ahead (verdict.Broken k) rest = found_now limits run most ahead (verdict.Broken k) rest
 
 -- an event that may not come there
-module _ (limits : Bounds) (run : List Event) (most busy place : ℕ) (e : Event) (at : place ≡ length run)
+module _ (limits : Bounds) (run : List Event) (most : ℕ) (ahead : Option ℕ) (busy place : ℕ) (e : Event) (at : place ≡ length run)
     (lanes : AreBusyLanes run busy) (not_there : ¬ MayComeIn busy e) where
   cut_before : (more : List Event) → take place (run ++ e ∷ [] ++ more) ≡ run
   cut_before more = ap (λ (n : ℕ). take n (run ++ e ∷ [] ++ more)) at ∙
@@ -390,8 +391,8 @@ module _ (limits : Bounds) (run : List Event) (most busy place : ℕ) (e : Event
       long = let whole : length (run ++ e ∷ []) ≡ length run + length (e ∷ []) = length-append run (e ∷ []) in
           omega (arith, whole, at)
 
-  pub broken_found : (v : Verdict) → IsRest limits run most v →
-      IsFound limits (run ++ e ∷ []) most (broken_off v place)
+  pub broken_found : (v : Verdict) → IsRest limits run most ahead v →
+      IsFound limits (run ++ e ∷ []) most ahead (broken_off v place)
   broken_found verdict.Explained rest more = (
     record {
       whole = subst AreOfLock (sym (cut_before more)) rest.0;
@@ -399,7 +400,7 @@ module _ (limits : Bounds) (run : List Event) (most busy place : ℕ) (e : Event
     },
     subst (AreExplained limits) (sym (cut_before more)) rest.1,
   )
-  broken_found (verdict.Stuck k) rest more = found_later limits run most (verdict.Stuck k) e rest more
-  broken_found (verdict.StuckWithin k m) rest more = found_later limits run most (verdict.StuckWithin k m) e rest more
-  broken_found (verdict.Undecided k) rest more = found_later limits run most (verdict.Undecided k) e rest more
-  broken_found (verdict.Broken k) rest more = found_later limits run most (verdict.Broken k) e rest more
+  broken_found (verdict.Stuck k) rest more = found_later limits run most ahead (verdict.Stuck k) e rest more
+  broken_found (verdict.StuckWithin k m) rest more = found_later limits run most ahead (verdict.StuckWithin k m) e rest more
+  broken_found (verdict.Undecided k why) rest more = found_later limits run most ahead (verdict.Undecided k why) e rest more
+  broken_found (verdict.Broken k) rest more = found_later limits run most ahead (verdict.Broken k) e rest more

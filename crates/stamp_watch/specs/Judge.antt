@@ -1,5 +1,5 @@
 -- What a judge knows of a run that goes on.
-use Rattle.std.specs.Prelude.{ℕ, ◌≡◌, ◌+◌, ◌^◌, ◌<◌, ◌++◌, List, [], ◌∷◌, length, Option, MatchOption}
+use Rattle.std.specs.Prelude.{ℕ, ◌≡◌, ◌+◌, ◌^◌, ◌<◌, ◌++◌, List, [], ◌∷◌, length, Option, Some, MatchOption}
 use Rattle.stamp_core.specs.Limits.{Bounds}
 use Rattle.stamp_watch.specs.declared.event.Event.{Event}
 use Rattle.stamp_watch.specs.declared.online.Judge.{Judge}
@@ -15,16 +15,19 @@ pub record IsUnderWay (limits : Bounds) (run : List Event) (judge : Judge) : Typ
   pub room : HasRoom judge.course
 
 -- the judge was given the events of this run so far, and what it found holds whatever comes later
-pub record IsJudge (limits : Bounds) (most : ℕ) (run : List Event) (judge : Judge) : Type 0 where
+pub record IsJudge (limits : Bounds) (most ahead : ℕ) (run : List Event) (judge : Judge) : Type 0 where
   pub most_is : judge.most ≡ most
-  pub state : MatchOption judge.found (IsUnderWay limits run judge) (λ verdict. IsFound limits run most verdict)
+  pub ahead_is : judge.ahead ≡ ahead
+  pub state : MatchOption judge.found (IsUnderWay limits run judge)
+      (λ verdict. IsFound limits run most (Some ahead) verdict)
 
 -- so it is of some run
 pub record IsJudgeOfSome (judge : Judge) : Type 0 where
   pub limits : Bounds
   pub most : ℕ
+  pub ahead : ℕ
   pub run : List Event
-  pub judge_of : IsJudge limits most run judge
+  pub judge_of : IsJudge limits most ahead run judge
 
 -- one more event can be numbered
 pub record HasRoomForOne (judge : Judge) : Type 0 where
@@ -32,10 +35,11 @@ pub record HasRoomForOne (judge : Judge) : Type 0 where
 
 -- what is found once the judge was given one event more; or the run is in form so far
 abbrev pub IsFoundThen : Event → Judge → Option Verdict → Type 0
-IsFoundThen e old found = (limits : Bounds) (most : ℕ) (run : List Event) → IsJudge limits most run old →
-    MatchOption found (AreOfLock (run ++ e ∷ [])) (λ verdict. IsFound limits (run ++ e ∷ []) most verdict)
+IsFoundThen e old found = (limits : Bounds) (most ahead : ℕ) (run : List Event) → IsJudge limits most ahead run old →
+    MatchOption found (AreOfLock (run ++ e ∷ []))
+    (λ verdict. IsFound limits (run ++ e ∷ []) most (Some ahead) verdict)
 
 -- the judge then
 abbrev pub IsGiven : Event → Judge → Judge → Type 0
-IsGiven e old new = (limits : Bounds) (most : ℕ) (run : List Event) → IsJudge limits most run old →
-    IsJudge limits most (run ++ e ∷ []) new
+IsGiven e old new = (limits : Bounds) (most ahead : ℕ) (run : List Event) → IsJudge limits most ahead run old →
+    IsJudge limits most ahead (run ++ e ∷ []) new

@@ -1,5 +1,5 @@
 -- How a run is judged whose events are known.
-use Rattle.std.specs.Prelude.{ℕ, ◌≡◌, ◌<◌, ◌≤◌, ◌↔◌, ◌++◌, true, List, Some}
+use Rattle.std.specs.Prelude.{ℕ, ◌≡◌, ◌<◌, ◌≤◌, ◌↔◌, ◌++◌, true, List, Option, Some}
 use Rattle.std.specs.Int.{bit_at}
 use Rattle.std.specs.Option.{is_some}
 use Rattle.stamp_core.specs.Limits.{Bounds}
@@ -45,5 +45,6 @@ pub record IsJudging (limits : Bounds) (n : ℕ) (past future : List Event) (wat
   pub followed : IsFollowed n past future watch
 
 -- a verdict, whatever comes later
-abbrev pub IsFound : Bounds → List Event → ℕ → Verdict → Type 0
-IsFound limits events most verdict = (more : List Event) → IsVerdict limits (events ++ more) most verdict
+abbrev pub IsFound : Bounds → List Event → ℕ → Option ℕ → Verdict → Type 0
+IsFound limits events most ahead verdict = (more : List Event) →
+    IsVerdict limits (events ++ more) most ahead verdict

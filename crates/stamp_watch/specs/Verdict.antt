@@ -1,14 +1,18 @@
 -- What is found of a run that is judged from its events.
-use Rattle.std.specs.Prelude.{ℕ, ◌≡◌, ◌+◌, ◌<◌, Bool, true, false, List, take}
+use Rattle.std.specs.Prelude.{ℕ, ◌≡◌, ◌+◌, ◌<◌, ◌≤◌, Bool, true, false, List, ◌∷◌, length, take, drop}
+use Rattle.std.specs.Prelude.{Option, Some, None}
 use Rattle.std.specs.List.{All}
 use Rattle.stamp_core.specs.Limits.{Bounds}
+use Rattle.stamp_core.specs.declared.call.Call.{Call}
 use Rattle.stamp_core.specs.declared.reply.Reply.{Reply}
 use Rattle.stamp_core.specs.declared.reply.Reply.TheVariants.{Content}
 use Rattle.stamp_watch.specs.declared.event.Event.{Event}
 use Rattle.stamp_watch.specs.declared.event.Event.TheVariants.{Begins, Returns, Withdraws}
 use Rattle.stamp_watch.specs.declared.verdict.Verdict.{Verdict}
 use Rattle.stamp_watch.specs.declared.verdict.Verdict.TheVariants.{Explained, Stuck, StuckWithin, Undecided, Broken}
+use Rattle.stamp_watch.specs.declared.verdict.Why.TheVariants.{TooMany, TooFar}
 use Rattle.stamp_watch.specs.declared.watch.Watch.{Watch}
+use Rattle.stamp_watch.specs.Ahead.{EndsNever}
 use Rattle.stamp_watch.specs.Form.{AreInForm}
 use Rattle.stamp_watch.specs.Run.{AreExplained, AreStuckAt}
 use Rattle.stamp_watch.specs.Watch.{IsWatching, MoreArePossible}
@@ -50,11 +54,27 @@ pub record IsStuckWithin (limits : Bounds) (events : List Event) (most k m : ℕ
   pub before : place < m
   pub too_many : AreTooMany limits (take place events) most
 
+-- the event begins a call, and none of so many events behind it ends that
+pub record IsOpenFor (events : List Event) (k ahead : ℕ) : Type 0 where
+  pub lane : ℕ
+  pub call : Call
+  pub later : List Event
+  pub there : drop k events ≡ Begins lane call ∷ later
+  pub many : ahead ≤ length later
+  pub never : EndsNever lane (take ahead later)
+
+-- where so many events are looked at for the end of a call, if not all
+abbrev pub IsTooFar : List Event → ℕ → Option ℕ → Type 0
+IsTooFar events k None = ⊥
+IsTooFar events k (Some ahead) = IsOpenFor events k ahead
+
 -- what a verdict means
-abbrev pub IsVerdict : Bounds → List Event → ℕ → Verdict → Type 0
-IsVerdict limits events most Explained = AreOfLock events × AreExplained limits events
-IsVerdict limits events most (Stuck k) = AreOfLock (take (k + 1) events) × AreStuckAt limits events k
-IsVerdict limits events most (StuckWithin k m) = IsStuckWithin limits events most k m
-IsVerdict limits events most (Undecided k) =
+abbrev pub IsVerdict : Bounds → List Event → ℕ → Option ℕ → Verdict → Type 0
+IsVerdict limits events most ahead Explained = AreOfLock events × AreExplained limits events
+IsVerdict limits events most ahead (Stuck k) = AreOfLock (take (k + 1) events) × AreStuckAt limits events k
+IsVerdict limits events most ahead (StuckWithin k m) = IsStuckWithin limits events most k m
+IsVerdict limits events most ahead (Undecided k TooMany) =
     AreOfLock (take k events) × AreExplained limits (take k events) × AreTooMany limits (take k events) most
-IsVerdict limits events most (Broken k) = AreBrokenAt events k × AreExplained limits (take k events)
+IsVerdict limits events most ahead (Undecided k TooFar) =
+    AreOfLock (take k events) × AreExplained limits (take k events) × IsTooFar events k ahead
+IsVerdict limits events most ahead (Broken k) = AreBrokenAt events k × AreExplained limits (take k events)

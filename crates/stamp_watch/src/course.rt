@@ -1,5 +1,5 @@
 //! The part of a run that is kept while it is judged.
-ghost use Rattle.std.specs.Prelude.{◌≡◌, ◌+◌, ◌^◌, ◌<◌, ◌≤◌, ◌∷◌, ◌++◌, [], IfOk, OnOk, IsTrue, List, false, length};
+ghost use Rattle.std.specs.Prelude.{◌≡◌, ◌+◌, ◌^◌, ◌<◌, ◌≤◌, ◌∷◌, ◌++◌, [], IfOk, OnOk, IsTrue, List, Option, Some, ℕ, false, length};
 ghost use Rattle.stamp_core.specs.Limits.{Bounds};
 ghost use Rattle.stamp_watch.specs.declared.event.Event.{Event};
 ghost use Rattle.stamp_watch.specs.Verdict.{AreOfLock};
@@ -10,7 +10,7 @@ use crate::ending::Ending;
 use crate::event::Event;
 use crate::judge::{Outcome, end_told, find_stuck, judge_rest, step};
 use crate::progress::Progress;
-use crate::verdict::Verdict;
+use crate::verdict::{Verdict, Why};
 use crate::watch::Watch;
 use stamp_core::Limits;
 use std::alloc::{AllocError, Global};
@@ -124,7 +124,7 @@ impl Course {
         requires front { IsFront self.old event.now }
         requires told { IsEndAtFront self.old event.now ends }
         requires known { IsKnown event.now ends }
-        ensures { IfOk result (λ onward. IsOnward most self.old self.new onward) }
+        ensures { IfOk result (λ onward. (ahead : Option ℕ) → IsOnward most ahead self.old self.new onward) }
     {
         let number = self.first + self.seen as u64;
         let progress = step(&mut self.watch, event, ends, most)?;
@@ -144,26 +144,30 @@ impl Course {
                 )?;
                 Ok(Onward::Finds(verdict))
             }
-            Progress::TooMany => Ok(Onward::Finds(Verdict::Undecided(number))),
+            Progress::TooMany => { Ok(Onward::Finds(Verdict::Undecided(number, Why::TooMany))) }
             Progress::Refused => unreachable!(),
         }
     }
 
-    /// Sees one more event, if how its call ends is known.
-    fn step_on(&mut self, most: u64) -> Result<Onward, AllocError>
+    /// Sees one more event, if how its call ends is known. It is looked for among so many events ahead.
+    fn step_on(&mut self, most: u64, ahead: usize) -> Result<Onward, AllocError>
         requires on { IsOnCourse self.old }
         requires room { HasRoom self.old }
         requires more { self.old.seen < length self.old.events.items }
-        ensures { IfOk result (λ onward. IsOnward most self.old self.new onward) }
+        ensures { IfOk result (λ onward. IsOnward most (Some ahead) self.old self.new onward) }
     {
         let events = self.events.as_slice();
         let event = events[self.seen];
         let ends = self.end_at_front(&event);
-        if !is_known(&event, ends) {
-            self.looked = self.events.len() - self.seen - 1;
+        if is_known(&event, ends) {
+            return self.see(&event, ends, most);
+        }
+        self.looked = self.events.len() - self.seen - 1;
+        if self.looked < ahead {
             return Ok(Onward::Waits);
         }
-        self.see(&event, ends, most)
+        let number = self.first + self.seen as u64;
+        Ok(Onward::Finds(Verdict::Undecided(number, Why::TooFar)))
     }
 
     /// Whether the spare watch can be the base, and it is time: enough events were seen behind it, and not fewer than
@@ -202,14 +206,14 @@ impl Course {
     }
 
     /// Sees event after event, as far as it is known how their calls end: what is found of the run then, if anything
-    /// is.
-    pub(crate) fn go_on(&mut self, most: u64) -> Result<Option<Verdict>, AllocError>
+    /// is. The end of a call is looked for among so many events ahead.
+    pub(crate) fn go_on(&mut self, most: u64, ahead: usize) -> Result<Option<Verdict>, AllocError>
         requires on { IsOnCourse self.old }
         requires room { HasRoom self.old }
-        ensures { IfOk result (λ found. HasGoneOn most self.old self.new found) }
+        ensures { IfOk result (λ found. HasGoneOn most (Some ahead) self.old self.new found) }
     {
         'unseen: while self.seen < self.events.len() {
-            let onward = self.step_on(most)?;
+            let onward = self.step_on(most, ahead)?;
             match onward {
                 Onward::Waits => return Ok(None),
                 Onward::Steps => self.let_go()?,
@@ -223,8 +227,8 @@ impl Course {
     pub(crate) fn rest(&self, most: u64) -> Result<Verdict, AllocError>
         requires on { IsOnCourse self.now }
         requires room { HasRoom self.now }
-        ensures { IfOk result (λ verdict. (limits : Bounds) (run : List Event) → IsCourse limits run self.now
-            → IsRest limits run most verdict) }
+        ensures { IfOk result (λ verdict. (ahead : Option ℕ) (limits : Bounds) (run : List Event)
+            → IsCourse limits run self.now → IsRest limits run most ahead verdict) }
     {
         let start = self.watch.copied()?;
         let number = self.first + self.seen as u64;
@@ -242,7 +246,7 @@ impl Course {
                     most,
                 )
             }
-            Outcome::TooMany(k) => Ok(Verdict::Undecided(number + k as u64)),
+            Outcome::TooMany(k) => Ok(Verdict::Undecided(number + k as u64, Why::TooMany)),
         }
     }
 }

@@ -1,5 +1,5 @@
 //! Judging runs that are in memory.
-ghost use Rattle.std.specs.Prelude.{◌≡◌, ◌+◌, ◌^◌, ◌<◌, ◌∷◌, ◌++◌, IfOk, List, ℕ, length};
+ghost use Rattle.std.specs.Prelude.{◌≡◌, ◌+◌, ◌^◌, ◌<◌, ◌∷◌, ◌++◌, IfOk, List, None, Option, ℕ, length};
 ghost use Rattle.std.specs.List.{All};
 ghost use Rattle.stamp_core.specs.Limits.{Bounds};
 ghost use Rattle.stamp_watch.specs.declared.event.Event.{Event};
@@ -13,7 +13,7 @@ use crate::ending::Ending;
 use crate::event::Event;
 use crate::lanes::in_form;
 use crate::progress::Progress;
-use crate::verdict::Verdict;
+use crate::verdict::{Verdict, Why};
 use crate::watch::Watch;
 use stamp_core::Limits;
 use std::alloc::{AllocError, Global};
@@ -100,10 +100,10 @@ pub(crate) fn find_stuck(
     requires within { explained < length events.now }
     requires room { first + length events.now < 2 ^ 64 }
     requires stuck { IsStuckFrom first explained events.now base.now }
-    ensures { IfOk result (λ verdict. (limits : Bounds) (past : List Event)
+    ensures { IfOk result (λ verdict. (ahead : Option ℕ) (limits : Bounds) (past : List Event)
         → IsBase limits first explained past events.now base.now
         → IsStuckBehind limits past events.now explained
-        → IsFound limits (past ++ events.now) most verdict) }
+        → IsFound limits (past ++ events.now) most ahead verdict) }
 {
     let mut low = explained;
     let mut high = events.len();
@@ -124,14 +124,14 @@ pub(crate) fn find_stuck(
 
 /// Judges a run of a lock that is in memory, from a new lock on: whether it is explained, and if not, at which event
 /// it is stuck. More than `most` configurations before an event are too many to go on. A run that is not explained
-/// may be judged again up to 64 times, each time up to an earlier event.
+/// may be judged again up to 64 times, each time up to an earlier event. A call may be open for as long as it likes.
 pub fn judge_run(
     alloc: Global,
     limits: Limits,
     events: &[Event],
     most: u64,
 ) -> Result<Verdict, AllocError>
-    ensures { IfOk result (IsVerdict limits events.now most) }
+    ensures { IfOk result (IsVerdict limits events.now most None) }
 {
     let many = in_form(events);
     let taken = &events[..many];
@@ -147,6 +147,6 @@ pub fn judge_run(
             }
         }
         Outcome::Unexplained(k) => find_stuck(&base, 0, taken, k, most),
-        Outcome::TooMany(k) => Ok(Verdict::Undecided(k as u64)),
+        Outcome::TooMany(k) => Ok(Verdict::Undecided(k as u64, Why::TooMany)),
     }
 }

@@ -24,5 +24,5 @@ pub use event::Event;
 pub use judge::judge_run;
 pub use online::Judge;
 pub use progress::Progress;
-pub use verdict::Verdict;
+pub use verdict::{Verdict, Why};
 pub use watch::Watch;

@@ -6,11 +6,9 @@
 //! was seen. Where the watch keeps no configuration, the run is not explained with the events that are known, and the
 //! first event that shows it is found from the base, by halving. What is found is final.
 //!
-//! The judge doesn't let go of events yet. It may where a watch behind some of them knows how its open calls end, and
-//! each of these ends was seen: that watch can be the base. A call that ends far behind may begin late, just before the
-//! events that are kept: by `begins_sooner` what is explained then is explained, and by `begins_late` nothing is lost
-//! where its reply tells a version that what comes then doesn't go below.
-ghost use Rattle.std.specs.Prelude.{◌≡◌, ◌↔◌, [], IfOk, None, List, ℕ, false};
+//! A copy of the watch, once the ends of its open calls were seen, is the new base, and the events before it are let go
+//! of. A call that is open for more events than were allowed ends the judging, so few events are kept.
+ghost use Rattle.std.specs.Prelude.{◌≡◌, ◌↔◌, [], IfOk, None, Some, List, ℕ, false};
 ghost use Rattle.stamp_core.specs.Limits.{Bounds};
 ghost use Rattle.stamp_watch.specs.declared.event.Event.{Event};
 ghost use Rattle.stamp_watch.specs.Judge.{HasRoomForOne, IsFoundThen, IsGiven, IsJudge, IsJudgeOfSome};
@@ -32,6 +30,7 @@ use std::alloc::{AllocError, Global};
 #[derive(Drop)]
 pub struct Judge {
     most: u64,
+    ahead: usize,
     busy: u64,
     course: Course,
     found: Option<Verdict>,
@@ -49,14 +48,15 @@ fn broken_off(rest: Verdict, number: u64) -> Verdict
 
 impl Judge {
     /// The judge of a lock with these limits, before any event. More than `most` configurations before an event are
-    /// too many to go on.
-    pub fn new(alloc: Global, limits: Limits, most: u64) -> Result<Judge, AllocError>
-        ensures judge { IfOk result (λ judge. IsJudge limits most [] judge) }
+    /// too many to go on, and so is a call that none of `ahead` events behind its beginning ends.
+    pub fn new(alloc: Global, limits: Limits, most: u64, ahead: usize) -> Result<Judge, AllocError>
+        ensures judge { IfOk result (λ judge. IsJudge limits most ahead [] judge) }
         ensures known { IfOk result (λ judge. IsJudgeOfSome judge) }
     {
         let course = Course::new(alloc, limits)?;
         Ok(Judge {
             most,
+            ahead,
             busy: 0,
             course,
             found: None,
@@ -76,7 +76,7 @@ impl Judge {
     {
         self.course.add(event)?;
         self.busy = busy;
-        let found = self.course.go_on(self.most)?;
+        let found = self.course.go_on(self.most, self.ahead)?;
         self.found = found;
         Ok(found)
     }
@@ -135,8 +135,8 @@ impl Judge {
     /// What is found of the run if it ends here: a call that has not ended never ends.
     pub fn finish(&self) -> Result<Verdict, AllocError>
         requires { IsJudgeOfSome self.now }
-        ensures { IfOk result (λ verdict. (limits : Bounds) (most : ℕ) (run : List Event)
-            → IsJudge limits most run self.now → IsVerdict limits run most verdict) }
+        ensures { IfOk result (λ verdict. (limits : Bounds) (most ahead : ℕ) (run : List Event)
+            → IsJudge limits most ahead run self.now → IsVerdict limits run most (Some ahead) verdict) }
     {
         match self.found {
             Some(verdict) => Ok(verdict),

@@ -11,10 +11,18 @@ pub enum Verdict {
     /// it is stuck at the first or between them. Just before some event more configurations than were allowed are
     /// possible.
     StuckWithin(u64, u64),
-    /// The run is explained before the event with this number. Just before it more configurations than were allowed
-    /// are possible.
-    Undecided(u64),
+    /// The run is explained before the event with this number. For this cause it is not judged further.
+    Undecided(u64, Why),
     /// The run is explained before the event with this number, and the event may not come there: its lane is none of
     /// 0 to 63, it begins a call where one is open or ends one where none is, or its call or reply is not the lock's.
     Broken(u64),
+}
+
+/// Why a run is not judged further at an event.
+#[derive(Clone, Copy, Debug, PartialEq, Eq)]
+pub enum Why {
+    /// Just before it more configurations than were allowed are possible.
+    TooMany,
+    /// It begins a call that is open for more events than were allowed.
+    TooFar,
 }

@@ -1,5 +1,5 @@
 use stamp_core::{Call, Layout, Limits, Reply, Words};
-use stamp_watch::{Event, Verdict, judge_run};
+use stamp_watch::{Event, Verdict, Why, judge_run};
 use std::test::Fail;
 
 /// A call that begins in the lane.
@@ -287,7 +287,7 @@ fn a_run_is_undecided_where_too_many_configurations_are_possible(
 ) -> Result<(), Fail> {
     assert!(rt; verdict(&rt, 2, &EITHER)? == Verdict::Stuck(5));
     assert!(rt; verdict(&rt, 1, &EITHER)? == Verdict::StuckWithin(3, 6));
-    assert!(rt; verdict(&rt, 1, &EITHER[..4])? == Verdict::Undecided(3));
+    assert!(rt; verdict(&rt, 1, &EITHER[..4])? == Verdict::Undecided(3, Why::TooMany));
     assert!(rt; verdict(&rt, 1, &EITHER[..3])? == Verdict::Explained);
     Ok(())
 }

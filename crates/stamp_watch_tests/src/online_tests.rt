@@ -1,5 +1,5 @@
 use stamp_core::{Call, Limits, Reply};
-use stamp_watch::{Event, Judge, Verdict};
+use stamp_watch::{Event, Judge, Verdict, Why};
 use std::test::Fail;
 
 /// What is found while the events of a run come, for up to 127 readers and 1,000 write acquisitions, and what is found
@@ -12,7 +12,7 @@ fn found(
     let Ok(limits) = Limits::new(127, 1000) else {
         return Err(Fail::from("limits"));
     };
-    let mut judge = Judge::new(rt.alloc(), limits, most)?;
+    let mut judge = Judge::new(rt.alloc(), limits, most, 100)?;
     let mut found = None;
     for event in events {
         if judge.is_full() {
@@ -101,6 +101,6 @@ fn a_run_with_too_many_configurations_is_not_decided(rt: HostRuntime) -> Result<
     assert!(rt; found(&rt, 2, &either)? == (Some(stuck), stuck));
     let within = Verdict::StuckWithin(3, 6);
     assert!(rt; found(&rt, 1, &either)? == (Some(within), within));
-    assert!(rt; found(&rt, 1, &either[..4])? == (None, Verdict::Undecided(3)));
+    assert!(rt; found(&rt, 1, &either[..4])? == (None, Verdict::Undecided(3, Why::TooMany)));
     Ok(())
 }

@@ -69,33 +69,33 @@ pub record HasLetGo (old new : Course) : Type 0 where
   pub as_many : unseen new ≡ unseen old
 
 -- this is found of a run, whatever comes later
-abbrev pub IsFoundOn : ℕ → Course → Verdict → Type 0
-IsFoundOn most course verdict = (limits : Bounds) (run : List Event) → IsCourse limits run course →
-    IsFound limits run most verdict
+abbrev pub IsFoundOn : ℕ → Option ℕ → Course → Verdict → Type 0
+IsFoundOn most ahead course verdict = (limits : Bounds) (run : List Event) → IsCourse limits run course →
+    IsFound limits run most ahead verdict
 
 -- what comes of a step
-abbrev pub IsOnward : ℕ → Course → Course → Onward → Type 0
-IsOnward most old new Waits = IsSameRun old new
-IsOnward most old new Steps = HasStepped old new
-IsOnward most old new (Finds verdict) = IsFoundOn most old verdict
+abbrev pub IsOnward : ℕ → Option ℕ → Course → Course → Onward → Type 0
+IsOnward most ahead old new Waits = IsSameRun old new
+IsOnward most ahead old new Steps = HasStepped old new
+IsOnward most ahead old new (Finds verdict) = IsFoundOn most ahead old verdict
 
 -- what comes of several
-abbrev pub HasGoneOn : ℕ → Course → Course → Option Verdict → Type 0
-HasGoneOn most old new None = IsSameRun old new
-HasGoneOn most old new (Some verdict) = IsFoundOn most old verdict
+abbrev pub HasGoneOn : ℕ → Option ℕ → Course → Course → Option Verdict → Type 0
+HasGoneOn most ahead old new None = IsSameRun old new
+HasGoneOn most ahead old new (Some verdict) = IsFoundOn most ahead old verdict
 
 -- what is found of a run that ends here; what is not explained is found whatever comes later
-abbrev pub IsRest : Bounds → List Event → ℕ → Verdict → Type 0
-IsRest limits run most verdict.Explained = AreOfLock run × AreExplained limits run
-IsRest limits run most (verdict.Stuck k) = IsFound limits run most (verdict.Stuck k)
-IsRest limits run most (verdict.StuckWithin k m) = IsFound limits run most (verdict.StuckWithin k m)
-IsRest limits run most (verdict.Undecided k) = IsFound limits run most (verdict.Undecided k)
-IsRest limits run most (verdict.Broken k) = IsFound limits run most (verdict.Broken k)
+abbrev pub IsRest : Bounds → List Event → ℕ → Option ℕ → Verdict → Type 0
+IsRest limits run most ahead verdict.Explained = AreOfLock run × AreExplained limits run
+IsRest limits run most ahead (verdict.Stuck k) = IsFound limits run most ahead (verdict.Stuck k)
+IsRest limits run most ahead (verdict.StuckWithin k m) = IsFound limits run most ahead (verdict.StuckWithin k m)
+IsRest limits run most ahead (verdict.Undecided k why) = IsFound limits run most ahead (verdict.Undecided k why)
+IsRest limits run most ahead (verdict.Broken k) = IsFound limits run most ahead (verdict.Broken k)
 
 -- what is found of a run that goes on with an event that may not come there
 abbrev pub broken_off : Verdict → ℕ → Verdict
 broken_off verdict.Explained place = verdict.Broken place
 broken_off (verdict.Stuck k) place = verdict.Stuck k
 broken_off (verdict.StuckWithin k m) place = verdict.StuckWithin k m
-broken_off (verdict.Undecided k) place = verdict.Undecided k
+broken_off (verdict.Undecided k why) place = verdict.Undecided k why
 broken_off (verdict.Broken k) place = verdict.Broken k

@@ -1,4 +1,4 @@
-use Rattle.std.proofs.Common.{List, []}
+use Rattle.std.proofs.Common.{List, None, []}
 use Rattle.std.specs.Prelude.{take}
 use Rattle.std.proofs.lemmas.Result.{IfOk-weaker}
 use Rattle.stamp_watch.proofs.Judged.{broken_at, explained_whole, found_in_whole, undecided_at, base_first}
@@ -15,14 +15,14 @@ judge_rest-requires-clause-judging c = record {
 }
 
 pub returns-then-many-events : goal.returns-then-many-events
-returns-then-many-events c = explained_whole c.args.limits c.args.events.now c.args.most c.in_form-many.result
+returns-then-many-events c = explained_whole c.args.limits c.args.events.now c.args.most c.in_form-many.result None
     c.if-many-events.true c.in_form-many.ensures (rw c.in-Explained.is at (c.in_ok-outcome.ensures c.args.limits []
     (judging_from_first c.args.limits (take c.in_form-many.result c.args.events.now) c.in_ok-base.base
     c.in_ok-start.start c.in_ok-base.ensures.watching c.in_ok-base.ensures.untold c.in_ok-start.ensures
     c.in_form-many.ensures.whole)))
 
 pub returns-in-Explained : goal.returns-in-Explained
-returns-in-Explained c = broken_at c.args.limits c.args.events.now c.args.most c.in_form-many.result
+returns-in-Explained c = broken_at c.args.limits c.args.events.now c.args.most c.in_form-many.result None
     c.if-many-events.false c.in_form-many.ensures (rw c.in-Explained.is at (c.in_ok-outcome.ensures c.args.limits []
     (judging_from_first c.args.limits (take c.in_form-many.result c.args.events.now) c.in_ok-base.base
     c.in_ok-start.start c.in_ok-base.ensures.watching c.in_ok-base.ensures.untold c.in_ok-start.ensures
@@ -49,8 +49,8 @@ find_stuck-requires-clause-stuck c = record {
 
 pub returns-in-Unexplained : goal.returns-in-Unexplained
 returns-in-Unexplained c = IfOk-weaker c.find_stuck.result _ _
-    (λ verdict found. found_in_whole c.args.limits c.args.events.now c.args.most c.in_form-many.result verdict
-    (found c.args.limits [] (base_first c.args.limits c.in-Unexplained.k (take c.in_form-many.result c.args.events.now)
+    (λ verdict found. found_in_whole c.args.limits c.args.events.now c.args.most c.in_form-many.result None verdict
+    (found None c.args.limits [] (base_first c.args.limits c.in-Unexplained.k (take c.in_form-many.result c.args.events.now)
     c.in_ok-base.base c.in_ok-base.ensures.watching c.in_ok-base.ensures.untold c.in_form-many.ensures.whole)
     (stuck_behind c.args.limits [] (take c.in_form-many.result c.args.events.now) c.args.most c.in-Unexplained.k
     (rw c.in-Unexplained.is at (c.in_ok-outcome.ensures c.args.limits []
@@ -59,7 +59,7 @@ returns-in-Unexplained c = IfOk-weaker c.find_stuck.result _ _
     c.in_form-many.ensures.whole)))))) c.find_stuck.ensures
 
 pub returns : goal.returns
-returns c = undecided_at c.args.limits c.args.events.now c.args.most c.in_form-many.result c.in-TooMany.k
+returns c = undecided_at c.args.limits c.args.events.now c.args.most c.in_form-many.result c.in-TooMany.k None
     c.in_form-many.ensures (rw c.in-TooMany.is at (c.in_ok-outcome.ensures c.args.limits []
     (judging_from_first c.args.limits (take c.in_form-many.result c.args.events.now) c.in_ok-base.base
     c.in_ok-start.start c.in_ok-base.ensures.watching c.in_ok-base.ensures.untold c.in_ok-start.ensures

@@ -1,4 +1,4 @@
-use Rattle.std.proofs.Common.{List, ◌≡◌, ◌+◌, ◌-◌, ◌<◌, ◌++◌, ◌∙◌, length, arith, sym, subst, ap}
+use Rattle.std.proofs.Common.{List, ◌≡◌, ◌+◌, ◌-◌, ◌<◌, ◌++◌, ◌∙◌, length, None, arith, sym, subst, ap}
 use Rattle.std.specs.Prelude.{take, drop}
 use Rattle.std.proofs.lemmas.List.{take_rest}
 use Rattle.std.proofs.lemmas.Result.{IfOk-weaker}
@@ -56,7 +56,7 @@ find_stuck-requires-clause-stuck c =
     c.args.self.now.base c.args.self.now.watch on.course_of.on
     (c.args.self.now.seen + c.in-Unexplained.k) c.as_slice.result.now c.as_slice.ensures.value (omega arith)
     (rest_stuck on.limits on.run c.args.self.now.first c.args.self.now.seen c.args.self.now.events.items
-    c.args.self.now.base c.args.self.now.watch on.course_of.on c.args.most c.in-Unexplained.k
+    c.args.self.now.base c.args.self.now.watch on.course_of.on c.args.most None c.in-Unexplained.k
     (rw c.in-Unexplained.is at (outcome_here at on.limits on.run on.course_of)))
 
 pub overflow_add-result : goal.overflow_add-result
@@ -70,26 +70,26 @@ overflow_add-result c =
     omega (arith, below, c.requires.room.room)
 
 pub returns-in-Explained : goal.returns-in-Explained
-returns-in-Explained c limits run is =
+returns-in-Explained c ahead limits run is =
     let at = (goal.at.returns-in-Explained c).In_ok-outcome in
     rest_explained limits run c.args.self.now.first c.args.self.now.seen c.args.self.now.events.items
-    c.args.self.now.base c.args.self.now.watch is.on c.args.most
+    c.args.self.now.base c.args.self.now.watch is.on c.args.most ahead
     (rw c.in-Explained.is at (outcome_here at limits run is))
 
 pub returns-in-Unexplained : goal.returns-in-Unexplained
 returns-in-Unexplained c =
     let at = (goal.at.returns-in-Unexplained c).In_ok-outcome in
     IfOk-weaker c.find_stuck.result _ _
-    (λ verdict found limits run is. rest_found limits run c.args.most verdict (run_finds limits run c.args.self.now.first c.args.self.now.seen c.args.self.now.events.items
+    (λ verdict found ahead limits run is. rest_found limits run c.args.most ahead verdict (run_finds limits run c.args.self.now.first c.args.self.now.seen c.args.self.now.events.items
     c.args.self.now.base c.args.self.now.watch is.on
-    (c.args.self.now.seen + c.in-Unexplained.k) c.args.most c.as_slice.result.now verdict c.as_slice.ensures.value (omega arith)
+    (c.args.self.now.seen + c.in-Unexplained.k) c.args.most ahead c.as_slice.result.now verdict c.as_slice.ensures.value (omega arith)
     (rest_stuck limits run c.args.self.now.first c.args.self.now.seen c.args.self.now.events.items
-    c.args.self.now.base c.args.self.now.watch is.on c.args.most c.in-Unexplained.k
-    (rw c.in-Unexplained.is at (outcome_here at limits run is))) found)) c.find_stuck.ensures
+    c.args.self.now.base c.args.self.now.watch is.on c.args.most ahead c.in-Unexplained.k
+    (rw c.in-Unexplained.is at (outcome_here at limits run is))) (found ahead))) c.find_stuck.ensures
 
 pub returns-in-TooMany : goal.returns-in-TooMany
-returns-in-TooMany c limits run is =
+returns-in-TooMany c ahead limits run is =
     let at = (goal.at.returns-in-TooMany c).In_ok-outcome in
     rest_undecided limits run c.args.self.now.first c.args.self.now.seen c.args.self.now.events.items
-    c.args.self.now.base c.args.self.now.watch is.on c.args.most c.in-TooMany.k
+    c.args.self.now.base c.args.self.now.watch is.on c.args.most ahead c.in-TooMany.k
     (rw c.in-TooMany.is at (outcome_here at limits run is))

@@ -23,7 +23,7 @@ step_here c limits run is = c.in_ok-progress.ensures limits (c.args.self.now.fir
     c.args.most)
 
 pub returns-in-Going : goal.returns-in-Going
-returns-in-Going c =
+returns-in-Going c ahead =
     let at = (goal.at.returns-in-Going c).In_ok-progress in
     record {
       same = record {
@@ -53,19 +53,19 @@ find_stuck-requires-clause-stuck c =
     (step_here at on.limits on.run on.course_of))
 
 pub returns-in_ok-verdict-in-Dead : goal.returns-in_ok-verdict-in-Dead
-returns-in_ok-verdict-in-Dead c limits run is =
+returns-in_ok-verdict-in-Dead c ahead limits run is =
     let at = (goal.at.returns-in_ok-verdict-in-Dead c).In_ok-progress in
     run_finds limits run c.args.self.now.first c.args.self.now.seen c.args.self.now.events.items
-    c.args.self.now.base c.args.self.now.watch is.on c.args.self.now.seen c.args.most c.as_slice.result.now
+    c.args.self.now.base c.args.self.now.watch is.on c.args.self.now.seen c.args.most ahead c.as_slice.result.now
     c.in_ok-verdict-in-Dead.verdict c.as_slice.ensures.value (omega arith)
     (run_dead limits run c.args.self.now.first c.args.self.now.seen c.args.self.now.events.items
     c.args.self.now.base c.args.self.now.watch is.on c.args.event.now c.requires.front.less c.requires.front.read
     c.args.most c.step.new.watch c.in_ok-progress.progress c.in-Dead.is (step_here at limits run is))
-    c.in_ok-verdict-in-Dead.ensures
+    (c.in_ok-verdict-in-Dead.ensures ahead)
 
 pub returns-in-TooMany : goal.returns-in-TooMany
-returns-in-TooMany c limits run is =
+returns-in-TooMany c ahead limits run is =
     let at = (goal.at.returns-in-TooMany c).In_ok-progress in
     run_too_many limits run c.args.self.now.first c.args.self.now.seen c.args.self.now.events.items
     c.args.self.now.base c.args.self.now.watch is.on c.args.event.now c.requires.front.less c.requires.front.read
-    c.args.most c.step.new.watch c.in_ok-progress.progress c.in-TooMany.is (step_here at limits run is)
+    c.args.most ahead c.step.new.watch c.in_ok-progress.progress c.in-TooMany.is (step_here at limits run is)

@@ -1,6 +1,8 @@
-use Rattle.std.proofs.Common.{List, ◌≡◌, ◌+◌, ◌-◌, get_or, arith, refl, subst}
+use Rattle.std.proofs.Common.{List, ◌≡◌, ◌+◌, ◌-◌, ◌≤◌, length, length-drop, get_or, arith, refl, subst}
+use Rattle.std.specs.Prelude.{drop}
 use Rattle.stamp_watch.specs.declared.event.Event.{Event}
 use Rattle.stamp_watch.proofs.Looking.{looked_all}
+use Rattle.stamp_watch.proofs.TooFar.{run_too_far}
 use Rattle.stamp_watch.proofs.course.Course.step_on.Goals as goal
 
 pub end_at_front-ends-requires-clause-front : goal.end_at_front-ends-requires-clause-front
@@ -10,8 +12,15 @@ end_at_front-ends-requires-clause-front c = record {
       get_or xs c.args.self.now.seen c.index-events-self.result) c.as_slice-events.ensures.value c.index-events-self.is;
 }
 
-pub returns-then-not-is_known : goal.returns-then-not-is_known
-returns-then-not-is_known c = record {
+pub see-requires-clause-front : goal.see-requires-clause-front
+see-requires-clause-front c = record {
+  less = c.requires.more;
+  read = subst (λ (xs : List Event). c.index-events-self.result ≡
+      get_or xs c.args.self.now.seen c.index-events-self.result) c.as_slice-events.ensures.value c.index-events-self.is;
+}
+
+pub returns-then-self-ahead : goal.returns-then-self-ahead
+returns-then-self-ahead c = record {
   long = refl;
   courses = λ limits run is. record {
     on = is.on;
@@ -21,14 +30,19 @@ returns-then-not-is_known c = record {
         c.index-events-self.is) (c.args.self.now.first + c.args.self.now.seen + 1)
         (c.len.result - c.args.self.now.seen - 1) c.end_at_front-ends.result
         (omega (arith, c.len.ensures, c.args.self.now.events.ok.0, c.requires.more))
-        (c.is_known.ensures.unknown c.if-not-is_known.true) c.end_at_front-ends.ensures.told;
+        (c.is_known.ensures.unknown c.if-is_known.false) c.end_at_front-ends.ensures.told;
     spare_is = is.spare_is;
   };
 }
 
-pub see-requires-clause-front : goal.see-requires-clause-front
-see-requires-clause-front c = record {
-  less = c.requires.more;
-  read = subst (λ (xs : List Event). c.index-events-self.result ≡
-      get_or xs c.args.self.now.seen c.index-events-self.result) c.as_slice-events.ensures.value c.index-events-self.is;
-}
+pub returns : goal.returns
+returns c limits run is =
+    let long = length-drop (c.args.self.now.seen + 1) c.args.self.now.events.items in
+    let many : c.args.ahead ≤ length (drop (c.args.self.now.seen + 1) c.args.self.now.events.items) =
+    omega (arith, long, c.len.ensures, c.args.self.now.events.ok.0, c.if-self-ahead.false) in
+    run_too_far limits run c.args.self.now.first c.args.self.now.seen c.args.self.now.events.items
+    c.args.self.now.base c.args.self.now.watch is.on c.index-events-self.result c.requires.more
+    (subst (λ (xs : List Event). c.index-events-self.result ≡
+    get_or xs c.args.self.now.seen c.index-events-self.result) c.as_slice-events.ensures.value
+    c.index-events-self.is) c.args.most c.args.ahead (c.args.self.now.first + c.args.self.now.seen + 1)
+    c.end_at_front-ends.result many (c.is_known.ensures.unknown c.if-is_known.false) c.end_at_front-ends.ensures.told
