@@ -1,6 +1,6 @@
 -- A judge that is given one event more.
-use Rattle.std.proofs.Common.{ℕ, ◌≡◌, ◌+◌, ◌^◌, ◌<◌, List, [], ◌∷◌, ◌++◌, length, Option, Some, None, refl, sym, ◌∙◌, ap}
-use Rattle.std.proofs.Common.{subst, arith}
+use Rattle.std.proofs.Common.{ℕ, ◌≡◌, ◌+◌, ◌*◌, ◌^◌, ◌<◌, ◌≤◌, List, [], ◌∷◌, ◌++◌, length, Option, Some, None, sym, ◌∙◌}
+use Rattle.std.proofs.Common.{ap, subst, arith}
 use Rattle.std.specs.Prelude.{MatchOption}
 use Rattle.std.proofs.lemmas.List.{length-append}
 use Rattle.stamp_core.specs.Limits.{Bounds}
@@ -13,7 +13,7 @@ use Rattle.stamp_watch.specs.Judge.{HasRoomForOne, IsJudge, IsUnderWay}
 use Rattle.stamp_watch.specs.Verdict.{AreOfLock}
 use Rattle.stamp_watch.specs.Judging.{AreBusyLanes, IsFound}
 use Rattle.stamp_watch.specs.inner.Judging.{MayComeIn, SetsBusy}
-use Rattle.stamp_watch.specs.Course.{HasRoom, IsCourse, IsRunOn}
+use Rattle.stamp_watch.specs.Course.{HasRoom, IsCourse, IsNear, IsRunOn, IsSmall}
 use Rattle.stamp_watch.specs.inner.Course.{HasGoneOn, IsOneLonger, IsRest, broken_off}
 use Rattle.stamp_watch.proofs.Forming.{busy_lanes_then, form_first, of_lock_on}
 use Rattle.stamp_watch.proofs.Running.{broken_found, found_later}
@@ -25,26 +25,52 @@ pub run_long : (limits : Bounds) (run : List Event) (first seen : ℕ) (events :
 run_long limits run first seen events base watch is =
     ap (λ (n : ℕ). n + length events) is.place ∙ sym (length-append is.past events) ∙ ap length (sym is.run_is)
 
+-- few events are kept, also when one comes
+small_added : (ahead : ℕ) (old new : Course) → IsSmall ahead old → IsNear ahead old → IsOneLonger old new →
+    IsSmall ahead new
+small_added ahead old new small near longer = record {
+  place = let low : old.place ≤ ahead + 1024 = small.place in
+      let same : new.place ≡ old.place = longer.place in omega (arith, low, same);
+  reach = let low : old.reach ≤ ahead + 1 = small.reach in
+      let same : new.reach ≡ old.reach = longer.reach in omega (arith, low, same);
+  seen = let low : old.seen ≤ old.place + (ahead + 1024) = small.seen in
+      let at : new.place ≡ old.place = longer.place in
+      let same : new.seen ≡ old.seen = longer.seen in omega (arith, low, at, same);
+  events = let low : length old.events.items ≤ old.seen + ahead = near.events in
+      let long : length new.events.items ≡ length old.events.items + 1 = longer.longer in
+      let same : new.seen ≡ old.seen = longer.seen in omega (arith, low, long, same);
+}
+
+pub few_kept : (ahead : ℕ) (course : Course) → IsSmall ahead course →
+    length course.events.items ≤ 3 * (ahead + 1024)
+few_kept ahead course small = let place : course.place ≤ ahead + 1024 = small.place in
+    let seen : course.seen ≤ course.place + (ahead + 1024) = small.seen in
+    let events : length course.events.items ≤ course.seen + ahead + 1 = small.events in
+    omega (arith, place, seen, events)
+
 -- what a judge knows of a run, by what it has found
 abbrev pub IsState : Bounds → ℕ → ℕ → List Event → Judge → Option Verdict → Type 0
-IsState limits most ahead run judge found = MatchOption found (IsUnderWay limits run judge)
+IsState limits most ahead run judge found = MatchOption found (IsUnderWay limits ahead run judge)
     (λ (v : Verdict). IsFound limits run most (Some ahead) v)
 
 pub judge_first : (limits : Bounds) (most ahead : ℕ) (judge : Judge) → judge.most ≡ most → judge.ahead ≡ ahead →
-    judge.busy ≡ 0 → judge.found ≡ None → IsCourse limits [] judge.course → IsJudge limits most ahead [] judge
-judge_first limits most ahead judge same far free none course_of = record {
+    judge.busy ≡ 0 → judge.found ≡ None → IsCourse limits [] judge.course → IsSmall ahead judge.course →
+    IsJudge limits most ahead [] judge
+judge_first limits most ahead judge same far free none course_of small = record {
   most_is = same;
   ahead_is = far;
+  small = small;
   state = subst (λ (o : Option Verdict). IsState limits most ahead [] judge o) (sym none) (record {
     course_of = course_of;
     lanes = subst (AreBusyLanes []) (sym free) form_first.1;
-    room = record {
-      room = let long : judge.course.first + length judge.course.events.items ≡ 0 =
-          run_long limits [] judge.course.first judge.course.seen judge.course.events.items judge.course.base
-          judge.course.watch course_of.on in omega (arith, long);
-    };
+    room = record { room = omega (arith, long) };
+    near = record { events = omega (arith, long) };
   });
 }
+  where
+    long : judge.course.first + length judge.course.events.items ≡ 0
+    long = run_long limits [] judge.course.first judge.course.seen judge.course.events.items judge.course.base
+        judge.course.watch course_of.on
 
 -- what a judge has found, or that it has found nothing
 module _ (limits : Bounds) (most ahead : ℕ) (run : List Event) (judge : Judge)
@@ -52,7 +78,7 @@ module _ (limits : Bounds) (most ahead : ℕ) (run : List Event) (judge : Judge)
   pub found_of : (v : Verdict) → judge.found ≡ Some v → IsFound limits run most (Some ahead) v
   found_of v some = subst (λ (o : Option Verdict). IsState limits most ahead run judge o) some is.state
 
-  pub way_of : judge.found ≡ None → IsUnderWay limits run judge
+  pub way_of : judge.found ≡ None → IsUnderWay limits ahead run judge
   way_of none = subst (λ (o : Option Verdict). IsState limits most ahead run judge o) none is.state
 
 module _ (limits : Bounds) (most ahead : ℕ) (run : List Event) (e : Event) (old : Judge)
@@ -61,6 +87,7 @@ module _ (limits : Bounds) (most ahead : ℕ) (run : List Event) (e : Event) (ol
   judge_stays v some = record {
     most_is = is.most_is;
     ahead_is = is.ahead_is;
+    small = is.small;
     state = subst (λ (o : Option Verdict). IsState limits most ahead (run ++ e ∷ []) old o) (sym some)
         (found_later limits run most (Some ahead) v e (found_of limits most ahead run old is v some));
   }
@@ -72,7 +99,7 @@ module _ (limits : Bounds) (most ahead : ℕ) (run : List Event) (e : Event) (ol
       (subst (λ (n : ℕ). IsFound limits (run ++ e ∷ []) old.most (Some n) v) is.ahead_is found)
 
   module _ (none : old.found ≡ None) where
-    under_way : IsUnderWay limits run old
+    under_way : IsUnderWay limits ahead run old
     under_way = way_of limits most ahead run old is none
 
     whole_before : AreOfLock run
@@ -90,30 +117,34 @@ module _ (limits : Bounds) (most ahead : ℕ) (run : List Event) (e : Event) (ol
 
       module _ (new_course : Course) where
         pub found_then : (found : Option Verdict) →
-            HasGoneOn old.most (Some old.ahead) then_course new_course found →
+            HasGoneOn old.most old.ahead then_course new_course found →
             MatchOption found (AreOfLock (run ++ e ∷ []))
             (λ (v : Verdict). IsFound limits (run ++ e ∷ []) most (Some ahead) v)
         found_then None gone = whole_then
         found_then (Some v) gone = found_as v (gone limits (run ++ e ∷ []) then_of)
 
         pub judge_then : (new : Judge) → new.most ≡ old.most → new.ahead ≡ old.ahead → new.busy ≡ busy →
-            new.course ≡ new_course → HasRoom then_course →
-            HasGoneOn old.most (Some old.ahead) then_course new_course new.found →
-            IsJudge limits most ahead (run ++ e ∷ []) new
-        judge_then new same far busy_is course_is space gone = record {
+            new.course ≡ new_course → HasRoom then_course → IsOneLonger old.course then_course →
+            (IsSmall old.ahead then_course → IsSmall old.ahead new_course) →
+            HasGoneOn old.most old.ahead then_course new_course new.found → IsJudge limits most ahead (run ++ e ∷ []) new
+        judge_then new same far busy_is course_is space longer stays gone = record {
           most_is = same ∙ is.most_is;
           ahead_is = far ∙ is.ahead_is;
+          small = subst (IsSmall ahead) (sym course_is) (subst (λ (n : ℕ). IsSmall n then_course → IsSmall n new_course)
+              is.ahead_is stays (small_added ahead old.course then_course is.small under_way.near longer));
           state = by new.found gone;
         }
           where
-            by : (found : Option Verdict) → HasGoneOn old.most (Some old.ahead) then_course new_course found →
+            by : (found : Option Verdict) → HasGoneOn old.most old.ahead then_course new_course found →
                 IsState limits most ahead (run ++ e ∷ []) new found
             by None gone_on = record {
               course_of = subst (λ (c : Course). IsCourse limits (run ++ e ∷ []) c) (sym course_is)
-                  (gone_on.courses limits (run ++ e ∷ []) then_of);
+                  (gone_on.same.courses limits (run ++ e ∷ []) then_of);
               lanes = subst (AreBusyLanes (run ++ e ∷ [])) (sym busy_is)
                   (busy_lanes_then run old.busy busy e under_way.lanes sets);
-              room = subst HasRoom (sym course_is) (room_still then_course new_course gone_on space);
+              room = subst HasRoom (sym course_is) (room_still then_course new_course gone_on.same space);
+              near = subst (IsNear ahead) (sym course_is)
+                  (subst (λ (n : ℕ). IsNear n new_course) is.ahead_is gone_on.near);
             }
             by (Some v) found = found_as v (found limits (run ++ e ∷ []) then_of)
 
@@ -129,11 +160,12 @@ module _ (limits : Bounds) (most ahead : ℕ) (run : List Event) (e : Event) (ol
         (ends (Some ahead) limits run under_way.course_of))
 
     pub judge_broken : (new : Judge) (v : Verdict) → new.most ≡ old.most → new.ahead ≡ old.ahead →
-        new.found ≡ Some v → IsFound limits (run ++ e ∷ []) most (Some ahead) v →
+        new.course ≡ old.course → new.found ≡ Some v → IsFound limits (run ++ e ∷ []) most (Some ahead) v →
         IsJudge limits most ahead (run ++ e ∷ []) new
-    judge_broken new v same far some found = record {
+    judge_broken new v same far course_is some found = record {
       most_is = same ∙ is.most_is;
       ahead_is = far ∙ is.ahead_is;
+      small = subst (IsSmall ahead) (sym course_is) is.small;
       state = subst (λ (o : Option Verdict). IsState limits most ahead (run ++ e ∷ []) new o) (sym some) found;
     }
 

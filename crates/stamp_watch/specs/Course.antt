@@ -58,3 +58,14 @@ pub record IsCourse (limits : Bounds) (run : List Event) (course : Course) : Typ
 -- its events can be numbered
 pub record HasRoom (course : Course) : Type 0 where
   pub room : course.first + length course.events.items < 2 ^ 64
+
+-- few events are kept, where so many are looked at for the end of a call
+pub record IsSmall (ahead : ℕ) (course : Course) : Type 0 where
+  pub place : course.place ≤ ahead + 1024
+  pub reach : course.reach ≤ ahead + 1
+  pub seen : course.seen ≤ course.place + (ahead + 1024)
+  pub events : length course.events.items ≤ course.seen + ahead + 1
+
+-- one event more may come then
+pub record IsNear (ahead : ℕ) (course : Course) : Type 0 where
+  pub events : length course.events.items ≤ course.seen + ahead

@@ -6,19 +6,21 @@ use Rattle.stamp_watch.specs.declared.online.Judge.{Judge}
 use Rattle.stamp_watch.specs.declared.verdict.Verdict.{Verdict}
 use Rattle.stamp_watch.specs.Verdict.{AreOfLock}
 use Rattle.stamp_watch.specs.Judging.{AreBusyLanes, IsFound}
-use Rattle.stamp_watch.specs.Course.{HasRoom, IsCourse}
+use Rattle.stamp_watch.specs.Course.{HasRoom, IsCourse, IsNear, IsSmall}
 
 -- nothing was found of the run yet
-pub record IsUnderWay (limits : Bounds) (run : List Event) (judge : Judge) : Type 0 where
+pub record IsUnderWay (limits : Bounds) (ahead : ℕ) (run : List Event) (judge : Judge) : Type 0 where
   pub course_of : IsCourse limits run judge.course
   pub lanes : AreBusyLanes run judge.busy
   pub room : HasRoom judge.course
+  pub near : IsNear ahead judge.course
 
--- the judge was given the events of this run so far, and what it found holds whatever comes later
+-- the judge was given the events of this run so far, what it found holds whatever comes later, and it keeps few events
 pub record IsJudge (limits : Bounds) (most ahead : ℕ) (run : List Event) (judge : Judge) : Type 0 where
   pub most_is : judge.most ≡ most
   pub ahead_is : judge.ahead ≡ ahead
-  pub state : MatchOption judge.found (IsUnderWay limits run judge)
+  pub small : IsSmall ahead judge.course
+  pub state : MatchOption judge.found (IsUnderWay limits ahead run judge)
       (λ verdict. IsFound limits run most (Some ahead) verdict)
 
 -- so it is of some run

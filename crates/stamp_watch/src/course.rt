@@ -1,10 +1,10 @@
 //! The part of a run that is kept while it is judged.
-ghost use Rattle.std.specs.Prelude.{◌≡◌, ◌+◌, ◌^◌, ◌<◌, ◌≤◌, ◌∷◌, ◌++◌, [], IfOk, OnOk, IsTrue, List, Option, Some, ℕ, false, length};
+ghost use Rattle.std.specs.Prelude.{◌≡◌, ◌+◌, ◌^◌, ◌<◌, ◌≤◌, ◌∷◌, ◌++◌, [], IfOk, OnOk, IsTrue, List, Option, ℕ, false, length};
 ghost use Rattle.stamp_core.specs.Limits.{Bounds};
 ghost use Rattle.stamp_watch.specs.declared.event.Event.{Event};
 ghost use Rattle.stamp_watch.specs.Verdict.{AreOfLock};
-ghost use Rattle.stamp_watch.specs.Course.{HasRoom, IsCourse};
-ghost use Rattle.stamp_watch.specs.inner.Course.{HasGoneOn, HasLetGo, IsEndAtFront, IsFront, IsKnown, IsOneLonger, IsOnCourse, IsOnward, IsRest, IsUnknown};
+ghost use Rattle.stamp_watch.specs.Course.{HasRoom, IsCourse, IsSmall};
+ghost use Rattle.stamp_watch.specs.inner.Course.{HasGoneOn, HasLetGo, IsEndAtFront, IsFresh, IsFront, IsKnown, IsOneLonger, IsOnCourse, IsOnward, IsRest, IsUnknown};
 
 use crate::ending::Ending;
 use crate::event::Event;
@@ -67,7 +67,8 @@ fn is_known(event: &Event, ends: Ending) -> bool
 impl Course {
     /// That of a new lock with these limits, before any event.
     pub(crate) fn new(alloc: Global, limits: Limits) -> Result<Course, AllocError>
-        ensures { IfOk result (λ course. IsCourse limits [] course) }
+        ensures course { IfOk result (λ course. IsCourse limits [] course) }
+        ensures small { IfOk result (λ course. (ahead : ℕ) → IsSmall ahead course) }
     {
         let base = Watch::new(alloc, limits)?;
         let watch = base.copied()?;
@@ -124,7 +125,8 @@ impl Course {
         requires front { IsFront self.old event.now }
         requires told { IsEndAtFront self.old event.now ends }
         requires known { IsKnown event.now ends }
-        ensures { IfOk result (λ onward. (ahead : Option ℕ) → IsOnward most ahead self.old self.new onward) }
+        ensures onward { IfOk result (λ onward. (ahead : ℕ) → IsOnward most ahead self.old self.new onward) }
+        ensures small { IfOk result (λ _. (ahead : ℕ) → IsFresh ahead self.old → IsSmall ahead self.new) }
     {
         let number = self.first + self.seen as u64;
         let progress = step(&mut self.watch, event, ends, most)?;
@@ -154,7 +156,8 @@ impl Course {
         requires on { IsOnCourse self.old }
         requires room { HasRoom self.old }
         requires more { self.old.seen < length self.old.events.items }
-        ensures { IfOk result (λ onward. IsOnward most (Some ahead) self.old self.new onward) }
+        ensures onward { IfOk result (λ onward. IsOnward most ahead self.old self.new onward) }
+        ensures small { IfOk result (λ _. IsFresh ahead self.old → IsSmall ahead self.new) }
     {
         let events = self.events.as_slice();
         let event = events[self.seen];
@@ -174,13 +177,17 @@ impl Course {
     /// were not seen.
     fn is_ripe(&self) -> bool
         requires { IsOnCourse self.now }
-        ensures { IsTrue result → self.now.place + self.now.reach ≤ self.now.seen }
+        ensures ripe { IsTrue result → self.now.place + self.now.reach ≤ self.now.seen }
+        ensures unripe { result ≡ false → (ahead : ℕ) → IsSmall ahead self.now → IsFresh ahead self.now }
     {
         if self.seen < self.place + self.reach {
             return false;
         }
         let fresh = self.seen - self.place;
-        fresh >= ENOUGH && fresh >= self.events.len() - self.seen
+        if fresh < ENOUGH {
+            return false;
+        }
+        self.events.len() - self.seen <= fresh
     }
 
     /// Makes the spare watch the base, if it can be and it is time, and lets go of the events before it. The spare
@@ -188,7 +195,8 @@ impl Course {
     fn let_go(&mut self) -> Result<(), AllocError>
         requires on { IsOnCourse self.old }
         requires room { HasRoom self.old }
-        ensures { OnOk result (HasLetGo self.old self.new) }
+        ensures go { OnOk result (HasLetGo self.old self.new) }
+        ensures small { OnOk result ((ahead : ℕ) → IsSmall ahead self.old → IsFresh ahead self.new) }
     {
         if !self.is_ripe() {
             return Ok(());
@@ -210,13 +218,15 @@ impl Course {
     pub(crate) fn go_on(&mut self, most: u64, ahead: usize) -> Result<Option<Verdict>, AllocError>
         requires on { IsOnCourse self.old }
         requires room { HasRoom self.old }
-        ensures { IfOk result (λ found. HasGoneOn most (Some ahead) self.old self.new found) }
+        ensures found { IfOk result (λ found. HasGoneOn most ahead self.old self.new found) }
+        ensures small { IfOk result (λ _. IsSmall ahead self.old → IsSmall ahead self.new) }
     {
         'unseen: while self.seen < self.events.len() {
+            self.let_go()?;
             let onward = self.step_on(most, ahead)?;
             match onward {
                 Onward::Waits => return Ok(None),
-                Onward::Steps => self.let_go()?,
+                Onward::Steps => {}
                 Onward::Finds(verdict) => return Ok(Some(verdict)),
             }
         }

@@ -8,7 +8,7 @@
 //!
 //! A copy of the watch, once the ends of its open calls were seen, is the new base, and the events before it are let go
 //! of. A call that is open for more events than were allowed ends the judging, so few events are kept.
-ghost use Rattle.std.specs.Prelude.{◌≡◌, ◌↔◌, [], IfOk, None, Some, List, ℕ, false};
+ghost use Rattle.std.specs.Prelude.{◌≡◌, ◌+◌, ◌*◌, ◌≤◌, ◌↔◌, [], IfOk, None, Some, List, ℕ, false, length};
 ghost use Rattle.stamp_core.specs.Limits.{Bounds};
 ghost use Rattle.stamp_watch.specs.declared.event.Event.{Event};
 ghost use Rattle.stamp_watch.specs.Judge.{HasRoomForOne, IsFoundThen, IsGiven, IsJudge, IsJudgeOfSome};
@@ -123,6 +123,15 @@ impl Judge {
             Some(verdict) => Ok(Some(verdict)),
             None => self.look_at(event),
         }
+    }
+
+    /// How many events it keeps: few, however long the run is.
+    pub fn kept(&self) -> usize
+        ensures many { result ≡ length self.now.course.events.items }
+        ensures few { (limits : Bounds) (most ahead : ℕ) (run : List Event)
+            → IsJudge limits most ahead run self.now → result ≤ 3 * (ahead + 1024) }
+    {
+        self.course.events.len()
     }
 
     /// Whether it can't number one more event.

@@ -14,7 +14,7 @@ use Rattle.stamp_watch.specs.declared.course.Onward.TheVariants.{Waits, Steps, F
 use Rattle.stamp_watch.specs.Run.{AreExplained}
 use Rattle.stamp_watch.specs.Verdict.{AreOfLock}
 use Rattle.stamp_watch.specs.Judging.{IsFound}
-use Rattle.stamp_watch.specs.Course.{IsCourse}
+use Rattle.stamp_watch.specs.Course.{IsCourse, IsNear, IsSmall}
 use Rattle.stamp_watch.specs.inner.Judging.{IsEndTold}
 
 -- how the call ends that begins by the event is known
@@ -48,6 +48,9 @@ pub record IsOnCourse (course : Course) : Type 0 where
 pub record IsOneLonger (old new : Course) : Type 0 where
   pub first : new.first ≡ old.first
   pub longer : length new.events.items ≡ length old.events.items + 1
+  pub seen : new.seen ≡ old.seen
+  pub place : new.place ≡ old.place
+  pub reach : new.reach ≡ old.reach
 
 -- so many events were not seen
 abbrev pub unseen : Course → ℕ
@@ -63,6 +66,16 @@ pub record HasStepped (old new : Course) : Type 0 where
   pub same : IsSameRun old new
   pub fewer : unseen new + 1 ≡ unseen old
 
+-- none was, and one more may come where so many are looked at
+pub record HasWaited (ahead : ℕ) (old new : Course) : Type 0 where
+  pub same : IsSameRun old new
+  pub near : IsNear ahead new
+
+-- few events are kept, and one more may be seen
+pub record IsFresh (ahead : ℕ) (course : Course) : Type 0 where
+  pub small : IsSmall ahead course
+  pub fresh : course.seen < course.place + (ahead + 1024)
+
 -- events were let go of, or none
 pub record HasLetGo (old new : Course) : Type 0 where
   pub same : IsSameRun old new
@@ -73,16 +86,16 @@ abbrev pub IsFoundOn : ℕ → Option ℕ → Course → Verdict → Type 0
 IsFoundOn most ahead course verdict = (limits : Bounds) (run : List Event) → IsCourse limits run course →
     IsFound limits run most ahead verdict
 
--- what comes of a step
-abbrev pub IsOnward : ℕ → Option ℕ → Course → Course → Onward → Type 0
-IsOnward most ahead old new Waits = IsSameRun old new
+-- what comes of a step, where so many events are looked at for the end of a call
+abbrev pub IsOnward : ℕ → ℕ → Course → Course → Onward → Type 0
+IsOnward most ahead old new Waits = HasWaited ahead old new
 IsOnward most ahead old new Steps = HasStepped old new
-IsOnward most ahead old new (Finds verdict) = IsFoundOn most ahead old verdict
+IsOnward most ahead old new (Finds verdict) = IsFoundOn most (Some ahead) old verdict
 
 -- what comes of several
-abbrev pub HasGoneOn : ℕ → Option ℕ → Course → Course → Option Verdict → Type 0
-HasGoneOn most ahead old new None = IsSameRun old new
-HasGoneOn most ahead old new (Some verdict) = IsFoundOn most ahead old verdict
+abbrev pub HasGoneOn : ℕ → ℕ → Course → Course → Option Verdict → Type 0
+HasGoneOn most ahead old new None = HasWaited ahead old new
+HasGoneOn most ahead old new (Some verdict) = IsFoundOn most (Some ahead) old verdict
 
 -- what is found of a run that ends here; what is not explained is found whatever comes later
 abbrev pub IsRest : Bounds → List Event → ℕ → Option ℕ → Verdict → Type 0

@@ -26,6 +26,9 @@ returns-clause-course c limits run is whole =
 pub returns-clause-longer : goal.returns-clause-longer
 returns-clause-longer c = record {
   first = refl;
+  seen = refl;
+  place = refl;
+  reach = refl;
   longer = ap (λ (xs : List Event). length xs) (c.in_ok-extend_from_slice.ensures.items ∙
       ap (λ (xs : List Event). c.args.self.now.events.items ++ xs) c.from_ref.ensures.value) ∙
       length-append c.args.self.now.events.items (c.args.event.now ∷ []);

@@ -9,8 +9,8 @@ use Rattle.stamp_watch.proofs.LettingGo.{run_let_go, looked_let_go, long_let_go,
 use Rattle.stamp_watch.proofs.course.Course.let_go.Goals as goal
 use Rattle.stamp_watch.proofs.course.Course.let_go.Goals.{In_ok-rest}
 
-pub returns-then-not-is_ripe : goal.returns-then-not-is_ripe
-returns-then-not-is_ripe c =
+pub returns-then-not-is_ripe-clause-go : goal.returns-then-not-is_ripe-clause-go
+returns-then-not-is_ripe-clause-go c =
     record { same = record { long = refl; courses = λ limits run is. is }; as_many = refl }
 
 rest_here : (c : In_ok-rest) → c.in_ok-rest.rest.items ≡ drop c.args.self.now.place c.args.self.now.events.items
@@ -19,10 +19,10 @@ rest_here c = c.in_ok-rest.ensures.items ∙ take_rest c.as_slice-events.result.
 
 at_here : (c : In_ok-rest) →
     c.args.self.now.seen ≡ c.args.self.now.place + (c.args.self.now.seen - c.args.self.now.place)
-at_here c = omega (arith, c.is_ripe.ensures c.if-not-is_ripe.false)
+at_here c = omega (arith, c.is_ripe.ensures.ripe c.if-not-is_ripe.false)
 
 ripe_here : (c : In_ok-rest) → c.args.self.now.reach ≤ c.args.self.now.seen - c.args.self.now.place
-ripe_here c = omega (arith, c.is_ripe.ensures c.if-not-is_ripe.false)
+ripe_here c = omega (arith, c.is_ripe.ensures.ripe c.if-not-is_ripe.false)
 
 long_here : (c : In_ok-rest) →
     c.args.self.now.first + c.args.self.now.place + length c.in_ok-rest.rest.items ≡
@@ -43,9 +43,9 @@ on_here c limits run is = run_let_go limits run c.args.self.now.first c.args.sel
     c.args.self.now.reach (c.args.self.now.seen - c.args.self.now.place) c.args.self.now.spare is.spare_is (at_here c)
     (ripe_here c) c.in_ok-rest.rest.items (rest_here c)
 
-pub returns : goal.returns
-returns c =
-    let at = (goal.at.returns c).In_ok-rest in
+pub returns-clause-go : goal.returns-clause-go
+returns-clause-go c =
+    let at = (goal.at.returns-clause-go c).In_ok-rest in
     record {
       same = record {
         long = long_here at;
@@ -69,4 +69,24 @@ returns c =
         };
       };
       as_many = omega (arith, long_here at, at_here at);
+    }
+
+pub returns-then-not-is_ripe-clause-small : goal.returns-then-not-is_ripe-clause-small
+returns-then-not-is_ripe-clause-small c = c.is_ripe.ensures.unripe c.if-not-is_ripe.true
+
+pub returns-clause-small : goal.returns-clause-small
+returns-clause-small c ahead small =
+    let at = (goal.at.returns-clause-small c).In_ok-rest in
+    let place : c.args.self.now.seen - c.args.self.now.place ≤ ahead + 1024 = omega (arith, small.seen) in
+    let long : c.len.result ≡ length c.in_ok-rest.rest.items = omega (arith, c.len.ensures, c.in_ok-rest.rest.ok.0) in
+    let events : length c.in_ok-rest.rest.items ≤ c.args.self.now.seen - c.args.self.now.place + ahead + 1 =
+    omega (arith, long_here at, small.events) in
+    record {
+      small = record {
+        place = place;
+        reach = omega (arith, long, events);
+        seen = omega arith;
+        events = events;
+      };
+      fresh = omega arith;
     }

@@ -1,4 +1,4 @@
-use Rattle.std.proofs.Common.{List, ◌≡◌, ◌+◌, ◌<◌, ◌++◌, length, arith, refl}
+use Rattle.std.proofs.Common.{List, ◌≡◌, ◌+◌, ◌<◌, ◌++◌, length, Some, arith, refl}
 use Rattle.std.specs.Prelude.{take, drop}
 use Rattle.stamp_core.specs.Limits.{Bounds}
 use Rattle.stamp_watch.specs.declared.event.Event.{Event}
@@ -22,9 +22,9 @@ step_here c limits run is = c.in_ok-progress.ensures limits (c.args.self.now.fir
     c.args.self.now.base c.args.self.now.watch is.on c.args.event.now c.requires.front.less c.requires.front.read
     c.args.most)
 
-pub returns-in-Going : goal.returns-in-Going
-returns-in-Going c ahead =
-    let at = (goal.at.returns-in-Going c).In_ok-progress in
+pub returns-in-Going-clause-onward : goal.returns-in-Going-clause-onward
+returns-in-Going-clause-onward c ahead =
+    let at = (goal.at.returns-in-Going-clause-onward c).In_ok-progress in
     record {
       same = record {
         long = refl;
@@ -52,20 +52,44 @@ find_stuck-requires-clause-stuck c =
     c.requires.front.read c.args.most c.step.new.watch c.in_ok-progress.progress c.in-Dead.is
     (step_here at on.limits on.run on.course_of))
 
-pub returns-in_ok-verdict-in-Dead : goal.returns-in_ok-verdict-in-Dead
-returns-in_ok-verdict-in-Dead c ahead limits run is =
-    let at = (goal.at.returns-in_ok-verdict-in-Dead c).In_ok-progress in
+pub returns-in_ok-verdict-in-Dead-clause-onward : goal.returns-in_ok-verdict-in-Dead-clause-onward
+returns-in_ok-verdict-in-Dead-clause-onward c ahead limits run is =
+    let at = (goal.at.returns-in_ok-verdict-in-Dead-clause-onward c).In_ok-progress in
     run_finds limits run c.args.self.now.first c.args.self.now.seen c.args.self.now.events.items
-    c.args.self.now.base c.args.self.now.watch is.on c.args.self.now.seen c.args.most ahead c.as_slice.result.now
+    c.args.self.now.base c.args.self.now.watch is.on c.args.self.now.seen c.args.most (Some ahead) c.as_slice.result.now
     c.in_ok-verdict-in-Dead.verdict c.as_slice.ensures.value (omega arith)
     (run_dead limits run c.args.self.now.first c.args.self.now.seen c.args.self.now.events.items
     c.args.self.now.base c.args.self.now.watch is.on c.args.event.now c.requires.front.less c.requires.front.read
     c.args.most c.step.new.watch c.in_ok-progress.progress c.in-Dead.is (step_here at limits run is))
-    (c.in_ok-verdict-in-Dead.ensures ahead)
+    (c.in_ok-verdict-in-Dead.ensures (Some ahead))
 
-pub returns-in-TooMany : goal.returns-in-TooMany
-returns-in-TooMany c ahead limits run is =
-    let at = (goal.at.returns-in-TooMany c).In_ok-progress in
+pub returns-in-TooMany-clause-onward : goal.returns-in-TooMany-clause-onward
+returns-in-TooMany-clause-onward c ahead limits run is =
+    let at = (goal.at.returns-in-TooMany-clause-onward c).In_ok-progress in
     run_too_many limits run c.args.self.now.first c.args.self.now.seen c.args.self.now.events.items
     c.args.self.now.base c.args.self.now.watch is.on c.args.event.now c.requires.front.less c.requires.front.read
-    c.args.most ahead c.step.new.watch c.in_ok-progress.progress c.in-TooMany.is (step_here at limits run is)
+    c.args.most (Some ahead) c.step.new.watch c.in_ok-progress.progress c.in-TooMany.is (step_here at limits run is)
+
+pub returns-in-Going-clause-small : goal.returns-in-Going-clause-small
+returns-in-Going-clause-small c ahead fresh = record {
+  place = fresh.small.place;
+  reach = fresh.small.reach;
+  seen = omega (arith, fresh.fresh);
+  events = omega (arith, fresh.small.events);
+}
+
+pub returns-in_ok-verdict-in-Dead-clause-small : goal.returns-in_ok-verdict-in-Dead-clause-small
+returns-in_ok-verdict-in-Dead-clause-small c ahead fresh = record {
+  place = fresh.small.place;
+  reach = fresh.small.reach;
+  seen = fresh.small.seen;
+  events = fresh.small.events;
+}
+
+pub returns-in-TooMany-clause-small : goal.returns-in-TooMany-clause-small
+returns-in-TooMany-clause-small c ahead fresh = record {
+  place = fresh.small.place;
+  reach = fresh.small.reach;
+  seen = fresh.small.seen;
+  events = fresh.small.events;
+}

@@ -12,7 +12,7 @@ returns-clause-found c limits most ahead run is =
 
 pub returns-clause-given : goal.returns-clause-given
 returns-clause-given c limits most ahead run is = judge_broken limits most ahead run c.args.event.now c.args.self.now is c.requires.none _
-    c.broken_off-verdict.result refl refl refl (returns-clause-found c limits most ahead run is)
+    c.broken_off-verdict.result refl refl refl refl (returns-clause-found c limits most ahead run is)
 
 pub returns-clause-known : goal.returns-clause-known
 returns-clause-known c =

@@ -15,12 +15,13 @@ go_on-requires-clause-on c =
 pub returns-clause-found : goal.returns-clause-found
 returns-clause-found c limits most ahead run is = found_then limits most ahead run c.args.event.now c.args.self.now is c.requires.none
     c.args.busy c.requires.may c.requires.busy c.add.new.self c.in_ok-add.ensures.course c.go_on.new.self
-    c.in_ok-found.found c.in_ok-found.ensures
+    c.in_ok-found.found c.in_ok-found.ensures.found
 
 pub returns-clause-given : goal.returns-clause-given
 returns-clause-given c limits most ahead run is = judge_then limits most ahead run c.args.event.now c.args.self.now is c.requires.none
     c.args.busy c.requires.may c.requires.busy c.add.new.self c.in_ok-add.ensures.course c.go_on.new.self _ refl refl refl refl
-    (one_longer_room c.args.self.now c.add.new.self c.requires.room c.in_ok-add.ensures.longer) c.in_ok-found.ensures
+    (one_longer_room c.args.self.now c.add.new.self c.requires.room c.in_ok-add.ensures.longer)
+    c.in_ok-add.ensures.longer c.in_ok-found.ensures.small c.in_ok-found.ensures.found
 
 pub returns-clause-known : goal.returns-clause-known
 returns-clause-known c =
