@@ -138,7 +138,7 @@ impl Judge {
     pub fn is_full(&self) -> bool
         ensures { (result ≡ false) ↔ HasRoomForOne self.now }
     {
-        self.course.events.len() as u64 >= u64::MAX - self.course.first
+        u64::MAX - self.course.first <= self.course.events.len() as u64
     }
 
     /// What is found of the run if it ends here: a call that has not ended never ends.

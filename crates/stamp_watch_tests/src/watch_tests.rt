@@ -58,3 +58,16 @@ fn a_watch_with_too_many_configurations_is_as_before(rt: HostRuntime) -> Result<
     assert!(rt; watch.returns(2, &Reply::Count(1), 2)? == Progress::Going);
     Ok(())
 }
+
+#[test]
+fn a_copy_goes_on_by_itself(rt: HostRuntime) -> Result<(), Fail> {
+    let mut watch = watch(&rt)?;
+    let told = Ending::Returns(LockReply::Stamp(384), 1);
+    assert!(rt; watch.begins(0, &Call::WriteLock, told) == Progress::Going);
+    let mut copy = watch.copied()?;
+    assert!(rt; watch.returns(0, &Reply::Stamp(384), 100)? == Progress::Going);
+    assert!(rt; watch.begins(0, &Call::TryRead, Ending::Withdraws) == Progress::Going);
+    assert!(rt; copy.begins(0, &Call::TryRead, Ending::Withdraws) == Progress::Refused);
+    assert!(rt; copy.returns(0, &Reply::Stamp(384), 100)? == Progress::Going);
+    Ok(())
+}
