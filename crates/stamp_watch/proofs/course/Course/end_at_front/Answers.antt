@@ -11,7 +11,10 @@ use Rattle.stamp_watch.proofs.Looking.{looked_within, told_at_front}
 use Rattle.stamp_watch.proofs.course.Course.end_at_front.Goals as goal
 
 pub overflow_add-from : goal.overflow_add-from
-overflow_add-from c = omega (
+overflow_add-from c = omega (arith, c.requires.front.less, c.args.self.now.events.ok.0)
+
+pub overflow_add-from-2 : goal.overflow_add-from-2
+overflow_add-from-2 c = omega (
   arith,
   looked_within c.args.self.now.seen c.args.self.now.events.items c.args.event.now
       c.requires.front.less c.requires.front.read c.args.self.now.looked c.requires.on.course_of.looked,

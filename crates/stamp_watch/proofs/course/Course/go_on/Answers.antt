@@ -16,16 +16,16 @@ let_go_here : (c : In_ok-let_go) → IsSameRun c.args.self.now c.let_go.new.self
 let_go_here c = same_run_on c.args.self.now c.unseen.self c.let_go.new.self c.unseen.invariant.same
     c.in_ok-let_go.ensures.go.same
 
-pub step_on-onward-requires-clause-on : goal.step_on-onward-requires-clause-on
-step_on-onward-requires-clause-on c = on_course_still c.args.self.now c.let_go.new.self
-    (let_go_here (goal.at.step_on-onward-requires-clause-on c).In_ok-let_go) c.requires.on
+pub step_on-requires-clause-on : goal.step_on-requires-clause-on
+step_on-requires-clause-on c = on_course_still c.args.self.now c.let_go.new.self
+    (let_go_here (goal.at.step_on-requires-clause-on c).In_ok-let_go) c.requires.on
 
-pub step_on-onward-requires-clause-room : goal.step_on-onward-requires-clause-room
-step_on-onward-requires-clause-room c = room_still c.args.self.now c.let_go.new.self
-    (let_go_here (goal.at.step_on-onward-requires-clause-room c).In_ok-let_go) c.requires.room
+pub step_on-requires-clause-room : goal.step_on-requires-clause-room
+step_on-requires-clause-room c = room_still c.args.self.now c.let_go.new.self
+    (let_go_here (goal.at.step_on-requires-clause-room c).In_ok-let_go) c.requires.room
 
-pub step_on-onward-requires-clause-more : goal.step_on-onward-requires-clause-more
-step_on-onward-requires-clause-more c = omega (
+pub step_on-requires-clause-more : goal.step_on-requires-clause-more
+step_on-requires-clause-more c = omega (
   arith,
   c.in_ok-let_go.ensures.go.as_many,
   c.unseen-test.true,
@@ -35,7 +35,7 @@ step_on-onward-requires-clause-more c = omega (
 
 pub unseen-preserved : goal.unseen-preserved
 unseen-preserved c = record {
-  same = same_run_on c.args.self.now c.let_go.new.self c.step_on-onward.new.self
+  same = same_run_on c.args.self.now c.let_go.new.self c.step_on.new.self
       (let_go_here (goal.at.unseen-preserved c).In_ok-let_go) c.in-Steps.ensures.onward.same;
   small = λ small. c.in_ok-onward.ensures.small (c.in_ok-let_go.ensures.small c.args.ahead
       (c.unseen.invariant.small small));
@@ -46,7 +46,7 @@ unseen-smaller c = omega (arith, c.in-Steps.ensures.onward.fewer, c.in_ok-let_go
 
 pub returns-in-Waits-clause-found : goal.returns-in-Waits-clause-found
 returns-in-Waits-clause-found c = record {
-  same = same_run_on c.args.self.now c.let_go.new.self c.step_on-onward.new.self
+  same = same_run_on c.args.self.now c.let_go.new.self c.step_on.new.self
       (let_go_here (goal.at.returns-in-Waits-clause-found c).In_ok-let_go) c.in-Waits.ensures.onward.same;
   near = c.in-Waits.ensures.onward.near;
 }
