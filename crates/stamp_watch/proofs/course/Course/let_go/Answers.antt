@@ -52,14 +52,14 @@ returns-clause-go c =
         courses = λ limits run is. record {
           on = subst (λ (base : Watch). IsRunOn limits run (c.args.self.now.first + c.args.self.now.place)
               (c.args.self.now.seen - c.args.self.now.place) c.in_ok-rest.rest.items base c.args.self.now.watch)
-              (sym c.replace-self.ensures.value) (on_here at limits run is);
+              (sym c.replace.ensures.value) (on_here at limits run is);
           looked = looked_let_go limits run c.args.self.now.first c.args.self.now.seen c.args.self.now.events.items
               c.args.self.now.base c.args.self.now.watch is.on c.args.self.now.place c.args.self.now.reach
               (c.args.self.now.seen - c.args.self.now.place) c.args.self.now.spare is.spare_is (at_here at)
               (ripe_here at) c.args.self.now.looked c.in_ok-rest.rest.items (rest_here at) is.looked;
           spare_is = subst (λ (spare : Watch). IsSpare limits run (c.args.self.now.first + c.args.self.now.place +
               (c.args.self.now.seen - c.args.self.now.place))
-              (c.len.result - (c.args.self.now.seen - c.args.self.now.place)) spare) (sym c.replace-self.ensures.after)
+              (c.len.result - (c.args.self.now.seen - c.args.self.now.place)) spare) (sym c.replace.ensures.after)
               (spare_here limits run (c.args.self.now.first + c.args.self.now.place)
               (c.args.self.now.seen - c.args.self.now.place) c.in_ok-rest.rest.items c.args.self.now.spare
               c.args.self.now.watch (on_here at limits run is) c.in_ok-copy.copy
