@@ -21,13 +21,6 @@ overflow_add-from-2 c = omega (
   c.args.self.now.events.ok.0,
 )
 
-pub slice_bounds-end_told : goal.slice_bounds-end_told
-slice_bounds-end_told c =
-    let within = looked_within c.args.self.now.seen c.args.self.now.events.items c.args.event.now
-    c.requires.front.less c.requires.front.read c.args.self.now.looked c.requires.on.course_of.looked in
-    subst (λ (xs : List Event). c.args.self.now.seen + 1 + c.args.self.now.looked ≤ length xs)
-    (sym c.as_slice-events.ensures.value) within
-
 pub end_told-requires-clause-lock : goal.end_told-requires-clause-lock
 end_told-requires-clause-lock c =
     subst (All IsOfLock) (sym (take_rest c.as_slice-events.result.now
