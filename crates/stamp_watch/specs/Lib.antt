@@ -1,5 +1,6 @@
 pub mod inner
 pub mod LockCall
+pub mod Stream
 pub mod Foretold
 pub mod Watch
 pub mod Verdict

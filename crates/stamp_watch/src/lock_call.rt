@@ -9,8 +9,8 @@ ghost use Rattle.stamp_watch.specs.inner.Stamps.{is_this_stamp};
 use stamp_core::{Call, LockReply};
 
 /// A call of the lock: as `Call`, without those of the record.
-#[derive(Clone, Copy)]
-pub(crate) enum LockCall {
+#[derive(Clone, Copy, Debug, PartialEq, Eq)]
+pub enum LockCall {
     TryWrite,
     TryRead,
     WriteLock,
@@ -68,7 +68,7 @@ pub(crate) fn lock_call(call: &Call) -> Option<LockCall>
 impl LockCall {
     /// The same call, among those of lock and record.
     #[inline(always)]
-    pub(crate) fn as_call(self) -> Call
+    pub fn as_call(self) -> Call
         ensures call { result ≡ call_as self }
         ensures lock_call { IsTrue (is_lock_call result) }
     {

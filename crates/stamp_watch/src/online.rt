@@ -17,8 +17,8 @@ ghost use Rattle.stamp_watch.specs.inner.Course.{broken_off};
 ghost use Rattle.stamp_watch.specs.inner.Judging.{MayComeIn, SetsBusy};
 
 use crate::course::Course;
-use crate::event::Event;
-use crate::lanes::busy_then;
+use crate::lanes::busy_with;
+use crate::stream_event::StreamEvent;
 use crate::verdict::Verdict;
 use stamp_core::Limits;
 use std::alloc::{AllocError, Global};
@@ -64,7 +64,7 @@ impl Judge {
     }
 
     /// Takes an event that may come there, after which these lanes have an open call.
-    fn take(&mut self, event: &Event, busy: u64) -> Result<Option<Verdict>, AllocError>
+    fn take(&mut self, event: &StreamEvent, busy: u64) -> Result<Option<Verdict>, AllocError>
         requires some { IsJudgeOfSome self.old }
         requires room { HasRoomForOne self.old }
         requires none { self.old.found ≡ None }
@@ -82,7 +82,7 @@ impl Judge {
     }
 
     /// Ends with an event that may not come there.
-    fn break_off(&mut self, event: &Event) -> Result<Option<Verdict>, AllocError>
+    fn break_off(&mut self, event: &StreamEvent) -> Result<Option<Verdict>, AllocError>
         requires some { IsJudgeOfSome self.old }
         requires none { self.old.found ≡ None }
         requires not { ¬ MayComeIn self.old.busy event.now }
@@ -97,7 +97,7 @@ impl Judge {
     }
 
     /// Looks at one more event.
-    fn look_at(&mut self, event: &Event) -> Result<Option<Verdict>, AllocError>
+    fn look_at(&mut self, event: &StreamEvent) -> Result<Option<Verdict>, AllocError>
         requires some { IsJudgeOfSome self.old }
         requires room { HasRoomForOne self.old }
         requires none { self.old.found ≡ None }
@@ -105,14 +105,14 @@ impl Judge {
         ensures given { IfOk result (λ _. IsGiven event.now self.old self.new) }
         ensures known { IfOk result (λ _. IsJudgeOfSome self.new) }
     {
-        match busy_then(self.busy, event) {
+        match busy_with(self.busy, event) {
             Some(busy) => self.take(event, busy),
             None => self.break_off(event),
         }
     }
 
     /// One more event: what is found of the run, whatever comes later, if anything is.
-    pub fn push(&mut self, event: &Event) -> Result<Option<Verdict>, AllocError>
+    pub fn push(&mut self, event: &StreamEvent) -> Result<Option<Verdict>, AllocError>
         requires some { IsJudgeOfSome self.old }
         requires room { HasRoomForOne self.old }
         ensures found { IfOk result (λ found. IsFoundThen event.now self.old found) }

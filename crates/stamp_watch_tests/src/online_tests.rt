@@ -1,8 +1,8 @@
 ghost use Rattle.std.specs.Prelude.{IfOk, OnOk};
 ghost use Rattle.stamp_watch.specs.Judge.{IsJudgeOfSome};
 
-use stamp_core::{Call, Limits, Reply};
-use stamp_watch::{Event, Judge, Verdict, Why, judge_run};
+use stamp_core::{Call, Limits, LockReply, Reply};
+use stamp_watch::{Event, Judge, LockCall, StreamEvent, Verdict, Why, judge_run};
 use std::test::Fail;
 
 /// The limits of a lock for up to 127 readers and 1,000 write acquisitions.
@@ -30,7 +30,10 @@ fn pushed(judge: &mut Judge, events: &[Event]) -> Result<Option<Verdict>, Fail>
         if judge.is_full() {
             return Err(Fail::from("full"));
         }
-        found = judge.push(event)?;
+        let Some(small) = StreamEvent::of(event) else {
+            return Err(Fail::from("event"));
+        };
+        found = judge.push(&small)?;
     }
     Ok(found)
 }
@@ -185,5 +188,18 @@ fn a_call_that_is_open_for_too_long_ends_the_judging(rt: HostRuntime) -> Result<
     let mut longer = judge(&rt, 100, 4)?;
     assert!(rt; pushed(&mut longer, &open)? == None);
     assert!(rt; longer.finish()? == Verdict::Explained);
+    Ok(())
+}
+
+#[test]
+fn an_event_in_few_bytes_is_the_same(rt: HostRuntime) -> Result<(), Fail> {
+    let begins = StreamEvent::begins(255, LockCall::Unlock(256));
+    assert!(rt; begins.as_event() == Event::Begins(255, Call::Unlock(256)));
+    let returns = StreamEvent::returns(0, LockReply::Count(2));
+    assert!(rt; returns.as_event() == Event::Returns(0, Reply::Count(2)));
+    assert!(rt; StreamEvent::withdraws(7).as_event() == Event::Withdraws(7));
+    assert!(rt; LockCall::ReadLock.as_call() == Call::ReadLock);
+    assert!(rt; StreamEvent::of(&Event::Withdraws(256)).is_none());
+    assert!(rt; StreamEvent::of(&Event::Begins(0, Call::Get)).is_none());
     Ok(())
 }
