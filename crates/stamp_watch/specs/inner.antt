@@ -6,3 +6,4 @@ pub mod Judging
 pub mod Course
 pub mod Stamps
 pub mod Foretold
+pub mod Late
