@@ -1,5 +1,6 @@
 -- Runs in which a call begins later than it did, so that each call ends soon.
-use Rattle.std.specs.Prelude.{ℕ, ◌≡◌, ◌+◌, ◌<◌, ◌≤◌, ◌++◌, Bool, false, List, [], ◌∷◌, length, take, drop}
+use Rattle.std.specs.Prelude.{ℕ, ◌≡◌, ◌<◌, ◌≤◌, ◌++◌, Bool, false, List, [], ◌∷◌, length, take}
+use Rattle.std.specs.List.{All}
 use Rattle.stamp_core.specs.LockEvent.{LockEvent, write_count}
 use Rattle.stamp_core.specs.Limits.{Bounds}
 use Rattle.stamp_core.specs.declared.call.Call.{Call}
@@ -113,15 +114,22 @@ EndsWithin ahead (Begins lane call ∷ events) =
 EndsWithin ahead (Returns lane reply ∷ events) = EndsWithin ahead events
 EndsWithin ahead (Withdraws lane ∷ events) = EndsWithin ahead events
 
--- what the layer in front of a judge keeps to: the judge was given these events, and the others wait; together they
--- are the run as it is handed on, in which no call is open for too long; and where nothing may have been lost, each run
--- that goes on so is explained where it is explained as it is handed on
-pub record IsInFrontOf (limits : Bounds) (most ahead : ℕ) (run waiting : List Event) (lost : Bool) (judge : Judge) :
-    Type 0 where
+abbrev pub IsBeginning : Event → Type 0
+IsBeginning (Begins lane call) = Unit {0}
+IsBeginning (Returns lane reply) = ⊥
+IsBeginning (Withdraws lane) = ⊥
+
+-- what the layer in front of a judge keeps to: the judge was given these events; these beginnings are put aside; and the
+-- others wait. With what is aside just before those that wait it is the run as it is handed on, in which no call that is
+-- not aside is open for too long. Where nothing may have been lost, the run is explained as it is handed on wherever it
+-- is explained
+pub record IsInFrontOf (limits : Bounds) (most ahead : ℕ) (run aside waiting : List Event) (lost : Bool)
+    (judge : Judge) : Type 0 where
   pub given : List Event
   pub judge_of : IsJudge limits most ahead given judge
-  pub handed_on : (more : List Event) → IsHandedOn (run ++ more) (given ++ waiting ++ more)
+  pub begin : All IsBeginning aside
+  pub handed_on : (more : List Event) → IsHandedOn (run ++ more) (given ++ aside ++ waiting ++ more)
   pub few : length waiting ≤ ahead
   pub soon : EndsWithin ahead (given ++ waiting)
   pub whole : lost ≡ false → (more : List Event) → AreExplained limits (run ++ more) →
-      AreExplained limits (given ++ waiting ++ more)
+      AreExplained limits (given ++ aside ++ waiting ++ more)
