@@ -6,6 +6,10 @@ pub mod Verdict
 pub mod Judging
 pub mod Course
 pub mod Judge
+pub mod StreamBytes
+pub mod EndedCall
+pub mod StreamFinding
+pub mod StreamJudge
 pub mod Run
 pub mod Ahead
 pub mod Form

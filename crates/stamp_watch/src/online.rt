@@ -13,12 +13,15 @@ ghost use Rattle.stamp_core.specs.Limits.{Bounds};
 ghost use Rattle.stamp_watch.specs.declared.event.Event.{Event};
 ghost use Rattle.stamp_watch.specs.Judge.{HasRoomForOne, IsFoundThen, IsGiven, IsJudge, IsJudgeOfSome};
 ghost use Rattle.stamp_watch.specs.Verdict.{IsVerdict};
-ghost use Rattle.stamp_watch.specs.inner.Course.{broken_off};
+ghost use Rattle.stamp_watch.specs.inner.Course.{IsRest, broken_off};
+ghost use Rattle.stamp_watch.specs.EndedCall.{IsEndedAt};
 ghost use Rattle.stamp_watch.specs.inner.Judging.{MayComeIn, SetsBusy};
 
 use crate::course::Course;
+use crate::ended_call::{EndedCall, ended_call, last_begun};
 use crate::event::Event;
 use crate::lanes::busy_then;
+use crate::stream_bytes::lane_of;
 use crate::verdict::Verdict;
 use stamp_core::Limits;
 use std::alloc::{AllocError, Global};
@@ -139,6 +142,39 @@ impl Judge {
         ensures { (result ≡ false) ↔ HasRoomForOne self.now }
     {
         u64::MAX - self.course.first <= self.course.events.len() as u64
+    }
+
+    /// How many events it was given, where nothing is found of them.
+    pub(crate) fn count(&self) -> u64
+        requires some { IsJudgeOfSome self.now }
+        requires none { self.now.found ≡ None }
+        ensures { (limits : Bounds) (most ahead : ℕ) (run : List Event)
+            → IsJudge limits most ahead run self.now → result ≡ length run }
+    {
+        self.course.count()
+    }
+
+    /// What is found of the run if it ends here, where nothing is found yet. What is not explained is found whatever
+    /// comes later.
+    pub(crate) fn rest(&self) -> Result<Verdict, AllocError>
+        requires some { IsJudgeOfSome self.now }
+        requires none { self.now.found ≡ None }
+        ensures { IfOk result (λ verdict. (limits : Bounds) (most ahead : ℕ) (run : List Event)
+            → IsJudge limits most ahead run self.now → IsRest limits run most (Some ahead) verdict) }
+    {
+        self.course.rest(self.most)
+    }
+
+    /// The call that the event with this number ends, if the event is kept and ends one.
+    pub(crate) fn ended_at(&self, number: u64) -> Option<EndedCall>
+        ensures { IsEndedAt self.now number result }
+    {
+        let at = number.checked_sub(self.course.first)? as usize;
+        let event = self.course.events.get(at)?;
+        let lane = lane_of(event);
+        let open = self.course.base.open_call(lane);
+        let call = last_begun(&self.course.events[..at], lane, open)?;
+        ended_call(event, call)
     }
 
     /// What is found of the run if it ends here: a call that has not ended never ends.

@@ -4,13 +4,15 @@ ghost use Rattle.std.specs.List.{All};
 ghost use Rattle.stamp_core.specs.Word.{IsAdmitted, word_at};
 ghost use Rattle.stamp_watch.specs.declared.event.Event.{Event};
 ghost use Rattle.stamp_watch.specs.declared.position.Position.{Position};
+ghost use Rattle.stamp_watch.specs.EndedCall.{asked_in};
+ghost use Rattle.stamp_watch.specs.Foretold.{open_at};
 ghost use Rattle.stamp_watch.specs.Watch.{IsWatching, IsWatched, IsCopy, IsProgress, IsTaken, BeginsTold, ReturnsTold, WithdrawsTold, IsUntold};
 ghost use Rattle.stamp_watch.specs.inner.Step.{IsOpening, BeginsIn, AreBegun, IsAnswer};
 
 use crate::effect::at_once;
 use crate::ending::Ending;
 use crate::layers::return_call;
-use crate::lock_call::lock_call;
+use crate::lock_call::{LockCall, lock_call};
 use crate::open_call::{OpenCall, idle_lanes, open_in, put};
 use crate::position::{Position, with_lane, without_lane};
 use crate::progress::Progress;
@@ -106,6 +108,16 @@ impl Watch {
             last: self.last,
             positions,
         })
+    }
+
+    /// The open call of the lane.
+    pub(crate) fn open_call(&self, lane: u64) -> Option<LockCall>
+        ensures { result ≡ asked_in (open_at self.now.table.items lane) }
+    {
+        match open_in(self.table.as_slice(), lane) {
+            Some(begun) => Some(begun.asks),
+            None => None,
+        }
     }
 
     /// One more event: a call begins in a lane, and ends so. It is refused in a lane from 64 on, or one with an open

@@ -1,0 +1,104 @@
+-- How a stream's bytes are taken, 16 by 16.
+use Rattle.std.specs.Prelude.{ℕ, ◌≡◌, ◌+◌, ◌^◌, ◌≤◌, ◌⊎◌, ◌++◌, true, false, List, [], ◌∷◌, length}
+use Rattle.std.specs.Prelude.{Option, Some, None}
+use Rattle.stamp_core.specs.Limits.{Bounds}
+use Rattle.stamp_watch.specs.declared.event.Event.{Event}
+use Rattle.stamp_watch.specs.declared.online.Judge.{Judge}
+use Rattle.stamp_watch.specs.declared.stream_event.StreamEvent.{StreamEvent}
+use Rattle.stamp_watch.specs.declared.stream_event.StreamEvent.TheVariants.{Begins, Returns, Withdraws}
+use Rattle.stamp_watch.specs.declared.stream_judge.Finding.{Finding}
+use Rattle.stamp_watch.specs.declared.stream_judge.Finding.TheVariants as found
+use Rattle.stamp_watch.specs.declared.stream_judge.Misplaced.{Misplaced}
+use Rattle.stamp_watch.specs.declared.stream_judge.Misplaced.TheVariants.{Lane, Open, Idle}
+use Rattle.stamp_watch.specs.declared.stream_judge.StreamJudge.{StreamJudge}
+use Rattle.stamp_watch.specs.declared.verdict.Verdict.{Verdict}
+use Rattle.stamp_watch.specs.declared.verdict.Verdict.TheVariants as verdict
+use Rattle.stamp_watch.specs.Judge.{IsJudge}
+use Rattle.stamp_watch.specs.Judging.{IsFound}
+use Rattle.stamp_watch.specs.Run.{AreExplained}
+use Rattle.stamp_watch.specs.Stream.{event_as}
+use Rattle.stamp_watch.specs.StreamBytes.{lane_of}
+use Rattle.stamp_watch.specs.StreamFinding.{IsMisplaced, is_beginning}
+use Rattle.stamp_watch.specs.StreamJudge.{HasTaken}
+use Rattle.stamp_watch.specs.Verdict.{AreOfLock}
+
+-- the cause for which the event may not come, where it may not
+abbrev pub IsMisplacedSo : StreamEvent → Misplaced → Type 0
+IsMisplacedSo e Lane = 64 ≤ lane_of e
+IsMisplacedSo e Open = (lane_of e ≤ 63) × (is_beginning e ≡ true)
+IsMisplacedSo e Idle = (lane_of e ≤ 63) × (is_beginning e ≡ false)
+
+-- the verdict says that events in form are not all explained
+abbrev pub IsOfForm : Verdict → Type 0
+IsOfForm verdict.Explained = ⊥
+IsOfForm (verdict.Broken k) = ⊥
+IsOfForm _ = Unit {0}
+
+-- the finding is a verdict on this run, whatever comes later
+abbrev pub IsJudgedSo : Bounds → List Event → ℕ → ℕ → Finding → Type 0
+IsJudgedSo limits run most ahead (found.Stuck k) = IsFound limits run most (Some ahead) (verdict.Stuck k)
+IsJudgedSo limits run most ahead (found.StuckWithin k m) = IsFound limits run most (Some ahead) (verdict.StuckWithin k m)
+IsJudgedSo limits run most ahead (found.Undecided k why) =
+    IsFound limits run most (Some ahead) (verdict.Undecided k why)
+IsJudgedSo limits run most ahead _ = ⊥
+
+-- the run is explained, and the event with this number may not come behind it
+pub record IsMisplacedAt (limits : Bounds) (run : List Event) (e : StreamEvent) (k : ℕ) (why : Misplaced) : Type
+    0 where
+  pub place : k ≡ length run
+  pub whole : AreOfLock run
+  pub explained : AreExplained limits run
+  pub misplaced : IsMisplaced run e why
+
+-- what is found of a run that goes on with this event
+abbrev pub IsFoundWith : Bounds → ℕ → ℕ → List Event → StreamEvent → Finding → Type 0
+IsFoundWith limits most ahead run e found.Full = 2 ^ 64 ≤ length run + 1
+IsFoundWith limits most ahead run e (found.Misplaced k why) = IsMisplacedAt limits run e k why
+IsFoundWith limits most ahead run e finding = IsJudgedSo limits (run ++ event_as e ∷ []) most ahead finding
+
+-- nothing was found, and the judge was given the event
+pub record IsGoingOn (limits : Bounds) (most ahead : ℕ) (run : List Event) (judge : Judge) : Type 0 where
+  pub judge_of : IsJudge limits most ahead run judge
+  pub none : judge.found ≡ None
+
+-- what comes of the event
+abbrev pub IsGivenOne : Bounds → ℕ → ℕ → List Event → StreamEvent → Judge → Option Finding → Type 0
+IsGivenOne limits most ahead run e judge None = IsGoingOn limits most ahead (run ++ event_as e ∷ []) judge
+IsGivenOne limits most ahead run e judge (Some finding) = IsFoundWith limits most ahead run e finding
+
+-- the run is explained, and this is found; or a verdict is
+pub record IsExplainedRun (limits : Bounds) (run : List Event) : Type 0 where
+  pub whole : AreOfLock run
+  pub explained : AreExplained limits run
+
+abbrev pub IsFoundUnless : Bounds → ℕ → ℕ → List Event → Finding → Finding → Type 0
+IsFoundUnless limits most ahead run explained finding =
+    (IsExplainedRun limits run × (finding ≡ explained)) ⊎ IsJudgedSo limits run most ahead finding
+
+-- a judge has taken some bytes
+pub record HasTakenSome (judge : StreamJudge) : Type 0 where
+  pub most : ℕ
+  pub ahead : ℕ
+  pub taken : List ℕ
+  pub has : HasTaken most ahead taken judge
+
+-- it has taken 16 more
+abbrev pub IsOneMore : List ℕ → StreamJudge → StreamJudge → Type 0
+IsOneMore bytes old new = (most ahead : ℕ) (taken : List ℕ) → HasTaken most ahead taken old →
+    HasTaken most ahead (taken ++ bytes) new
+
+-- the bytes that it keeps are the same
+abbrev pub KeepsPart : StreamJudge → StreamJudge → Type 0
+KeepsPart old new = new.part ≡ old.part
+
+-- one more call began, or was withdrawn
+pub record Counts (begun withdrawn : ℕ) (old new : StreamJudge) : Type 0 where
+  pub begun_is : new.begun ≡ old.begun + begun
+  pub withdrawn_is : new.withdrawn ≡ old.withdrawn + withdrawn
+  pub others : (new.most ≡ old.most) × (new.ahead ≡ old.ahead) × (new.part ≡ old.part) × (new.judge ≡ old.judge) ×
+      (new.found ≡ old.found)
+
+abbrev pub AreCounted : StreamEvent → StreamJudge → StreamJudge → Type 0
+AreCounted (Begins lane call) old new = Counts 1 0 old new
+AreCounted (Returns lane reply) old new = Counts 0 0 old new
+AreCounted (Withdraws lane) old new = Counts 0 1 old new
