@@ -1,0 +1,4 @@
+pub mod Order
+pub mod FindingText
+pub mod Note
+pub mod Served
