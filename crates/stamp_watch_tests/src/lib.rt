@@ -6,4 +6,6 @@ mod judge_tests;
 #[cfg(test)]
 mod online_tests;
 #[cfg(test)]
+mod stream_tests;
+#[cfg(test)]
 mod watch_tests;

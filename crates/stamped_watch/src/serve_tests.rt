@@ -51,7 +51,7 @@ const SEEN: [[u8; 16]; 8] = [
     event(4, 3, 0),
     event(32, 3, 0),
     event(35, 0, 0),
-    event(5, 3, 384),
+    event(5, 3, 256),
     event(34, 3, 0),
 ];
 
@@ -74,7 +74,7 @@ fn a_stuck_stream_is_told_with_the_call_that_ended(rt: HostRuntime) -> Result<()
     let wrong = stream(rt.alloc(), &events)?;
     let (line, verdict, note) = told(rt.alloc(), PLAIN, &wrong)?;
     assert!(rt; (line.as_str(), verdict) == ("stuck 7\n", Ok(Verdict::Bad)));
-    let wanted = "stamped_watch: event 7, lane 3: validate 384 answered yes";
+    let wanted = "stamped_watch: event 7, lane 3: validate 256 answered yes";
     assert!(rt; note.as_deref() == Some(wanted));
     let needed = stream(
         rt.alloc(),
