@@ -15,6 +15,7 @@ import random
 import re
 import subprocess
 import sys
+import tempfile
 
 from round_trips import SIZES, event, header, made_stream, with_wrong_reply
 from streams import (BEGINS, COUNT, EVENT, HEADER, NO, STAMP, WITHDRAWN, YES, entry_that_returns_at, fail, history_of,
@@ -140,6 +141,18 @@ def try_options(watch):
     must_be("--help", (told.returncode, told.stdout[:14], told.stderr), (0, b"stamped_watch ", b""))
 
 
+def try_files(watch):
+    with tempfile.TemporaryDirectory() as room:
+        path = os.path.join(room, "run.events")
+        with open(path, "wb") as file:
+            file.write(header() + SEEN)
+        for words in ([path], ["--most", "1", path], ["--ahead", "1", "--most", "1", path]):
+            must_be("a file", judged(watch, b"", *words), ("ok 1", ""))
+        for path in (room, os.path.join(room, "none")):
+            made = run([watch, path])
+            must_be("no file", (made.returncode, made.stdout, made.stderr), (1, b"", b"stamped_watch: read fault\n"))
+
+
 def try_pieces(watch):
     """A slow writer, whose pieces are no whole events; the program ends though the writer doesn't."""
     stream = header() + SEEN * 40 + event(4) + event(STAMP, 0, 257) + SEEN
@@ -174,6 +187,7 @@ def main():
     calls, stuck = try_random(watch, explain)
     broken = try_broken(watch)
     try_options(watch)
+    try_files(watch)
     try_pieces(watch)
     events = try_long(watch)
     print(f"watch: {2 * len(SIZES)} streams of {calls} calls explained, {stuck} with a wrong reply stuck, {broken} "

@@ -30,6 +30,10 @@ impl Program for Stamped {
         order_of(arguments)
     }
 
+    fn names_file(_arguments: &[&str]) -> bool {
+        false
+    }
+
     fn answer<S: Source, K: Sink>(
         alloc: Global,
         order: Order,

@@ -48,6 +48,10 @@ impl Program for StampedExplain {
         order_of(arguments)
     }
 
+    fn names_file(_arguments: &[&str]) -> bool {
+        false
+    }
+
     fn answer<S: Source, K: Sink>(
         alloc: Global,
         order: ExplainOrder,

@@ -33,6 +33,10 @@ impl Program for StampedPicture {
         order_of(arguments)
     }
 
+    fn names_file(_arguments: &[&str]) -> bool {
+        false
+    }
+
     fn answer<S: Source, K: Sink>(
         alloc: Global,
         command: PictureCommand,

@@ -1,7 +1,7 @@
 -- The command line of the program that judges streams.
 use Rattle.std.specs.Prelude.{ℕ, List, [], ◌∷◌, Option, Some, None, Result, Ok, Err, codes, nat_le, if◌then◌else◌}
-use Rattle.std.specs.Prelude.{option_map, option_and_then}
-use Rattle.std.specs.Option.{option_map_or}
+use Rattle.std.specs.Prelude.{◌&&◌, Bool, false, not, take, option_map, option_and_then}
+use Rattle.std.specs.Option.{is_some, option_map_or}
 use Rattle.std.specs.Str.{bytes_eq}
 use Rattle.stamp_cli.specs.Order.{number_in}
 use Rattle.stamp_cli.specs.declared.orders.CommandFault.{CommandFault}
@@ -42,14 +42,33 @@ two_options first number second other =
     else option_map Watch (option_and_then (λ (asked : Watching). with_option asked second other)
     (with_option plain first number))
 
--- the forms of the command line: --help; or none, one or both of --most N and --ahead N
+-- a word that doesn't begin with `-` may name a file
+abbrev pub is_file : List ℕ → Bool
+is_file word = not (bytes_eq (take 1 word) (codes "-"))
+
+abbrev pub one_word : List ℕ → Option WatchOrder
+one_word word =
+    if bytes_eq word (codes "--help") then Some Help else if is_file word then Some (Watch plain) else None
+
+-- the forms of the command line: --help; or none, one or both of --most N and --ahead N, and then a file or none
 abbrev pub form_of : List (List ℕ) → Option WatchOrder
 form_of [] = Some (Watch plain)
-form_of (arg ∷ []) = if bytes_eq arg (codes "--help") then Some Help else None
+form_of (word ∷ []) = one_word word
 form_of (option ∷ number ∷ []) = one_option option number
+form_of (option ∷ number ∷ file ∷ []) = if is_file file then one_option option number else None
 form_of (first ∷ number ∷ second ∷ other ∷ []) = two_options first number second other
+form_of (first ∷ number ∷ second ∷ other ∷ file ∷ []) =
+    if is_file file then two_options first number second other else None
 form_of _ = None
 
 -- what arguments ask for
 abbrev pub order_in : List (List ℕ) → Result WatchOrder CommandFault
 order_in args = option_map_or Ok (form_of args) (Err Bad)
+
+-- they are such a form with a file
+abbrev pub names_file : List (List ℕ) → Bool
+names_file (file ∷ []) = is_file file
+names_file (option ∷ number ∷ file ∷ []) = is_file file && is_some (one_option option number)
+names_file (first ∷ number ∷ second ∷ other ∷ file ∷ []) =
+    is_file file && is_some (two_options first number second other)
+names_file _ = false

@@ -13,7 +13,7 @@ mod serve_tests;
 mod serving;
 
 use crate::help::HELP;
-use crate::orders::{WatchOrder, order_of};
+use crate::orders::{WatchOrder, names_file, order_of};
 use crate::serving::serve_stream;
 use stamp_cli::{
     Answered, CommandFault, Program, ServeFault, Sink, Source, named_fault_line, run, serve_help,
@@ -43,6 +43,10 @@ impl Program for StampedWatch {
 
     fn order_of(arguments: &[&str]) -> Result<WatchOrder, CommandFault> {
         order_of(arguments)
+    }
+
+    fn names_file(arguments: &[&str]) -> bool {
+        names_file(arguments)
     }
 
     fn answer<S: Source, K: Sink>(

@@ -82,14 +82,38 @@ fn two_options(first: &str, number: &str, second: &str, other: &str) -> Option<W
     Some(WatchOrder::Watch(with_option(asked, second, other)?))
 }
 
+/// Whether the word may name a file: it doesn't begin as an option.
+fn is_file(word: &str) -> bool
+    ensures { result ≡ order.is_file word.now }
+{
+    word.as_bytes().first().copied() != Some(b'-')
+}
+
+/// What one word asks for: how the program is called, or that a file is judged.
+fn one_word(word: &str) -> Option<WatchOrder>
+    ensures { result ≡ order.one_word word.now }
+{
+    if word == "--help" {
+        Some(WatchOrder::Help)
+    } else if is_file(word) {
+        Some(WatchOrder::Watch(PLAIN))
+    } else {
+        None
+    }
+}
+
 fn form_of(args: &[&str]) -> Option<WatchOrder>
     ensures { result ≡ order.form_of (map (λ arg. arg.now) args.now) }
 {
     match args {
         [] => Some(WatchOrder::Watch(PLAIN)),
-        [arg] if *arg == "--help" => Some(WatchOrder::Help),
+        [word] => one_word(word),
         [option, number] => one_option(option, number),
+        [option, number, file] if is_file(file) => one_option(option, number),
         [first, number, second, other] => two_options(first, number, second, other),
+        [first, number, second, other, file] if is_file(file) => {
+            two_options(first, number, second, other)
+        }
         _ => None,
     }
 }
@@ -97,9 +121,20 @@ fn form_of(args: &[&str]) -> Option<WatchOrder>
 /// What the program's arguments ask for. `--help` alone asks how it is called. Otherwise a stream is judged:
 /// `--most N` gives the most configurations before an event, and `--ahead N` among how many events the end of a call
 /// is looked for, up to 2^32; each once, in any order, numbers below 2^64 in decimal digits alone. Without them they
-/// are 1,000,000 and 1,048,576. It refuses as 1 `Bad` exactly where the arguments are no such form.
+/// are 1,000,000 and 1,048,576. Behind them a file may be named, by a word that doesn't begin with `-`. It refuses as
+/// 1 `Bad` exactly where the arguments are no such form.
 pub fn order_of(args: &[&str]) -> Result<WatchOrder, CommandFault>
     ensures { result ≡ order.order_in (map (λ arg. arg.now) args.now) }
 {
     form_of(args).ok_or(CommandFault::Bad)
+}
+
+/// Whether the arguments are such a form, and the last one names a file.
+pub fn names_file(args: &[&str]) -> bool
+    ensures { result ≡ order.names_file (map (λ arg. arg.now) args.now) }
+{
+    match args {
+        [file] | [_, _, file] | [_, _, _, _, file] => is_file(file) && form_of(args).is_some(),
+        _ => false,
+    }
 }

@@ -1,4 +1,6 @@
-use crate::orders::{EVENTS_AHEAD, MOST_CONFIGURATIONS, WatchOrder, Watching, order_of};
+use crate::orders::{
+    EVENTS_AHEAD, MOST_CONFIGURATIONS, WatchOrder, Watching, names_file, order_of,
+};
 use crate::serving::serve_stream;
 use stamp_cli::{Answered, CommandFault, ReadSource, ServeFault, Verdict, WriteSink};
 use std::alloc::Global;
@@ -198,12 +200,27 @@ fn two_numbers_are_the_forms_of_the_command_line(rt: HostRuntime) {
     ];
     for (words, order) in table {
         assert!(rt; order_of(words) == order);
+        assert!(rt; !names_file(words));
+    }
+}
+
+#[test]
+fn a_file_stands_behind_the_options(rt: HostRuntime) {
+    let table: [(&[&str], Result<WatchOrder, CommandFault>); 4] = [
+        (&["run.events"], asks(1_000_000, 1_048_576)),
+        (&["--most", "5", "5"], asks(5, 1_048_576)),
+        (&["--ahead", "7", "--most", "5", "run"], asks(5, 7)),
+        (&[""], asks(1_000_000, 1_048_576)),
+    ];
+    for (words, order) in table {
+        assert!(rt; order_of(words) == order);
+        assert!(rt; names_file(words));
     }
 }
 
 #[test]
 fn other_words_are_no_form_of_the_command_line(rt: HostRuntime) {
-    let table: [&[&str]; 10] = [
+    let table: [&[&str]; 13] = [
         &["--most", "18446744073709551616"],
         &["--ahead", "4294967297"],
         &["--most", "+1"],
@@ -214,8 +231,12 @@ fn other_words_are_no_form_of_the_command_line(rt: HostRuntime) {
         &["--ahead", "1", "--ahead", "2"],
         &["--most", "1", "--ahead"],
         &["--most", "1", "--ahead", "1", "--most", "1"],
+        &["-"],
+        &["run", "events"],
+        &["run", "--most", "1"],
     ];
     for words in table {
         assert!(rt; order_of(words) == Err(CommandFault::Bad));
+        assert!(rt; !names_file(words));
     }
 }
