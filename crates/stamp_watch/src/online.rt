@@ -55,6 +55,7 @@ impl Judge {
     pub fn new(alloc: Global, limits: Limits, most: u64, ahead: usize) -> Result<Judge, AllocError>
         ensures judge { IfOk result (λ judge. IsJudge limits most ahead [] judge) }
         ensures known { IfOk result (λ judge. IsJudgeOfSome judge) }
+        ensures none { IfOk result (λ judge. judge.found ≡ None) }
     {
         let course = Course::new(alloc, limits)?;
         Ok(Judge {
@@ -76,6 +77,7 @@ impl Judge {
         ensures found { IfOk result (λ found. IsFoundThen event.now self.old found) }
         ensures given { IfOk result (λ _. IsGiven event.now self.old self.new) }
         ensures known { IfOk result (λ _. IsJudgeOfSome self.new) }
+        ensures told { IfOk result (λ found. self.new.found ≡ found) }
     {
         self.course.add(event)?;
         self.busy = busy;
@@ -92,6 +94,7 @@ impl Judge {
         ensures found { IfOk result (λ found. IsFoundThen event.now self.old found) }
         ensures given { IfOk result (λ _. IsGiven event.now self.old self.new) }
         ensures known { IfOk result (λ _. IsJudgeOfSome self.new) }
+        ensures told { IfOk result (λ found. self.new.found ≡ found) }
     {
         let rest = self.course.rest(self.most)?;
         let verdict = broken_off(rest, self.course.count());
@@ -107,6 +110,7 @@ impl Judge {
         ensures found { IfOk result (λ found. IsFoundThen event.now self.old found) }
         ensures given { IfOk result (λ _. IsGiven event.now self.old self.new) }
         ensures known { IfOk result (λ _. IsJudgeOfSome self.new) }
+        ensures told { IfOk result (λ found. self.new.found ≡ found) }
     {
         match busy_then(self.busy, event) {
             Some(busy) => self.take(event, busy),
@@ -121,6 +125,7 @@ impl Judge {
         ensures found { IfOk result (λ found. IsFoundThen event.now self.old found) }
         ensures given { IfOk result (λ _. IsGiven event.now self.old self.new) }
         ensures known { IfOk result (λ _. IsJudgeOfSome self.new) }
+        ensures told { IfOk result (λ found. self.new.found ≡ found) }
     {
         match self.found {
             Some(verdict) => Ok(Some(verdict)),

@@ -138,7 +138,9 @@ impl StreamJudge {
     /// The judge of a stream of which nothing has come. More than `most` configurations before an event are too many
     /// to go on, and so is a call that none of `ahead` events behind its beginning ends.
     pub fn new(alloc: Global, most: u64, ahead: usize) -> StreamJudge
-        ensures { IsFed most ahead [] result }
+        ensures fed { IsFed most ahead [] result }
+        ensures known { IsFedSome result }
+        ensures none { result.found ≡ None }
     {
         StreamJudge {
             alloc,
@@ -251,6 +253,7 @@ impl StreamJudge {
         ensures fed { OnOk result ((most ahead : ℕ) (fed : List ℕ) → IsFed most ahead fed self.old
             → IsFed most ahead (fed ++ bytes.now) self.new) }
         ensures known { OnOk result (IsFedSome self.new) }
+        ensures told { IfOk result (λ found. self.new.found ≡ found) }
     {
         if self.found.is_some() {
             return Ok(self.found);

@@ -82,10 +82,18 @@ pub record HasTakenSome (judge : StreamJudge) : Type 0 where
   pub taken : List ℕ
   pub has : HasTaken most ahead taken judge
 
--- it has taken 16 more
+-- it has taken these bytes besides
 abbrev pub IsOneMore : List ℕ → StreamJudge → StreamJudge → Type 0
 IsOneMore bytes old new = (most ahead : ℕ) (taken : List ℕ) → HasTaken most ahead taken old →
     HasTaken most ahead (taken ++ bytes) new
+
+-- it has taken a front of these bytes, and keeps none; the rest is to come
+pub record HasTakenFront (bytes rest : List ℕ) (old new : StreamJudge) : Type 0 where
+  pub front : List ℕ
+  pub parts : bytes ≡ front ++ rest
+  pub more : IsOneMore front old new
+  pub some : HasTakenSome new
+  pub empty : new.part.items ≡ []
 
 -- the bytes that it keeps are the same
 abbrev pub KeepsPart : StreamJudge → StreamJudge → Type 0
