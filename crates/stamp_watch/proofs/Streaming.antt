@@ -1,32 +1,32 @@
 -- A stream that goes on.
-use Rattle.std.proofs.Common.{ℕ, ◌≡◌, ◌+◌, ◌*◌, ◌≤◌, List, [], ◌∷◌, ◌++◌, length, Some, refl, sym, ◌∙◌, ap, subst, arith}
-use Rattle.std.proofs.Common.{append-nil, append_assoc}
-use Rattle.std.specs.Prelude.{take, drop}
-use Rattle.std.proofs.lemmas.List.{drop-append-le, length-append, length-take, take-append-le, take_all}
+use Rattle.std.proofs.Common.{ℕ, ◌≡◌, ◌+◌, ◌*◌, ◌^◌, ◌<◌, ◌≤◌, List, [], ◌∷◌, ◌++◌, length, Option, Some, None}
+use Rattle.std.proofs.Common.{refl, sym, ◌∙◌, ap, subst, arith, append-nil, append_assoc}
+use Rattle.std.specs.Prelude.{take, drop, MatchOption}
+use Rattle.std.proofs.lemmas.List.{drop_all, drop-append-le, length-append, length-map, length-take, take-append-le}
+use Rattle.std.proofs.lemmas.List.{take_all}
 use Rattle.stamp_core.specs.Limits.{Bounds}
+use Rattle.stamp_watch.specs.declared.online.Judge.{Judge}
 use Rattle.stamp_watch.specs.declared.stream_event.StreamEvent.{StreamEvent}
+use Rattle.stamp_watch.specs.declared.stream_judge.Finding.{Finding}
+use Rattle.stamp_watch.specs.declared.stream_judge.StreamJudge.{StreamJudge}
 use Rattle.stamp_watch.specs.declared.verdict.Verdict.{Verdict}
 use Rattle.stamp_watch.specs.Judging.{IsFound}
 use Rattle.stamp_watch.specs.StreamBytes.{HasBytes, HaveBytes, IsHeader, IsStream}
-use Rattle.stamp_watch.specs.StreamFinding.{IsJudged, run_of}
+use Rattle.stamp_watch.specs.Stream.{event_as}
+use Rattle.stamp_watch.specs.StreamFinding.{IsFoundOf, IsJudged, run_of}
+use Rattle.stamp_watch.specs.StreamJudge.{IsFed, IsFresh, IsUnderWay}
+use Rattle.stamp_watch.proofs.GoingOn.{run_long, way_of}
 
 -- the first 16 of bytes that are 16 or more
 sixteen : (bytes : List ℕ) → length (take 16 bytes) ≡ 16 → 16 ≤ length bytes
 sixteen bytes many = let long = length-take 16 bytes in omega (arith, long, many)
-
-none_left : (bytes : List ℕ) → length bytes ≡ 16 → drop 16 bytes ≡ []
-none_left bytes many = rw (sym many) (drop_all bytes)
-  where
-    drop_all : (xs : List ℕ) → drop (length xs) xs ≡ []
-    drop_all [] = refl
-    drop_all (x ∷ xs) = drop_all xs
 
 -- one event more
 pub bytes_more : (events : List StreamEvent) (units : List ℕ) (e : StreamEvent) (bytes : List ℕ) →
     HaveBytes events units → HasBytes e bytes → HaveBytes (events ++ e ∷ []) (units ++ bytes)
 bytes_more [] units e bytes none has = subst (HaveBytes (e ∷ [])) (ap (λ (xs : List ℕ). xs ++ bytes) (sym none)) (
   subst (HasBytes e) (sym (take_all 16 bytes (omega (arith, has.many)))) has,
-  none_left bytes has.many,
+  drop_all 16 bytes (omega (arith, has.many)),
 )
 bytes_more (x ∷ events) units e bytes have has =
     let enough : 16 ≤ length units = sixteen units have.0.many in (
@@ -48,7 +48,7 @@ pub stream_first : (bytes : List ℕ) (limits : Bounds) → IsHeader limits byte
 stream_first bytes limits header = record {
   head = bytes;
   units = [];
-  parts = sym (append-nil bytes);
+  parts = sym (append-nil bytes) ∙ sym (append-nil (bytes ++ []));
   limits_are = header;
   events_are = refl;
 }
@@ -58,22 +58,30 @@ pub stream_behind : (taken rest : List ℕ) (limits : Bounds) (events : List Str
 stream_behind taken rest limits events stream = record {
   head = stream.head;
   units = stream.units;
-  parts = ap (λ (xs : List ℕ). xs ++ rest) stream.parts ∙ append_assoc stream.head (stream.units ++ []) rest ∙
-      ap (λ (xs : List ℕ). stream.head ++ xs ++ rest) (append-nil stream.units);
+  parts = ap (λ (xs : List ℕ). xs ++ rest) (stream.parts ∙ append-nil (stream.head ++ stream.units));
   limits_are = stream.limits_are;
   events_are = stream.events_are;
 }
 
 pub stream_more : (taken : List ℕ) (limits : Bounds) (events : List StreamEvent) (e : StreamEvent) (bytes : List ℕ) →
     IsStream taken limits events [] → HasBytes e bytes → IsStream (taken ++ bytes) limits (events ++ e ∷ []) []
-stream_more taken limits events e bytes stream has =
-    let behind = stream_behind taken bytes limits events stream in record {
-      head = stream.head;
-      units = stream.units ++ bytes;
-      parts = behind.parts ∙ ap (λ (xs : List ℕ). stream.head ++ xs) (sym (append-nil (stream.units ++ bytes)));
-      limits_are = stream.limits_are;
-      events_are = bytes_more events stream.units e bytes stream.events_are has;
-    }
+stream_more taken limits events e bytes stream has = record {
+  head = stream.head;
+  units = stream.units ++ bytes;
+  parts = (stream_behind taken bytes limits events stream).parts ∙ append_assoc stream.head stream.units bytes ∙
+      sym (append-nil (stream.head ++ (stream.units ++ bytes)));
+  limits_are = stream.limits_are;
+  events_are = bytes_more events stream.units e bytes stream.events_are has;
+}
+
+-- how long a stream of so many events is
+pub stream_long : (taken rest : List ℕ) (limits : Bounds) (events : List StreamEvent) →
+    IsStream taken limits events rest → length taken ≡ 16 + 16 * length events + length rest
+stream_long taken rest limits events stream =
+    let whole = ap length stream.parts ∙ length-append (stream.head ++ stream.units) rest in
+    let front = length-append stream.head stream.units in
+    let units = bytes_long events stream.units stream.events_are in
+    omega (arith, whole, front, units, stream.limits_are.many)
 
 -- what is found of the events is found of the stream, whatever comes later
 pub judged : (most ahead : ℕ) (taken : List ℕ) (limits : Bounds) (events : List StreamEvent) (v : Verdict) →
@@ -86,3 +94,30 @@ judged most ahead taken limits events v stream found more = record {
   stream = stream_behind taken more limits events stream;
   found = found;
 }
+
+-- a judge that has found nothing was fed no more than the bytes of as many events as can be numbered
+module _ (most ahead : ℕ) (taken : List ℕ) (judge : StreamJudge) where
+  taken_short : (o : Option Judge) → MatchOption o (IsFresh taken judge) (λ inner. IsUnderWay most ahead taken judge inner) →
+      length taken ≤ 16 * 2 ^ 64
+  taken_short None fresh = let none = ap length fresh.nothing in omega (arith, none)
+  taken_short (Some inner) way =
+      let course = inner.course in
+      let run = run_of way.events in
+      let under_way = way_of way.limits most ahead run inner way.judge_of way.none in
+      let long = run_long way.limits run course.first course.seen course.events.items course.base course.watch
+      under_way.course_of.on in
+      let same : length run ≡ length way.events = length-map event_as way.events in
+      let all = stream_long taken [] way.limits way.events way.stream in
+      let room : course.first + length course.events.items < 2 ^ 64 = under_way.room.room in
+      omega (arith, long, same, all, room)
+
+pub fed_short : (most ahead : ℕ) (fed : List ℕ) (judge : StreamJudge) → judge.found ≡ None →
+    IsFed most ahead fed judge → length fed < 16 * 2 ^ 64 + 16
+fed_short most ahead fed judge none is =
+    let state = subst (λ (o : Option Finding). MatchOption o (MatchOption judge.judge (IsFresh is.taken judge)
+    (λ inner. IsUnderWay most ahead is.taken judge inner)) (λ finding. IsFoundOf most ahead is.taken finding)) none
+    is.has_taken.state in
+    let taken = taken_short most ahead is.taken judge judge.judge state in
+    let long = ap length is.parts ∙ length-append is.taken is.later in
+    let short : length is.later < 16 = subst (λ (xs : List ℕ). length xs < 16) (is.keeps none) is.short in
+    omega (arith, taken, long, short)

@@ -2,3 +2,4 @@ pub mod Order
 pub mod FindingText
 pub mod Note
 pub mod Served
+pub mod inner

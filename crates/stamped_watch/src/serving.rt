@@ -1,6 +1,6 @@
 //! A stream from the bytes that come in to the line that goes out.
 
-ghost use Rattle.std.specs.Prelude.{◌≡◌, ◌<◌, [], IfOk, length, vec_len};
+ghost use Rattle.std.specs.Prelude.{◌≡◌, ◌<◌, [], IfOk, None, length, vec_len};
 ghost use Rattle.stamp_cli.specs.Results.{FailsWithARead, IsReadOrMemoryFault};
 ghost use Rattle.stamp_cli.specs.declared.faults.ServeFault.TheVariants.{ReadFault};
 ghost use Rattle.stamp_watch.specs.StreamJudge.{IsFed};
@@ -31,6 +31,7 @@ fn fed_from<S: Source>(
 ) -> Result<Finding, ServeFault>
     requires room { 0 < length chunk.old }
     requires new { IsFed asked.most asked.ahead [] judge.old }
+    requires none { judge.old.found ≡ None }
     ensures reads { HasReadOn ReadFault (S.left source.old) (S.left source.new)
         (S.reads source.old) (S.reads source.new) result }
     ensures found { IfOk result (λ finding. IsFoundOfSource asked (S.left source.old) (S.left source.new)
