@@ -106,7 +106,7 @@ module _ (most ahead : ℕ) (taken : List ℕ) (judge : StreamJudge) where
       let under_way = way_of way.limits most ahead run inner way.judge_of way.none in
       let long = run_long way.limits run course.first course.seen course.events.items course.base course.watch
       under_way.course_of.on in
-      let same : length run ≡ length way.events = length-map event_as way.events in
+      let same : length run ≡ length way.events = length-map way.events event_as in
       let all = stream_long taken [] way.limits way.events way.stream in
       let room : course.first + length course.events.items < 2 ^ 64 = under_way.room.room in
       omega (arith, long, same, all, room)
