@@ -97,7 +97,8 @@ judged most ahead taken limits events v stream found more = record {
 
 -- a judge that has found nothing was fed no more than the bytes of as many events as can be numbered
 module _ (most ahead : ℕ) (taken : List ℕ) (judge : StreamJudge) where
-  taken_short : (o : Option Judge) → MatchOption o (IsFresh taken judge) (λ inner. IsUnderWay most ahead taken judge inner) →
+  taken_short : (o : Option Judge) →
+      MatchOption o (IsFresh taken judge) (λ inner. IsUnderWay most ahead taken judge inner) →
       length taken ≤ 16 * 2 ^ 64
   taken_short None fresh = let none = ap length fresh.nothing in omega (arith, none)
   taken_short (Some inner) way =

@@ -37,7 +37,8 @@ IsOfForm _ = Unit {0}
 -- the finding is a verdict on this run, whatever comes later
 abbrev pub IsJudgedSo : Bounds → List Event → ℕ → ℕ → Finding → Type 0
 IsJudgedSo limits run most ahead (found.Stuck k) = IsFound limits run most (Some ahead) (verdict.Stuck k)
-IsJudgedSo limits run most ahead (found.StuckWithin k m) = IsFound limits run most (Some ahead) (verdict.StuckWithin k m)
+IsJudgedSo limits run most ahead (found.StuckWithin k m) =
+    IsFound limits run most (Some ahead) (verdict.StuckWithin k m)
 IsJudgedSo limits run most ahead (found.Undecided k why) =
     IsFound limits run most (Some ahead) (verdict.Undecided k why)
 IsJudgedSo limits run most ahead _ = ⊥
