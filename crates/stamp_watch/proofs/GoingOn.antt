@@ -1,5 +1,6 @@
 -- A judge that is given one event more.
-use Rattle.std.proofs.Common.{ℕ, ◌≡◌, ◌+◌, ◌*◌, ◌^◌, ◌<◌, ◌≤◌, List, [], ◌∷◌, ◌++◌, length, Option, Some, None, sym, ◌∙◌}
+use Rattle.std.proofs.Common.{ℕ, ◌≡◌, ◌+◌, ◌*◌, ◌^◌, ◌<◌, ◌≤◌, List, [], ◌∷◌, ◌++◌, length, Option, Some, None, sym}
+use Rattle.std.proofs.Common.{◌∙◌}
 use Rattle.std.proofs.Common.{ap, subst, arith}
 use Rattle.std.specs.Prelude.{MatchOption}
 use Rattle.std.proofs.lemmas.List.{length-append}
@@ -126,11 +127,13 @@ module _ (limits : Bounds) (most ahead : ℕ) (run : List Event) (e : Event) (ol
         pub judge_then : (new : Judge) → new.most ≡ old.most → new.ahead ≡ old.ahead → new.busy ≡ busy →
             new.course ≡ new_course → HasRoom then_course → IsOneLonger old.course then_course →
             (IsSmall old.ahead then_course → IsSmall old.ahead new_course) →
-            HasGoneOn old.most old.ahead then_course new_course new.found → IsJudge limits most ahead (run ++ e ∷ []) new
+            HasGoneOn old.most old.ahead then_course new_course new.found →
+            IsJudge limits most ahead (run ++ e ∷ []) new
         judge_then new same far busy_is course_is space longer stays gone = record {
           most_is = same ∙ is.most_is;
           ahead_is = far ∙ is.ahead_is;
-          small = subst (IsSmall ahead) (sym course_is) (subst (λ (n : ℕ). IsSmall n then_course → IsSmall n new_course)
+          small = subst (IsSmall ahead) (sym course_is)
+              (subst (λ (n : ℕ). IsSmall n then_course → IsSmall n new_course)
               is.ahead_is stays (small_added ahead old.course then_course is.small under_way.near longer));
           state = by new.found gone;
         }

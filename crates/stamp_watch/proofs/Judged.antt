@@ -1,5 +1,6 @@
 -- What is found of events that are in form, and of a run of which they are the first.
-use Rattle.std.proofs.Common.{ℕ, ◌≡◌, ◌≢◌, ◌+◌, ◌<◌, ◌≤◌, List, [], ◌∷◌, ◌++◌, length, get_or, Option, refl, sym, ◌∙◌, ap}
+use Rattle.std.proofs.Common.{ℕ, ◌≡◌, ◌≢◌, ◌+◌, ◌<◌, ◌≤◌, List, [], ◌∷◌, ◌++◌, length, get_or, Option, refl, sym, ◌∙◌}
+use Rattle.std.proofs.Common.{ap}
 use Rattle.std.proofs.Common.{subst, arith, add_assoc, add-zero, append_assoc, append-nil}
 use Rattle.std.specs.Prelude.{take, drop, IfOk, Result, Ok, Err}
 use Rattle.std.proofs.lemmas.List.{take_all, take-append-drop, take-append-le, take-take}
@@ -51,7 +52,8 @@ module _ (limits : Bounds) (first : ℕ) (past events : List Event) (most k : �
         subst (λ (n : ℕ). IsJudging limits n (past ++ take (k + 1) events) (drop (k + 1) events) watch)
         (add_assoc first k 1)
         (subst (λ (before : List Event). IsJudging limits (first + k + 1) before (drop (k + 1) events) watch) past_on
-        (subst (λ (p : Progress). IsStep limits (first + k) (past ++ take k events) e (drop (k + 1) events) most watch p)
+        (subst (λ (p : Progress). IsStep limits (first + k) (past ++ take k events) e (drop (k + 1) events) most watch
+        p)
         is step))
 
     pub unexplained_here : answer ≡ progress.Dead → AreExplained limits (past ++ take k events) →
@@ -78,7 +80,8 @@ module _ (limits : Bounds) (first : ℕ) (past events : List Event) (most k : �
 
     pub never_refused : answer ≡ progress.Refused → ⊥
     never_refused is =
-        subst (λ (p : Progress). IsStep limits (first + k) (past ++ take k events) e (drop (k + 1) events) most watch p)
+        subst (λ (p : Progress). IsStep limits (first + k) (past ++ take k events) e (drop (k + 1) events) most watch
+        p)
         is step
 
 pub judging_start : (limits : Bounds) (first : ℕ) (past events : List Event) (watch : Watch) →
@@ -194,7 +197,8 @@ module _ (n k : ℕ) (events : List Event) (base : Watch) where
   }
 
   module _ (low high : ℕ) (searching : IsSearching n k low high events base) where
-    base_whole : (limits : Bounds) (past : List Event) → IsBase limits n k past events base → AreOfLock (past ++ events)
+    base_whole : (limits : Bounds) (past : List Event) → IsBase limits n k past events base →
+        AreOfLock (past ++ events)
     base_whole limits past from = subst (λ (xs : List Event). AreOfLock (past ++ xs))
         (take_all (length events) events (omega arith)) (from.judging (length events)
         (let after : k ≤ low = searching.after in let apart : low < high = searching.apart in
@@ -204,7 +208,8 @@ module _ (n k : ℕ) (events : List Event) (base : Watch) where
     pub from_base : (limits : Bounds) (past : List Event) (middle : ℕ) (start : Watch) →
         IsBase limits n k past events base → low < middle → middle < high → IsCopy base start →
         IsJudging limits n past (take middle events) start
-    from_base limits past middle start from more less same = judging_copied limits n past (take middle events) base start
+    from_base limits past middle start from more less same = judging_copied limits n past (take middle events) base
+        start
         same (from.judging middle (let after : k ≤ low = searching.after in omega (arith, after, more))
         (let within : high ≤ length events = searching.within in omega (arith, within, less)))
 
@@ -238,7 +243,8 @@ module _ (n k : ℕ) (events : List Event) (base : Watch) where
           (subst (AreExplained limits) (cut_behind n middle past events from.place) whole));
     }
 
-    pub search_too_many : (middle most place : ℕ) (ahead : Option ℕ) (start : Watch) (answer : Outcome) → low < middle → middle < high →
+    pub search_too_many : (middle most place : ℕ) (ahead : Option ℕ) (start : Watch) (answer : Outcome) →
+        low < middle → middle < high →
         answer ≡ TooMany place → IsCopy base start →
         ((limits : Bounds) (past : List Event) → IsJudging limits n past (take middle events) start →
         IsOutcome limits past (take middle events) most answer) → (limits : Bounds) (past : List Event) →
@@ -270,8 +276,10 @@ module _ (n k : ℕ) (events : List Event) (base : Watch) where
         (searching.between limits past from stuck)
 
 -- the verdict on a run of which the first events are in form
-pub undecided_at : (limits : Bounds) (events : List Event) (most many k : ℕ) (ahead : Option ℕ) → IsInFormUpTo events many →
-    IsOutcome limits [] (take many events) most (TooMany k) → IsVerdict limits events most ahead (Undecided k cause.TooMany)
+pub undecided_at : (limits : Bounds) (events : List Event) (most many k : ℕ) (ahead : Option ℕ) →
+    IsInFormUpTo events many →
+    IsOutcome limits [] (take many events) most (TooMany k) →
+    IsVerdict limits events most ahead (Undecided k cause.TooMany)
 undecided_at limits events most many k ahead form outcome = (
   subst AreOfLock cut (of_lock_up_to k (take many events) form.whole),
   subst (AreExplained limits) cut outcome.1,
@@ -284,7 +292,8 @@ undecided_at limits events most many k ahead form outcome = (
         take-take k many events (omega (arith, less, long))
 
 pub broken_at : (limits : Bounds) (events : List Event) (most many : ℕ) (ahead : Option ℕ) → many ≢ length events →
-    IsInFormUpTo events many → AreExplained limits (take many events) → IsVerdict limits events most ahead (Broken many)
+    IsInFormUpTo events many → AreExplained limits (take many events) →
+    IsVerdict limits events most ahead (Broken many)
 broken_at limits events most many ahead short form explained = (
   record {
     whole = form.whole;
@@ -293,7 +302,8 @@ broken_at limits events most many ahead short form explained = (
   explained,
 )
 
-pub explained_whole : (limits : Bounds) (events : List Event) (most many : ℕ) (ahead : Option ℕ) → many ≡ length events →
+pub explained_whole : (limits : Bounds) (events : List Event) (most many : ℕ) (ahead : Option ℕ) →
+    many ≡ length events →
     IsInFormUpTo events many → AreExplained limits (take many events) → IsVerdict limits events most ahead Explained
 explained_whole limits events most many ahead all form explained =
     (subst AreOfLock same form.whole, subst (AreExplained limits) same explained)

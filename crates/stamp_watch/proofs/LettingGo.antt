@@ -1,5 +1,6 @@
 -- Letting go of the first events of a course.
-use Rattle.std.proofs.Common.{ℕ, ◌≡◌, ◌+◌, ◌-◌, ◌≤◌, List, [], ◌∷◌, ◌++◌, length, sym, ◌∙◌, ap, subst, arith, append_assoc}
+use Rattle.std.proofs.Common.{ℕ, ◌≡◌, ◌+◌, ◌-◌, ◌≤◌, List, [], ◌∷◌, ◌++◌, length, sym, ◌∙◌, ap, subst, arith}
+use Rattle.std.proofs.Common.{append_assoc}
 use Rattle.std.specs.Prelude.{take, drop}
 use Rattle.std.proofs.lemmas.List.{take-append-drop, take-append-le, take_rest, drop-append-le, drop-drop}
 use Rattle.std.proofs.lemmas.List.{length-append, length-drop, length-take-le}
@@ -27,7 +28,8 @@ pub spare_added : (limits : Bounds) (run : List Event) (place reach : ℕ) (spar
 spare_added limits run place reach spare e is = record {
   within = let long : length (run ++ e ∷ []) ≡ length run + length (e ∷ []) = length-append run (e ∷ []) in
       let within : place + reach ≤ length run = is.within in omega (arith, long, within);
-  standing = subst (λ (past : List Event). IsStanding limits place past (take reach (drop place (run ++ e ∷ []))) spare)
+  standing = subst (λ (past : List Event). IsStanding limits place past (take reach (drop place (run ++ e ∷ [])))
+      spare)
       (sym (take-append-le place run (e ∷ []) place_within))
       (subst (λ (future : List Event). IsStanding limits place (take place run) future spare) (sym same) is.standing);
 }

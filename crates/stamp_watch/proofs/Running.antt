@@ -196,7 +196,8 @@ run_added limits run first seen events then_events base watch e added whole is =
       run_is = run_then;
       place = is.place;
       whole = subst AreOfLock run_then whole;
-      within = let long : length (events ++ e ∷ []) ≡ length events + length (e ∷ []) = length-append events (e ∷ []) in
+      within = let long : length (events ++ e ∷ []) ≡ length events + length (e ∷ []) =
+          length-append events (e ∷ []) in
           let within : seen ≤ length events = is.within in omega (arith, long, within);
       from_base = subst (λ (xs : List Event). IsStanding limits first is.past xs base) (sym same_seen) is.from_base;
       now = subst (λ (xs : List Event). IsStanding limits (first + seen) (is.past ++ xs) (drop seen (events ++ e ∷ []))
@@ -224,21 +225,25 @@ module _ (limits : Bounds) (run : List Event) (first seen : ℕ) (events : List 
   pub run_base : (k : ℕ) → seen ≤ k → IsBase limits first k is.past events base
   run_base k less = record {
     place = is.place;
-    judging = λ m more within. (standing_up_to limits first seen m is.past events base is.whole (omega (arith, less, more))
+    judging = λ m more within. (standing_up_to limits first seen m is.past events base is.whole
+        (omega (arith, less, more))
         is.from_base).judging;
   }
 
-  pub run_found : (most : ℕ) (ahead : Option ℕ) (v : Verdict) → IsFound limits (is.past ++ events) most ahead v → IsFound limits run most ahead v
+  pub run_found : (most : ℕ) (ahead : Option ℕ) (v : Verdict) → IsFound limits (is.past ++ events) most ahead v →
+      IsFound limits run most ahead v
   run_found most ahead v found = subst (λ (xs : List Event). IsFound limits xs most ahead v) (sym is.run_is) found
 
-  pub run_stuck_from : (k : ℕ) (slice : List Event) → slice ≡ events → seen ≤ k → IsStuckBehind limits is.past events k →
+  pub run_stuck_from : (k : ℕ) (slice : List Event) → slice ≡ events → seen ≤ k →
+      IsStuckBehind limits is.past events k →
       IsStuckFrom first k slice base
-  run_stuck_from k slice same less stuck = subst (λ (xs : List Event). IsStuckFrom first k xs base) (sym same) (record {
-    limits = limits;
-    past = is.past;
-    base = run_base k less;
-    stuck = stuck;
-  })
+  run_stuck_from k slice same less stuck = subst (λ (xs : List Event). IsStuckFrom first k xs base) (sym same)
+      (record {
+        limits = limits;
+        past = is.past;
+        base = run_base k less;
+        stuck = stuck;
+      })
 
   pub run_finds : (k most : ℕ) (ahead : Option ℕ) (slice : List Event) (v : Verdict) → slice ≡ events → seen ≤ k →
       IsStuckBehind limits is.past events k →
@@ -249,7 +254,8 @@ module _ (limits : Bounds) (run : List Event) (first seen : ℕ) (events : List 
       (subst (λ (xs : List Event). IsBase limits first k is.past xs base) (sym same) (run_base k less))
       (subst (λ (xs : List Event). IsStuckBehind limits is.past xs k) (sym same) stuck)))
 
-  pub cut_run : (k : ℕ) (more : List Event) → k ≤ length events → take (first + k) (run ++ more) ≡ is.past ++ take k events
+  pub cut_run : (k : ℕ) (more : List Event) → k ≤ length events →
+      take (first + k) (run ++ more) ≡ is.past ++ take k events
   cut_run k more within = ap (λ (xs : List Event). take (first + k) (xs ++ more)) is.run_is ∙
       ap (take (first + k)) (append_assoc is.past events more) ∙ cut_behind first k is.past (events ++ more) is.place ∙
       ap (λ (xs : List Event). is.past ++ xs) (take-append-le k events more within)
@@ -258,8 +264,10 @@ module _ (limits : Bounds) (run : List Event) (first seen : ℕ) (events : List 
   part_of_lock k = subst AreOfLock (cut_behind (length is.past) k is.past events refl)
       (of_lock_up_to (length is.past + k) (is.past ++ events) is.whole)
 
-  pub run_undecided : (most k : ℕ) (ahead : Option ℕ) → k ≤ length events → AreExplained limits (is.past ++ take k events) →
-      AreTooMany limits (is.past ++ take k events) most → IsFound limits run most ahead (verdict.Undecided (first + k) cause.TooMany)
+  pub run_undecided : (most k : ℕ) (ahead : Option ℕ) → k ≤ length events →
+      AreExplained limits (is.past ++ take k events) →
+      AreTooMany limits (is.past ++ take k events) most →
+      IsFound limits run most ahead (verdict.Undecided (first + k) cause.TooMany)
   run_undecided most k ahead within explained many more = (
     subst AreOfLock (sym (cut_run k more within)) (part_of_lock k),
     subst (AreExplained limits) (sym (cut_run k more within)) explained,
@@ -315,7 +323,8 @@ module _ (limits : Bounds) (run : List Event) (first seen : ℕ) (events : List 
   seen_and_rest = append_assoc is.past (take seen events) (drop seen events) ∙
       ap (λ (xs : List Event). is.past ++ xs) (take-append-drop seen events)
 
-  seen_and_some : (k : ℕ) → (is.past ++ take seen events) ++ take k (drop seen events) ≡ is.past ++ take (seen + k) events
+  seen_and_some : (k : ℕ) → (is.past ++ take seen events) ++ take k (drop seen events) ≡ is.past ++ take (seen + k)
+      events
   seen_and_some k = append_assoc is.past (take seen events) (take k (drop seen events)) ∙
       ap (λ (xs : List Event). is.past ++ xs) (sym (take-add seen k events))
 
@@ -351,7 +360,8 @@ module _ (limits : Bounds) (run : List Event) (first seen : ℕ) (events : List 
         (subst (λ (xs : List Event). AreTooMany limits xs most) (seen_and_some k) outcome.2))
 
 -- what is found, whatever comes later
-pub found_now : (limits : Bounds) (run : List Event) (most : ℕ) (ahead : Option ℕ) (v : Verdict) → IsFound limits run most ahead v →
+pub found_now : (limits : Bounds) (run : List Event) (most : ℕ) (ahead : Option ℕ) (v : Verdict) →
+    IsFound limits run most ahead v →
     IsVerdict limits run most ahead v
 found_now limits run most ahead v found =
     subst (λ (xs : List Event). IsVerdict limits xs most ahead v) (append-nil run) (found [])
@@ -359,9 +369,11 @@ found_now limits run most ahead v found =
 pub found_later : (limits : Bounds) (run : List Event) (most : ℕ) (ahead : Option ℕ) (v : Verdict) (e : Event) →
     IsFound limits run most ahead v → IsFound limits (run ++ e ∷ []) most ahead v
 found_later limits run most ahead v e found more =
-    subst (λ (xs : List Event). IsVerdict limits xs most ahead v) (sym (append_assoc run (e ∷ []) more)) (found (e ∷ more))
+    subst (λ (xs : List Event). IsVerdict limits xs most ahead v) (sym (append_assoc run (e ∷ []) more))
+    (found (e ∷ more))
 
-pub rest_found : (limits : Bounds) (run : List Event) (most : ℕ) (ahead : Option ℕ) (v : Verdict) → IsFound limits run most ahead v →
+pub rest_found : (limits : Bounds) (run : List Event) (most : ℕ) (ahead : Option ℕ) (v : Verdict) →
+    IsFound limits run most ahead v →
     IsRest limits run most ahead v
 rest_found limits run most ahead verdict.Explained found = found_now limits run most ahead verdict.Explained found
 rest_found limits run most ahead (verdict.Stuck k) found = found
@@ -369,16 +381,20 @@ rest_found limits run most ahead (verdict.StuckWithin k m) found = found
 rest_found limits run most ahead (verdict.Undecided k why) found = found
 rest_found limits run most ahead (verdict.Broken k) found = found
 
-pub rest_now : (limits : Bounds) (run : List Event) (most : ℕ) (ahead : Option ℕ) (v : Verdict) → IsRest limits run most ahead v →
+pub rest_now : (limits : Bounds) (run : List Event) (most : ℕ) (ahead : Option ℕ) (v : Verdict) →
+    IsRest limits run most ahead v →
     IsVerdict limits run most ahead v
 rest_now limits run most ahead verdict.Explained rest = rest
 rest_now limits run most ahead (verdict.Stuck k) rest = found_now limits run most ahead (verdict.Stuck k) rest
-rest_now limits run most ahead (verdict.StuckWithin k m) rest = found_now limits run most ahead (verdict.StuckWithin k m) rest
-rest_now limits run most ahead (verdict.Undecided k why) rest = found_now limits run most ahead (verdict.Undecided k why) rest
+rest_now limits run most ahead (verdict.StuckWithin k m) rest =
+    found_now limits run most ahead (verdict.StuckWithin k m) rest
+rest_now limits run most ahead (verdict.Undecided k why) rest =
+    found_now limits run most ahead (verdict.Undecided k why) rest
 rest_now limits run most ahead (verdict.Broken k) rest = found_now limits run most ahead (verdict.Broken k) rest
 
 -- an event that may not come there
-module _ (limits : Bounds) (run : List Event) (most : ℕ) (ahead : Option ℕ) (busy place : ℕ) (e : Event) (at : place ≡ length run)
+module _ (limits : Bounds) (run : List Event) (most : ℕ) (ahead : Option ℕ) (busy place : ℕ) (e : Event)
+    (at : place ≡ length run)
     (lanes : AreBusyLanes run busy) (not_there : ¬ MayComeIn busy e) where
   cut_before : (more : List Event) → take place (run ++ e ∷ [] ++ more) ≡ run
   cut_before more = ap (λ (n : ℕ). take n (run ++ e ∷ [] ++ more)) at ∙
@@ -401,6 +417,8 @@ module _ (limits : Bounds) (run : List Event) (most : ℕ) (ahead : Option ℕ) 
     subst (AreExplained limits) (sym (cut_before more)) rest.1,
   )
   broken_found (verdict.Stuck k) rest more = found_later limits run most ahead (verdict.Stuck k) e rest more
-  broken_found (verdict.StuckWithin k m) rest more = found_later limits run most ahead (verdict.StuckWithin k m) e rest more
-  broken_found (verdict.Undecided k why) rest more = found_later limits run most ahead (verdict.Undecided k why) e rest more
+  broken_found (verdict.StuckWithin k m) rest more = found_later limits run most ahead (verdict.StuckWithin k m) e
+      rest more
+  broken_found (verdict.Undecided k why) rest more = found_later limits run most ahead (verdict.Undecided k why) e
+      rest more
   broken_found (verdict.Broken k) rest more = found_later limits run most ahead (verdict.Broken k) e rest more

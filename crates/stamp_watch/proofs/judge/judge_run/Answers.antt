@@ -50,7 +50,8 @@ find_stuck-requires-clause-stuck c = record {
 pub returns-in-Unexplained : goal.returns-in-Unexplained
 returns-in-Unexplained c = IfOk-weaker c.find_stuck.result _ _
     (λ verdict found. found_in_whole c.args.limits c.args.events.now c.args.most c.in_form-many.result None verdict
-    (found None c.args.limits [] (base_first c.args.limits c.in-Unexplained.k (take c.in_form-many.result c.args.events.now)
+    (found None c.args.limits []
+    (base_first c.args.limits c.in-Unexplained.k (take c.in_form-many.result c.args.events.now)
     c.in_ok-base.base c.in_ok-base.ensures.watching c.in_ok-base.ensures.untold c.in_form-many.ensures.whole)
     (stuck_behind c.args.limits [] (take c.in_form-many.result c.args.events.now) c.args.most c.in-Unexplained.k
     (rw c.in-Unexplained.is at (c.in_ok-outcome.ensures c.args.limits []

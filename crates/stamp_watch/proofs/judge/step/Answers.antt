@@ -6,7 +6,8 @@ use Rattle.stamp_watch.proofs.judge.step.Goals as goal
 
 pub returns-in-Begins : goal.returns-in-Begins
 returns-in-Begins c limits n past ahead told judging = step_begins limits n past c.args.event.now ahead c.args.most
-    c.in-Begins.lane c.in-Begins.call c.args.ends c.args.watch.now c.begins.new.self c.begins.result c.in-Begins.is told
+    c.in-Begins.lane c.in-Begins.call c.args.ends c.args.watch.now c.begins.new.self c.begins.result c.in-Begins.is
+    told
     (c.begins.ensures.progress past c.args.most judging.watching) c.begins.ensures.told judging
 
 pub returns-in-Returns : goal.returns-in-Returns

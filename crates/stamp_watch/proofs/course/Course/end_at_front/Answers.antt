@@ -39,7 +39,8 @@ end_told-requires-clause-lock c =
 pub returns : goal.returns
 returns c =
     let from : ℕ = c.args.self.now.seen + 1 + c.args.self.now.looked in
-    let same : c.args.self.now.first + from ≡ c.args.self.now.first + c.args.self.now.seen + 1 + c.args.self.now.looked =
+    let same : c.args.self.now.first + from ≡ c.args.self.now.first + c.args.self.now.seen + 1 +
+    c.args.self.now.looked =
     omega arith in
     record {
       told = told_at_front c.args.self.now.seen c.args.self.now.events.items c.args.event.now c.requires.front.less

@@ -16,18 +16,23 @@ use Rattle.stamp_watch.proofs.course.Course.rest.Goals.{In_ok-outcome}
 -- the events that were not seen
 unseen : (c : In_ok-outcome) → take (length c.as_slice-events.result.now - c.args.self.now.seen)
     (drop c.args.self.now.seen c.as_slice-events.result.now) ≡ drop c.args.self.now.seen c.args.self.now.events.items
-unseen c = take_rest c.as_slice-events.result.now c.args.self.now.seen ∙ ap (drop c.args.self.now.seen) c.as_slice-events.ensures.value
+unseen c = take_rest c.as_slice-events.result.now c.args.self.now.seen ∙
+    ap (drop c.args.self.now.seen) c.as_slice-events.ensures.value
 
 outcome_here : (c : In_ok-outcome) (limits : Bounds) (run : List Event) (is : IsCourse limits run c.args.self.now) →
-    IsOutcome limits (is.on.past ++ take c.args.self.now.seen c.args.self.now.events.items) (drop c.args.self.now.seen c.args.self.now.events.items) c.args.most
+    IsOutcome limits (is.on.past ++ take c.args.self.now.seen c.args.self.now.events.items)
+    (drop c.args.self.now.seen c.args.self.now.events.items) c.args.most
     c.in_ok-outcome.outcome
 outcome_here c limits run is = subst (λ (xs : List Event). IsOutcome limits
-    (is.on.past ++ take c.args.self.now.seen c.args.self.now.events.items) xs c.args.most c.in_ok-outcome.outcome) (unseen c)
+    (is.on.past ++ take c.args.self.now.seen c.args.self.now.events.items) xs c.args.most c.in_ok-outcome.outcome)
+    (unseen c)
     (c.in_ok-outcome.ensures limits (is.on.past ++ take c.args.self.now.seen c.args.self.now.events.items)
     (subst (λ (xs : List Event). IsJudging limits (c.args.self.now.first + c.args.self.now.seen)
     (is.on.past ++ take c.args.self.now.seen c.args.self.now.events.items) xs c.in_ok-start.start) (sym (unseen c))
-    (judging_copied limits (c.args.self.now.first + c.args.self.now.seen) (is.on.past ++ take c.args.self.now.seen c.args.self.now.events.items)
-    (drop c.args.self.now.seen c.args.self.now.events.items) c.args.self.now.watch c.in_ok-start.start c.in_ok-start.ensures is.on.now.judging)))
+    (judging_copied limits (c.args.self.now.first + c.args.self.now.seen)
+    (is.on.past ++ take c.args.self.now.seen c.args.self.now.events.items)
+    (drop c.args.self.now.seen c.args.self.now.events.items) c.args.self.now.watch c.in_ok-start.start
+    c.in_ok-start.ensures is.on.now.judging)))
 
 pub overflow_add-explained : goal.overflow_add-explained
 overflow_add-explained c =
@@ -80,9 +85,11 @@ pub returns-in-Unexplained : goal.returns-in-Unexplained
 returns-in-Unexplained c =
     let at = (goal.at.returns-in-Unexplained c).In_ok-outcome in
     IfOk-weaker c.find_stuck.result _ _
-    (λ verdict found ahead limits run is. rest_found limits run c.args.most ahead verdict (run_finds limits run c.args.self.now.first c.args.self.now.seen c.args.self.now.events.items
+    (λ verdict found ahead limits run is. rest_found limits run c.args.most ahead verdict
+    (run_finds limits run c.args.self.now.first c.args.self.now.seen c.args.self.now.events.items
     c.args.self.now.base c.args.self.now.watch is.on
-    (c.args.self.now.seen + c.in-Unexplained.k) c.args.most ahead c.as_slice.result.now verdict c.as_slice.ensures.value (omega arith)
+    (c.args.self.now.seen + c.in-Unexplained.k) c.args.most ahead c.as_slice.result.now verdict
+    c.as_slice.ensures.value (omega arith)
     (rest_stuck limits run c.args.self.now.first c.args.self.now.seen c.args.self.now.events.items
     c.args.self.now.base c.args.self.now.watch is.on c.args.most ahead c.in-Unexplained.k
     (rw c.in-Unexplained.is at (outcome_here at limits run is))) (found ahead))) c.find_stuck.ensures

@@ -56,7 +56,8 @@ pub returns-in_ok-verdict-in-Dead-clause-onward : goal.returns-in_ok-verdict-in-
 returns-in_ok-verdict-in-Dead-clause-onward c ahead limits run is =
     let at = (goal.at.returns-in_ok-verdict-in-Dead-clause-onward c).In_ok-progress in
     run_finds limits run c.args.self.now.first c.args.self.now.seen c.args.self.now.events.items
-    c.args.self.now.base c.args.self.now.watch is.on c.args.self.now.seen c.args.most (Some ahead) c.as_slice.result.now
+    c.args.self.now.base c.args.self.now.watch is.on c.args.self.now.seen c.args.most (Some ahead)
+    c.as_slice.result.now
     c.in_ok-verdict-in-Dead.verdict c.as_slice.ensures.value (omega arith)
     (run_dead limits run c.args.self.now.first c.args.self.now.seen c.args.self.now.events.items
     c.args.self.now.base c.args.self.now.watch is.on c.args.event.now c.requires.front.less c.requires.front.read

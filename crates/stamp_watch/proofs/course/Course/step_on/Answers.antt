@@ -9,14 +9,16 @@ pub end_at_front-ends-requires-clause-front : goal.end_at_front-ends-requires-cl
 end_at_front-ends-requires-clause-front c = record {
   less = c.requires.more;
   read = subst (λ (xs : List Event). c.index-events-self.result ≡
-      get_or xs c.args.self.now.seen c.index-events-self.result) c.as_slice-events.ensures.value c.index-events-self.is;
+      get_or xs c.args.self.now.seen c.index-events-self.result) c.as_slice-events.ensures.value
+      c.index-events-self.is;
 }
 
 pub see-requires-clause-front : goal.see-requires-clause-front
 see-requires-clause-front c = record {
   less = c.requires.more;
   read = subst (λ (xs : List Event). c.index-events-self.result ≡
-      get_or xs c.args.self.now.seen c.index-events-self.result) c.as_slice-events.ensures.value c.index-events-self.is;
+      get_or xs c.args.self.now.seen c.index-events-self.result) c.as_slice-events.ensures.value
+      c.index-events-self.is;
 }
 
 pub returns-then-self-ahead-clause-onward : goal.returns-then-self-ahead-clause-onward

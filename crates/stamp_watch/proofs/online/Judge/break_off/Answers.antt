@@ -6,12 +6,15 @@ use Rattle.stamp_watch.proofs.online.Judge.break_off.Goals as goal
 
 pub returns-clause-found : goal.returns-clause-found
 returns-clause-found c limits most ahead run is =
-    subst (λ (v : Verdict). IsFound limits (run ++ c.args.event.now ∷ []) most (Some ahead) v) (sym c.broken_off-verdict.ensures)
-    (found_broken limits most ahead run c.args.event.now c.args.self.now is c.requires.none c.count.result c.in_ok-rest.rest
+    subst (λ (v : Verdict). IsFound limits (run ++ c.args.event.now ∷ []) most (Some ahead) v)
+    (sym c.broken_off-verdict.ensures)
+    (found_broken limits most ahead run c.args.event.now c.args.self.now is c.requires.none c.count.result
+    c.in_ok-rest.rest
     c.count.ensures c.requires.not c.in_ok-rest.ensures)
 
 pub returns-clause-given : goal.returns-clause-given
-returns-clause-given c limits most ahead run is = judge_broken limits most ahead run c.args.event.now c.args.self.now is c.requires.none _
+returns-clause-given c limits most ahead run is = judge_broken limits most ahead run c.args.event.now c.args.self.now
+    is c.requires.none _
     c.broken_off-verdict.result refl refl refl refl (returns-clause-found c limits most ahead run is)
 
 pub returns-clause-known : goal.returns-clause-known

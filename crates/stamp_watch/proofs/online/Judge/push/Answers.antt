@@ -4,7 +4,8 @@ use Rattle.stamp_watch.proofs.Running.{found_later}
 use Rattle.stamp_watch.proofs.online.Judge.push.Goals as goal
 
 pub returns-in-Some-clause-found : goal.returns-in-Some-clause-found
-returns-in-Some-clause-found c limits most ahead run is = found_later limits run most (Some ahead) c.in-Some.verdict c.args.event.now
+returns-in-Some-clause-found c limits most ahead run is = found_later limits run most (Some ahead) c.in-Some.verdict
+    c.args.event.now
     (found_of limits most ahead run c.args.self.now is c.in-Some.verdict c.in-Some.is)
 
 pub returns-in-Some-clause-given : goal.returns-in-Some-clause-given

@@ -8,18 +8,22 @@ go_on-requires-clause-on c =
     record {
       limits = known.limits;
       run = known.run ++ c.args.event.now ∷ [];
-      course_of = then_of known.limits known.most known.ahead known.run c.args.event.now c.args.self.now known.judge_of c.requires.none
+      course_of = then_of known.limits known.most known.ahead known.run c.args.event.now c.args.self.now
+          known.judge_of c.requires.none
           c.args.busy c.requires.may c.requires.busy c.add.new.self c.in_ok-add.ensures.course;
     }
 
 pub returns-clause-found : goal.returns-clause-found
-returns-clause-found c limits most ahead run is = found_then limits most ahead run c.args.event.now c.args.self.now is c.requires.none
+returns-clause-found c limits most ahead run is = found_then limits most ahead run c.args.event.now c.args.self.now is
+    c.requires.none
     c.args.busy c.requires.may c.requires.busy c.add.new.self c.in_ok-add.ensures.course c.go_on.new.self
     c.in_ok-found.found c.in_ok-found.ensures.found
 
 pub returns-clause-given : goal.returns-clause-given
-returns-clause-given c limits most ahead run is = judge_then limits most ahead run c.args.event.now c.args.self.now is c.requires.none
-    c.args.busy c.requires.may c.requires.busy c.add.new.self c.in_ok-add.ensures.course c.go_on.new.self _ refl refl refl refl
+returns-clause-given c limits most ahead run is = judge_then limits most ahead run c.args.event.now c.args.self.now is
+    c.requires.none
+    c.args.busy c.requires.may c.requires.busy c.add.new.self c.in_ok-add.ensures.course c.go_on.new.self _ refl refl
+    refl refl
     (one_longer_room c.args.self.now c.add.new.self c.requires.room c.in_ok-add.ensures.longer)
     c.in_ok-add.ensures.longer c.in_ok-found.ensures.small c.in_ok-found.ensures.found
 
