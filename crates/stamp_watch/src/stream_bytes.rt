@@ -2,7 +2,7 @@
 ghost use Rattle.std.specs.Prelude.{◌≡◌, ◌≢◌, ◌↔◌, IfErr, IfOk, IsTrue, MatchOption};
 ghost use Rattle.std.specs.List.{All};
 ghost use Rattle.stamp_core.specs.declared.layout.Layout.{Layout};
-ghost use Rattle.stamp_watch.specs.StreamBytes.{call_number, HasBytes, HasLetters, IsHeader, IsNoEvent, IsNoHeader, lane_of, layout_byte, number_in, number_of, readers_in};
+ghost use Rattle.stamp_watch.specs.StreamBytes.{call_number, HasBytes, HasLetters, IsHeader, IsNoEvent, IsNoHeader, lane_of, layout_byte, number_in, number_of, readers_in, reply_number};
 ghost use Rattle.stamp_watch.specs.inner.StreamBytes.{IsCallOf, IsEventOf, IsReplyOf};
 
 use crate::lock_call::LockCall;
@@ -164,14 +164,24 @@ fn stamp_of(call: LockCall) -> u64
     }
 }
 
+/// The stamp or the count that is returned, or 0.
+fn returned_of(reply: LockReply) -> u64
+    ensures { result ≡ reply_number reply }
+{
+    match reply {
+        LockReply::Stamp(number) | LockReply::Count(number) => number,
+        _ => 0,
+    }
+}
+
 /// The number of the event, or 0.
 fn number_of(event: &StreamEvent) -> u64
     ensures { result ≡ number_of event.now }
 {
     match event {
         StreamEvent::Begins(_, call) => stamp_of(*call),
-        StreamEvent::Returns(_, LockReply::Stamp(number) | LockReply::Count(number)) => *number,
-        _ => 0,
+        StreamEvent::Returns(_, reply) => returned_of(*reply),
+        StreamEvent::Withdraws(_) => 0,
     }
 }
 

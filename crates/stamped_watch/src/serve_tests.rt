@@ -31,7 +31,7 @@ const HEADER: [u8; 16] = [
 ];
 
 /// An event, whose number is below 2^16.
-const fn event(kind: u8, lane: u8, number: u16) -> [u8; 16] {
+fn event(kind: u8, lane: u8, number: u16) -> [u8; 16] {
     let [low, high] = number.to_le_bytes();
     [kind, lane, 0, 0, 0, 0, 0, 0, low, high, 0, 0, 0, 0, 0, 0]
 }
@@ -46,20 +46,22 @@ fn stream(alloc: Global, events: &[[u8; 16]]) -> Result<Vec<u8>, Fail> {
 }
 
 /// A write and its release, which another lane's optimistic read overlaps, and one that asks too late.
-const SEEN: [[u8; 16]; 8] = [
-    event(0, 0, 0),
-    event(32, 0, 384),
-    event(6, 0, 384),
-    event(4, 3, 0),
-    event(32, 3, 0),
-    event(35, 0, 0),
-    event(5, 3, 256),
-    event(34, 3, 0),
-];
+fn seen() -> [[u8; 16]; 8] {
+    [
+        event(0, 0, 0),
+        event(32, 0, 384),
+        event(6, 0, 384),
+        event(4, 3, 0),
+        event(32, 3, 0),
+        event(35, 0, 0),
+        event(5, 3, 256),
+        event(34, 3, 0),
+    ]
+}
 
 #[test]
 fn a_stream_that_is_explained_is_told_with_its_calls(rt: HostRuntime) -> Result<(), Fail> {
-    let whole = stream(rt.alloc(), &SEEN)?;
+    let whole = stream(rt.alloc(), &seen())?;
     let (line, verdict, note) = told(rt.alloc(), PLAIN, &whole)?;
     assert!(rt; (line.as_str(), verdict) == ("ok 4\n", Ok(Verdict::Accepted)));
     assert!(rt; note.is_none());
@@ -71,7 +73,7 @@ fn a_stream_that_is_explained_is_told_with_its_calls(rt: HostRuntime) -> Result<
 
 #[test]
 fn a_stuck_stream_is_told_with_the_call_that_ended(rt: HostRuntime) -> Result<(), Fail> {
-    let mut events = SEEN;
+    let mut events = seen();
     events[7] = event(33, 3, 0);
     let wrong = stream(rt.alloc(), &events)?;
     let (line, verdict, note) = told(rt.alloc(), PLAIN, &wrong)?;
@@ -95,18 +97,20 @@ fn a_stuck_stream_is_told_with_the_call_that_ended(rt: HostRuntime) -> Result<()
 }
 
 /// Two readers at once, and one that counts, of which the last to return has a stamp of the other.
-const EITHER: [[u8; 16]; 6] = [
-    event(1, 0, 0),
-    event(3, 1, 0),
-    event(16, 2, 0),
-    event(37, 2, 1),
-    event(32, 0, 258),
-    event(32, 1, 258),
-];
+fn either() -> [[u8; 16]; 6] {
+    [
+        event(1, 0, 0),
+        event(3, 1, 0),
+        event(16, 2, 0),
+        event(37, 2, 1),
+        event(32, 0, 258),
+        event(32, 1, 258),
+    ]
+}
 
 #[test]
 fn a_stream_that_is_not_judged_further_is_undecided(rt: HostRuntime) -> Result<(), Fail> {
-    let either = stream(rt.alloc(), &EITHER)?;
+    let either = stream(rt.alloc(), &either())?;
     let (line, verdict, note) = told(rt.alloc(), Watching { most: 1, ..PLAIN }, &either)?;
     assert!(rt; (line.as_str(), verdict) == ("undecided 3\n", Ok(Verdict::Bad)));
     let wanted = "stamped_watch: no order explains the run; from which event on is undecided";
