@@ -1,8 +1,9 @@
 -- The command line of the program that judges streams.
 use Rattle.std.specs.Prelude.{ℕ, List, [], ◌∷◌, Option, Some, None, Result, Ok, Err, codes, nat_le, if◌then◌else◌}
-use Rattle.std.specs.Prelude.{◌&&◌, Bool, false, not, take, option_map, option_and_then}
+use Rattle.std.specs.Prelude.{◌&&◌, Bool, false, not, option_map, option_and_then}
 use Rattle.std.specs.Option.{is_some, option_map_or}
 use Rattle.std.specs.Str.{bytes_eq}
+use Rattle.std.specs.Str.Parse.{starts_with_minus}
 use Rattle.stamp_cli.specs.Order.{number_in}
 use Rattle.stamp_cli.specs.declared.orders.CommandFault.{CommandFault}
 use Rattle.stamp_cli.specs.declared.orders.CommandFault.TheVariants.{Bad}
@@ -44,7 +45,7 @@ two_options first number second other =
 
 -- a word that doesn't begin with `-` may name a file
 abbrev pub is_file : List ℕ → Bool
-is_file word = not (bytes_eq (take 1 word) (codes "-"))
+is_file word = not (starts_with_minus word)
 
 abbrev pub one_word : List ℕ → Option WatchOrder
 one_word word =

@@ -86,7 +86,10 @@ fn two_options(first: &str, number: &str, second: &str, other: &str) -> Option<W
 fn is_file(word: &str) -> bool
     ensures { result ≡ order.is_file word.now }
 {
-    word.as_bytes().first().copied() != Some(b'-')
+    match word.as_bytes().first() {
+        Some(first) => *first != b'-',
+        None => true,
+    }
 }
 
 /// What one word asks for: how the program is called, or that a file is judged.
