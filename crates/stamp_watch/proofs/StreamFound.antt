@@ -2,7 +2,7 @@
 use Rattle.std.proofs.Common.{ℕ, ◌≡◌, ◌+◌, ◌^◌, ◌≤◌, List, [], ◌∷◌, ◌++◌, length, Some, sym, ◌∙◌, ap, subst, arith}
 use Rattle.std.proofs.Common.{append_assoc}
 use Rattle.std.specs.Prelude.{take, map}
-use Rattle.std.proofs.lemmas.List.{length-append, length-map, map-append}
+use Rattle.std.proofs.lemmas.List.{length-append, length-map}
 use Rattle.std.proofs.Math.Seq.{take-append_seam}
 use Rattle.stamp_core.specs.Limits.{Bounds}
 use Rattle.stamp_watch.specs.declared.event.Event.{Event}
@@ -14,6 +14,7 @@ use Rattle.stamp_watch.specs.Stream.{event_as}
 use Rattle.stamp_watch.specs.StreamBytes.{HasBytes, IsStream}
 use Rattle.stamp_watch.specs.StreamFinding.{IsFoundOf, run_of}
 use Rattle.stamp_watch.specs.inner.StreamJudge.{IsFoundWith, IsJudgedSo}
+use Rattle.stamp_watch.proofs.StreamTaking.{run_more}
 use Rattle.stamp_watch.proofs.Streaming.{judged, stream_behind, stream_more}
 
 module _ (most ahead : ℕ) (limits : Bounds) where
@@ -37,13 +38,10 @@ module _ (most ahead : ℕ) (limits : Bounds) where
     longer : IsStream (taken ++ bytes) limits (events ++ e ∷ []) []
     longer = stream_more taken limits events e bytes stream has
 
-    run_more : run_of (events ++ e ∷ []) ≡ run_of events ++ event_as e ∷ []
-    run_more = map-append event_as events (e ∷ [])
-
     so : (f : Finding) → IsJudgedSo limits (run_of events ++ event_as e ∷ []) most ahead f →
         IsFoundOf most ahead (taken ++ bytes) f
     so f is = found_so (taken ++ bytes) (events ++ e ∷ []) f longer
-        (subst (λ (run : List Event). IsJudgedSo limits run most ahead f) (sym run_more) is)
+        (subst (λ (run : List Event). IsJudgedSo limits run most ahead f) (sym (run_more events e)) is)
 
     pub behind : (rest more : List ℕ) → IsStream (taken ++ rest ++ more) limits events (rest ++ more)
     behind rest more = subst (λ (xs : List ℕ). IsStream xs limits events (rest ++ more))
