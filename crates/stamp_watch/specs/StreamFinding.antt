@@ -6,7 +6,7 @@ use Rattle.stamp_core.specs.Limits.{Bounds}
 use Rattle.stamp_watch.specs.declared.event.Event.{Event}
 use Rattle.stamp_watch.specs.declared.stream_bytes.BadEvent.{BadEvent}
 use Rattle.stamp_watch.specs.declared.stream_event.StreamEvent.{StreamEvent}
-use Rattle.stamp_watch.specs.declared.stream_event.StreamEvent.TheVariants.{Begins, Returns, Withdraws}
+use Rattle.stamp_watch.specs.declared.stream_event.StreamEvent.TheVariants.{Begins, Withdraws}
 use Rattle.stamp_watch.specs.declared.stream_judge.Finding.{Finding}
 use Rattle.stamp_watch.specs.declared.stream_judge.Finding.TheVariants as found
 use Rattle.stamp_watch.specs.declared.stream_judge.Misplaced.{Misplaced}

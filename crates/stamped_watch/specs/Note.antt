@@ -1,5 +1,5 @@
 -- The note of what is found of a stream.
-use Rattle.std.specs.Prelude.{ℕ, ◌≡◌, ◌++◌, List, Option, Some, None, String, codes, decimal, string_bytes}
+use Rattle.std.specs.Prelude.{ℕ, ◌++◌, List, Option, Some, None, String, codes, decimal, string_bytes}
 use Rattle.std.specs.declared.alloc.Global.{Global}
 use Rattle.stamp_core.specs.Texts.{call_text, reply_text}
 use Rattle.stamp_core.specs.declared.reply.Reply.{Reply}

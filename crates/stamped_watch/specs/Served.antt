@@ -1,5 +1,5 @@
 -- How the program serves an order.
-use Rattle.std.specs.Prelude.{ℕ, ◌≡◌, ◌-◌, ◌++◌, ◌⊎◌, List, [], ◌∷◌, length, take, Option, Some, None, Result, Ok, Err}
+use Rattle.std.specs.Prelude.{ℕ, ◌≡◌, ◌-◌, ◌++◌, ◌⊎◌, List, [], ◌∷◌, length, take, Option, None, Result, Ok, Err}
 use Rattle.std.specs.Io.KnownBytes.{Consumes, IsAtEnd}
 use Rattle.stamp_cli.specs.Results.{Results, EachTakes, FailsWithARead, LastTakesNone, taken_since}
 use Rattle.stamp_cli.specs.Serving.{HasWritten, WritesAnswer, RefusesAsDue, WritesFront}

@@ -14,7 +14,7 @@ mod serving;
 
 use crate::help::HELP;
 use crate::orders::{WatchOrder, names_file, order_of};
-use crate::serving::serve_stream;
+use crate::serving::serve_asked;
 use stamp_cli::{
     Answered, CommandFault, Program, ServeFault, Sink, Source, named_fault_line, run, serve_help,
 };
@@ -57,7 +57,7 @@ impl Program for StampedWatch {
     ) -> Result<Answered, ServeFault> {
         match order {
             WatchOrder::Help => tell_help(sink),
-            WatchOrder::Watch(asked) => serve_stream(alloc, asked, source, sink),
+            WatchOrder::Watch(asked) => serve_asked(alloc, asked, source, sink),
         }
     }
 

@@ -1,10 +1,11 @@
 //! A stream from the bytes that come in to the line that goes out.
 
 ghost use Rattle.std.specs.Prelude.{◌≡◌, ◌<◌, [], IfOk, None, length, vec_len};
-ghost use Rattle.stamp_cli.specs.Results.{FailsWithARead, IsReadOrMemoryFault};
-ghost use Rattle.stamp_cli.specs.declared.faults.ServeFault.TheVariants.{ReadFault};
+ghost use Rattle.stamp_cli.specs.Results.{IsReadOrMemoryFault};
+ghost use Rattle.stamp_cli.specs.Serving.{HasWritten, RefusesAsDue, WritesAnswer, WritesFront};
+ghost use Rattle.stamp_cli.specs.declared.faults.ServeFault.TheVariants.{Memory, ReadFault, WriteFault};
 ghost use Rattle.stamp_watch.specs.StreamJudge.{IsFed};
-ghost use Rattle.stamped_watch.specs.Served.{HasReadOn, HasWatched, IsFoundOfSource};
+ghost use Rattle.stamped_watch.specs.Served.{AnswersStream, HasReadOn, HasWatched, IsAnsweredBy, IsFoundOfSource, line_of};
 
 use crate::finding_text::line_of_finding;
 use crate::note::note_of;
@@ -70,10 +71,25 @@ pub fn serve_stream<S: Source, K: Sink>(
     source: &mut S,
     sink: &mut K,
 ) -> Result<Answered, ServeFault>
-    ensures { HasWatched asked
-        (record { left = S.left source.old; reads = S.reads source.old; sent = K.sent sink.old; writes = K.writes sink.old })
-        (record { left = S.left source.new; reads = S.reads source.new; sent = K.sent sink.new; writes = K.writes sink.new })
-        result }
+    // However it ends, there is no read after one that took no byte.
+    ensures reads { HasReadOn ReadFault (S.left source.old) (S.left source.new)
+        (S.reads source.old) (S.reads source.new) result }
+
+    // The line of what is found of all that was read is written, and nothing else; the verdict and the note are its.
+    ensures ok { WritesAnswer (AnswersStream asked (S.left source.old) (S.left source.new)
+        (S.reads source.old) (S.reads source.new)) (IsAnsweredBy asked) line_of
+        (K.sent sink.old) (K.sent sink.new) (K.writes sink.old) (K.writes sink.new) result }
+
+    // No stream is refused.
+    ensures refused { RefusesAsDue ReadFault WriteFault Memory (AnswersStream asked (S.left source.old)
+        (S.left source.new) (S.reads source.old) (S.reads source.new)) result }
+
+    // A write that failed leaves a front of the line and is the last, and no other refusal writes.
+    ensures writes { HasWritten WriteFault (K.sent sink.old) (K.sent sink.new)
+        (K.writes sink.old) (K.writes sink.new) result }
+    ensures front { WritesFront WriteFault (AnswersStream asked (S.left source.old) (S.left source.new)
+        (S.reads source.old) (S.reads source.new)) line_of
+        (K.sent sink.old) (K.sent sink.new) (K.writes sink.old) (K.writes sink.new) result }
 {
     let mut judge = StreamJudge::new(alloc, asked.most, asked.ahead);
     let mut chunk = zeros(alloc)?;
@@ -84,4 +100,19 @@ pub fn serve_stream<S: Source, K: Sink>(
     let ended = ended_at(&finding, &judge);
     let note = note_of(alloc, asked, &finding, &ended).unwrap_or(None);
     Ok(Answered { verdict, note })
+}
+
+/// Serves a judgement, as `serve_stream` does.
+pub(crate) fn serve_asked<S: Source, K: Sink>(
+    alloc: Global,
+    asked: Watching,
+    source: &mut S,
+    sink: &mut K,
+) -> Result<Answered, ServeFault>
+    ensures { HasWatched asked
+        (record { left = S.left source.old; reads = S.reads source.old; sent = K.sent sink.old; writes = K.writes sink.old })
+        (record { left = S.left source.new; reads = S.reads source.new; sent = K.sent sink.new; writes = K.writes sink.new })
+        result }
+{
+    serve_stream(alloc, asked, source, sink)
 }
