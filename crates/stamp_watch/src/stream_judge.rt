@@ -218,7 +218,7 @@ impl StreamJudge {
             → IsFed most ahead (taken ++ bytes.now) self.new) }
     {
         let mut rest = bytes;
-        while self.found.is_none() {
+        'units: while self.found.is_none() {
             let Some((unit, behind)) = rest.split_first_chunk::<16>() else {
                 self.part.extend_from_slice(rest)?;
                 return Ok(());

@@ -132,7 +132,7 @@ fn fed(judge: &mut StreamJudge, bytes: &[u8], piece: usize) -> Result<Option<Fin
 {
     let mut found = None;
     let mut rest = bytes;
-    while !rest.is_empty() {
+    'pieces: while !rest.is_empty() {
         let (front, behind) = rest.split_at(piece.max(1).min(rest.len()));
         found = judge.feed(front)?;
         rest = behind;
