@@ -33,6 +33,20 @@ module _ (most ahead : ℕ) (limits : Bounds) where
   found_so taken events found.NoHeader stream is = absurd is
   found_so taken events found.Full stream is = absurd is
 
+  -- a verdict is what is found with one event more
+  pub so_found : (run : List Event) (e : StreamEvent) (f : Finding) →
+      IsJudgedSo limits (run ++ event_as e ∷ []) most ahead f → IsFoundWith limits most ahead run e f
+  so_found run e (found.Stuck k) is = is
+  so_found run e (found.StuckWithin k m) is = is
+  so_found run e (found.Undecided k why) is = is
+  so_found run e (found.Explained calls) is = is
+  so_found run e (found.Misplaced k why) is = absurd is
+  so_found run e (found.BadEvent k why) is = is
+  so_found run e (found.Cut k) is = is
+  so_found run e (found.BadHeader why) is = is
+  so_found run e found.NoHeader is = is
+  so_found run e found.Full is = absurd is
+
   module _ (taken : List ℕ) (events : List StreamEvent) (e : StreamEvent) (bytes : List ℕ)
       (stream : IsStream taken limits events []) (has : HasBytes e bytes) where
     longer : IsStream (taken ++ bytes) limits (events ++ e ∷ []) []

@@ -26,7 +26,8 @@ pub enum Finding {
     Explained(u64),
     /// It is explained before the event with this number, and not with it.
     Stuck(u64),
-    /// It is stuck at one of these events or between them, as `Verdict::StuckWithin` says.
+    /// It is explained before the event with the first number, and not before that with the second: it is stuck at the
+    /// first or between them.
     StuckWithin(u64, u64),
     /// It is explained before the event with this number. For this cause it is not judged further.
     Undecided(u64, Why),
