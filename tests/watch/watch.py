@@ -72,7 +72,10 @@ def try_changed(watch, explain, name, stream):
     if line.startswith("ok "):
         must_be(name, verdict(explain, history), "explained")
         return False
-    number = int(re.fullmatch(r"stuck (\d+)", line)[1])
+    stuck = re.fullmatch(r"stuck (\d+)", line)
+    if not stuck:
+        fail(name, line, note)
+    number = int(stuck[1])
     must_be_stuck_as_seen(name, explain, stream, number)
     if WITHDRAWN not in kinds_of(stream):
         must_be(name, verdict(explain, history), f"stuck {entry_that_returns_at(history, number)}")
