@@ -28,7 +28,7 @@ echo "first_run.sh: examples/first-run printed what README.md says"
 
 command -v javac > /dev/null || exit 0
 awk '/^## / { below = /Java program/ } below && /^    / { print substr($0, 5) }' "$top/README.md" > ../lines
-[ "$(wc -l < ../lines)" = 4 ] || fail "README.md has no four lines that judge a Java program"
+[ "$(wc -l < ../lines)" = 3 ] || fail "README.md has no three lines that judge a Java program"
 bash -eu ../lines > ../judged 2> ../told || { cat ../told >&2; fail "a line that judges a Java program failed"; }
 grep -qxE 'ok [0-9]+' ../judged || { cat ../judged >&2; fail "a Java program's run isn't ok"; }
 echo "first_run.sh: the lines that judge a Java program print $(cat ../judged)"
