@@ -1,37 +1,11 @@
+use crate::fixtures::{entry, limits, words};
 use crate::plain_check::plain_check;
 use stamp_check::{Bad, Why, check};
-use stamp_core::{Call, Entry, Layout, Limits, Record, Reply, Words};
+use stamp_core::{Call, Entry, Layout, Limits, Record, Reply};
 use stamp_machines::{Arg, Script, ScriptCall, run, run_reported};
 use std::alloc::Global;
 use std::process::Abort;
 use std::test::Fail;
-
-fn limits(versions: u64) -> Result<Limits, Fail> {
-    match Limits::new(127, versions) {
-        Ok(limits) => Ok(limits),
-        Err(_) => Err(Fail::from("limits")),
-    }
-}
-
-fn words(word: u64) -> Result<Words, Fail> {
-    match Words::new(&[word]) {
-        Some(words) => Ok(words),
-        None => Err(Fail::from("words")),
-    }
-}
-
-/// An entry with its first position, its point and its last position.
-fn entry(thread: u64, call: Call, reply: Reply, at: (u64, u64, u64)) -> Entry {
-    let (first, point, last) = at;
-    Entry {
-        thread,
-        call,
-        reply,
-        first,
-        point,
-        last,
-    }
-}
 
 /// An entry with one position.
 fn entry_at(thread: u64, call: Call, reply: Reply, at: u64) -> Entry {
@@ -80,7 +54,7 @@ fn verdict(
 
 #[test]
 fn linearized_entries_are_counted(rt: HostRuntime) -> Result<(), Fail> {
-    let limits = limits(1000)?;
+    let limits = limits(127, 1000)?;
     assert!(rt; verdict(&rt, limits, 0, &[])? == Ok(0));
     let entries = [
         try_write(1, (1, 2, 2)),
@@ -98,7 +72,7 @@ fn assert_bad(
     at: u64,
     why: Why,
 ) -> Result<(), Fail> {
-    let told = verdict(rt, limits(1000)?, 0, entries)?;
+    let told = verdict(rt, limits(127, 1000)?, 0, entries)?;
     assert!(rt; told == bad(at, why));
     Ok(())
 }
@@ -145,9 +119,9 @@ fn a_call_that_would_wait_has_no_reply(rt: HostRuntime) -> Result<(), Fail> {
         entry_at(0, Call::TryWrite, Reply::Stamp(384), 0),
         entry_at(1, Call::WriteLock, Reply::Stamp(0), 1),
     ];
-    assert!(rt; verdict(&rt, limits(1000)?, 0, &entries)? == bad(1, Why::Reply));
+    assert!(rt; verdict(&rt, limits(127, 1000)?, 0, &entries)? == bad(1, Why::Reply));
     // With the versions spent it does not wait.
-    assert!(rt; verdict(&rt, limits(1)?, 0, &entries)? == Ok(2));
+    assert!(rt; verdict(&rt, limits(127, 1)?, 0, &entries)? == Ok(2));
     Ok(())
 }
 
@@ -173,7 +147,7 @@ const CAUSES: [Why; 4] = [Why::Interval, Why::Order, Why::Overlap, Why::Reply];
 
 #[test]
 fn of_causes_in_one_entry_the_first_is_told(rt: HostRuntime) -> Result<(), Fail> {
-    let limits = limits(1000)?;
+    let limits = limits(127, 1000)?;
     for mask in 0..16_u64 {
         let causes = [
             mask % 2 == 1,
@@ -213,7 +187,7 @@ fn third_with(cause: Option<Why>) -> Entry {
 
 #[test]
 fn of_causes_in_two_entries_the_earlier_is_told(rt: HostRuntime) -> Result<(), Fail> {
-    let limits = limits(1000)?;
+    let limits = limits(127, 1000)?;
     let opening = try_write(0, (0, 10, 100));
     for later in CAUSES {
         let third = third_with(Some(later));
@@ -241,7 +215,7 @@ fn an_overlap_is_told_past_entries_of_other_threads(rt: HostRuntime) -> Result<(
         entry(2, Call::ReadCount, Reply::Count(2), (3, 3, 3)),
         entry(0, Call::ReadCount, Reply::Count(2), (9, 10, 11)),
     ];
-    assert!(rt; verdict(&rt, limits(1000)?, 0, &entries)? == bad(3, Why::Overlap));
+    assert!(rt; verdict(&rt, limits(127, 1000)?, 0, &entries)? == bad(3, Why::Overlap));
     Ok(())
 }
 
@@ -263,7 +237,7 @@ fn in_a_row(
 
 #[test]
 fn a_record_starts_with_zeros_and_holds_what_was_put(rt: HostRuntime) -> Result<(), Fail> {
-    let (zero, five, six) = (words(0)?, words(5)?, words(6)?);
+    let (zero, five, six) = (words(&[0])?, words(&[5])?, words(&[6])?);
     let calls = [
         Call::Get,
         Call::Put(five),
@@ -295,10 +269,10 @@ fn a_record_starts_with_zeros_and_holds_what_was_put(rt: HostRuntime) -> Result<
         Reply::Stamp(6),
     ];
     let right = in_a_row(rt.alloc(), &calls, &replies, 8, &replies[0])?;
-    assert!(rt; verdict(&rt, limits(0)?, 1, &right)? == Ok(8));
+    assert!(rt; verdict(&rt, limits(127, 0)?, 1, &right)? == Ok(8));
     for (i, reply) in wrong.iter().enumerate() {
         let entries = in_a_row(rt.alloc(), &calls, &replies, i, reply)?;
-        let told = verdict(&rt, limits(0)?, 1, &entries)?;
+        let told = verdict(&rt, limits(127, 0)?, 1, &entries)?;
         assert!(rt; told == bad(i as u64, Why::Reply), "{i}");
     }
     Ok(())
@@ -306,7 +280,7 @@ fn a_record_starts_with_zeros_and_holds_what_was_put(rt: HostRuntime) -> Result<
 
 #[test]
 fn the_last_thread_is_kept_apart_too(rt: HostRuntime) -> Result<(), Fail> {
-    let limits = limits(1000)?;
+    let limits = limits(127, 1000)?;
     let entries = [try_write(63, (0, 1, 3)), unlock_write(63, (2, 4, 5))];
     assert!(rt; verdict(&rt, limits, 0, &entries)? == bad(1, Why::Overlap));
     let entries = [try_write(63, (0, 1, 1)), unlock_write(63, (2, 4, 5))];
@@ -337,7 +311,7 @@ fn the_report_is_not_looked_at(rt: HostRuntime) -> Result<(), Fail> {
     entries.push(entry_at(0, call, reply, 0))?;
     let mut report = Vec::new(rt.alloc());
     report.push((u64::MAX, 7))?;
-    let Some(record) = Record::of_reported(limits(1000)?, 0, entries, report) else {
+    let Some(record) = Record::of_reported(limits(127, 1000)?, 0, entries, report) else {
         return Err(Fail::from("record"));
     };
     assert!(rt; check(&record) == Ok(1));
@@ -352,7 +326,7 @@ fn script(alloc: Global) -> Result<Script, Fail> {
     }
     let mut second = Vec::new(alloc);
     let unlock = ScriptCall::UnlockWrite(Arg::Of(1, 0));
-    for call in [ScriptCall::TryWrite, unlock, ScriptCall::Put(words(7)?)] {
+    for call in [ScriptCall::TryWrite, unlock, ScriptCall::Put(words(&[7])?)] {
         second.push(call)?;
     }
     let mut threads = Vec::new(alloc);
@@ -362,7 +336,7 @@ fn script(alloc: Global) -> Result<Script, Fail> {
     for thread in [0, 1, 1, 1, 1, 0, 0, 1, 1, 0, 1, 0, 1, 0, 0, 0, 0, 0, 0, 0] {
         steps.push(thread)?;
     }
-    Script::new(limits(1000)?, 1, threads, steps).map_err(|_| Fail::from("script"))
+    Script::new(limits(127, 1000)?, 1, threads, steps).map_err(|_| Fail::from("script"))
 }
 
 #[test]
@@ -387,7 +361,7 @@ fn a_long_record_is_checked_in_one_walk(rt: HostRuntime) -> Result<(), Fail> {
         };
         entries.push(entry_at(0, call, reply, i))?;
     }
-    let Some(record) = Record::of(limits(1000)?, 0, entries) else {
+    let Some(record) = Record::of(limits(127, 1000)?, 0, entries) else {
         return Err(Fail::from("record"));
     };
     assert!(rt; check(&record) == Ok(64_000));

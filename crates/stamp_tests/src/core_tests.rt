@@ -1,3 +1,4 @@
+use crate::fixtures::limits;
 use stamp_core::{
     Call, CoreError, Decision, Entry, Layout, Limits, LockDecision, LockReply, Record, ReplayError,
     Reply, StampKind, Word, Words, decide, decide_lock, is_lock_stamp, is_lock_stamp_in,
@@ -6,10 +7,6 @@ use stamp_core::{
 };
 use std::alloc::{AllocError, Global};
 use std::test::Fail;
-
-fn limits(readers: u64, versions: u64) -> Result<Limits, Fail> {
-    Limits::new(readers, versions).map_err(|_| Fail::from("limits out of range"))
-}
 
 #[test]
 fn limits_are_refused_exactly_outside_the_ranges(rt: HostRuntime) {

@@ -1,16 +1,10 @@
-use stamp_core::{Call, Entry, Limits, Reply, Words};
+use crate::fixtures::{entry, limits, words};
+use stamp_core::{Call, Entry, Reply};
 use stamp_explain::{
     END_OF_POSITIONS, ExplainError, Observation, Observed, PossibleError, Returned, explain,
     has_returned_at, is_observed, possible_among, possible_at,
 };
 use std::test::Fail;
-
-fn words(word: u64) -> Result<Words, Fail> {
-    match Words::new(&[word]) {
-        Some(words) => Ok(words),
-        None => Err(Fail::from("words")),
-    }
-}
 
 /// A call in short: its thread, the call, its first position, and its last with its reply, unless it is
 /// under way.
@@ -39,9 +33,7 @@ fn made(
     calls: &[Short; 3],
     count: usize,
 ) -> Result<Option<Observed>, Fail> {
-    let Ok(limits) = Limits::new(127, 1000) else {
-        return Err(Fail::from("limits"));
-    };
+    let limits = limits(127, 1000)?;
     let mut entries = Vec::new(rt.alloc());
     for i in 0..count.min(3) {
         entries.push(observation(calls[i]))?;
@@ -174,7 +166,7 @@ fn a_history_is_explained_or_stuck_at_one_return(rt: HostRuntime) -> Result<(), 
 
 #[test]
 fn a_get_after_a_get_reads_nothing_older(rt: HostRuntime) -> Result<(), Fail> {
-    let (zero, seven, eight) = (words(0)?, words(7)?, words(8)?);
+    let (zero, seven, eight) = (words(&[0])?, words(&[7])?, words(&[8])?);
     let put = (0, Call::Put(seven), 0, Some((5, Reply::Done)));
     let new = (1, Call::Get, 1, Some((2, Reply::Content(seven))));
     let swapped = Some((4, Reply::Yes));
@@ -264,7 +256,7 @@ fn a_history_without_an_order_is_told_so_before_its_wrong_return_is_known(
 
 #[test]
 fn calls_of_a_thread_do_not_overlap(rt: HostRuntime) -> Result<(), Fail> {
-    let zero = words(0)?;
+    let zero = words(&[0])?;
     let calls = [
         (0, Call::ReadCount, 5, Some((4, Reply::Count(0)))),
         (0, Call::ReadCount, 3, Some((6, Reply::Count(0)))),
@@ -322,18 +314,6 @@ fn is_explained_by(
     match explain(rt.alloc(), &observed, 100) {
         Ok(record) => Ok(record.entries() == entries.as_slice()),
         Err(_) => Ok(false),
-    }
-}
-
-fn entry(thread: u64, call: Call, reply: Reply, moments: (u64, u64, u64)) -> Entry {
-    let (first, point, last) = moments;
-    Entry {
-        thread,
-        call,
-        reply,
-        first,
-        point,
-        last,
     }
 }
 

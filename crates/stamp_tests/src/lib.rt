@@ -1,7 +1,9 @@
-//! The tests of the libraries of calls and histories and of the program's engine, in a crate of their own, since one
-//! with tests is proved twice.
+//! The tests of the libraries of calls, machines and histories, and of the program's engine, in a crate of their
+//! own, since one with tests is proved twice.
 #![tactic(auto)]
 
+#[cfg(test)]
+mod brute_tests;
 #[cfg(test)]
 mod check_tests;
 #[cfg(test)]
@@ -13,17 +15,25 @@ mod explain_tests;
 #[cfg(test)]
 mod fault_tests;
 #[cfg(test)]
+mod fixtures;
+#[cfg(test)]
 mod history_reading_tests;
 #[cfg(test)]
 mod history_tests;
+#[cfg(test)]
+mod machine_tests;
 #[cfg(test)]
 mod migration_tests;
 #[cfg(test)]
 mod plain_check;
 #[cfg(test)]
+mod plain_lock;
+#[cfg(test)]
 mod reading_tests;
 #[cfg(test)]
 mod replay_tests;
+#[cfg(test)]
+mod schedule_tests;
 #[cfg(test)]
 mod script_tests;
 #[cfg(test)]

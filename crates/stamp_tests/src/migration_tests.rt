@@ -1,3 +1,4 @@
+use crate::fixtures::{entry, limits};
 use stamp_check::{BadReply, migrate};
 use stamp_core::{Call, Entry, Layout, Limits, Record, Reply, Words};
 use std::alloc::Global;
@@ -6,18 +7,6 @@ use std::test::Fail;
 
 /// The write stamp of layout 1 after those whose versions layout 2 has.
 const FAR: u64 = 18_014_398_509_481_856;
-
-fn entry(thread: u64, call: Call, reply: Reply, positions: (u64, u64, u64)) -> Entry {
-    let (first, point, last) = positions;
-    Entry {
-        thread,
-        call,
-        reply,
-        first,
-        point,
-        last,
-    }
-}
 
 /// One call, alone at position 0.
 fn alone(call: Call, reply: Reply) -> Entry {
@@ -30,20 +19,15 @@ fn recorded(alloc: Global, limits: Limits, entries: &[Entry]) -> Result<Record, 
     Ok(record)
 }
 
-fn narrow() -> Result<Limits, Fail> {
-    let limits = Limits::new(127, 1000).ok().ok_or("limits")?;
-    Ok(limits)
-}
-
 /// The one entry that is left of this one in a migrated history.
 fn migrated_alone(alloc: Global, before: Entry) -> Result<Option<Entry>, Fail> {
-    let record = recorded(alloc, narrow()?, &[before])?;
+    let record = recorded(alloc, limits(127, 1000)?, &[before])?;
     let after = migrate(record).ok().ok_or("bad reply")?;
     Ok(after.entries().first().copied())
 }
 
 fn refusal(alloc: Global, entries: &[Entry]) -> Result<BadReply, Fail> {
-    let record = recorded(alloc, narrow()?, entries)?;
+    let record = recorded(alloc, limits(127, 1000)?, entries)?;
     let bad = migrate(record).err().ok_or("migrated")?;
     Ok(bad)
 }
@@ -62,7 +46,7 @@ fn a_history_is_spelled_in_layout_two(rt: HostRuntime) -> Result<(), Fail> {
     ];
     let entries = before.to_vec(rt.alloc())?;
     let costs = vec![in rt.alloc(); (2, 0), (2, 0), (3, 2)]?;
-    let record = Record::of_reported(narrow()?, 0, entries, costs).ok_or("no record")?;
+    let record = Record::of_reported(limits(127, 1000)?, 0, entries, costs).ok_or("no record")?;
     let migrated = migrate(record).ok().ok_or("bad reply")?;
     let limits = migrated.limits();
     assert!(rt; limits.layout() == Layout::Two);
@@ -130,7 +114,7 @@ fn other_calls_and_replies_stay(rt: HostRuntime) -> Result<(), Fail> {
         alone(Call::PutIf(words, words), Reply::No),
         alone(Call::Get, Reply::Content(words)),
     ];
-    let record = Record::of(narrow()?, 1, entries.to_vec(rt.alloc())?).ok_or("no record")?;
+    let record = Record::of(limits(127, 1000)?, 1, entries.to_vec(rt.alloc())?).ok_or("no record")?;
     let migrated = migrate(record).ok().ok_or("bad reply")?;
     assert!(rt; migrated.entries() == entries.as_slice());
     assert!(rt; migrated.width() == 1);

@@ -1,4 +1,4 @@
-//! What the tests make their schedules of.
+//! What the tests make limits, words, entries and schedules of.
 use stamp_core::{Call, Entry, Limits, Reply, Words};
 use stamp_machines::{Script, ScriptCall};
 use std::alloc::Global;
@@ -49,14 +49,15 @@ pub(crate) fn script(
     script_under(alloc, limits(127, 1000)?, width, threads, steps)
 }
 
-/// A call that took effect at its last step.
-pub(crate) fn entry(thread: u64, call: Call, reply: Reply, first: u64, last: u64) -> Entry {
+/// An entry with its first position, its point and its last position.
+pub(crate) fn entry(thread: u64, call: Call, reply: Reply, at: (u64, u64, u64)) -> Entry {
+    let (first, point, last) = at;
     Entry {
         thread,
         call,
         reply,
         first,
-        point: last,
+        point,
         last,
     }
 }

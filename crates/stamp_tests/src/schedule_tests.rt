@@ -141,9 +141,9 @@ fn a_lost_exchange_tries_again_on_the_free_word_that_it_found(rt: HostRuntime) -
         &[0, 1, 1, 1, 1, 0, 0],
     )?;
     let entries = [
-        entry(1, Call::TryWrite, Reply::Stamp(384), 1, 2),
-        entry(1, Call::UnlockWrite(384), Reply::Done, 3, 4),
-        entry(0, Call::TryWrite, Reply::Stamp(640), 0, 6),
+        entry(1, Call::TryWrite, Reply::Stamp(384), (1, 2, 2)),
+        entry(1, Call::UnlockWrite(384), Reply::Done, (3, 4, 4)),
+        entry(0, Call::TryWrite, Reply::Stamp(640), (0, 6, 6)),
     ];
     ends_with(&rt, rt.alloc(), &script, &entries, 640)?;
     costs(&rt, rt.alloc(), &script, &[(2, 0), (2, 0), (3, 2)])
@@ -166,7 +166,7 @@ fn a_run_may_end_while_a_call_still_waits(rt: HostRuntime) -> Result<(), Fail> {
     steps[0] = 1;
     steps[1] = 1;
     let script = script(rt.alloc(), 0, threads, &steps)?;
-    let entries = [entry(1, Call::TryWrite, Reply::Stamp(384), 0, 1)];
+    let entries = [entry(1, Call::TryWrite, Reply::Stamp(384), (0, 1, 1))];
     let mut words = [384; 1002];
     words[0] = 256;
     shows(&rt, rt.alloc(), &script, &entries, &words)
@@ -182,9 +182,9 @@ fn a_waiting_writer_goes_on_once_the_reader_has_ended(rt: HostRuntime) -> Result
         &[1, 1, 0, 0, 1, 1, 0, 0],
     )?;
     let entries = [
-        entry(1, Call::ReadLock, Reply::Stamp(257), 0, 1),
-        entry(1, Call::UnlockRead(257), Reply::Done, 4, 5),
-        entry(0, Call::WriteLock, Reply::Stamp(384), 2, 7),
+        entry(1, Call::ReadLock, Reply::Stamp(257), (0, 1, 1)),
+        entry(1, Call::UnlockRead(257), Reply::Done, (4, 5, 5)),
+        entry(0, Call::WriteLock, Reply::Stamp(384), (2, 7, 7)),
     ];
     let words = [256, 257, 257, 257, 257, 256, 256, 384];
     shows(&rt, rt.alloc(), &script, &entries, &words)
@@ -203,9 +203,9 @@ fn a_thread_may_release_what_another_holds(rt: HostRuntime) -> Result<(), Fail> 
         &[0, 1, 0, 1, 1],
     )?;
     let entries = [
-        entry(1, Call::UnlockWrite(0), Reply::Mismatch, 1, 1),
-        entry(0, Call::TryWrite, Reply::Stamp(384), 0, 2),
-        entry(1, Call::UnlockWrite(384), Reply::Done, 3, 4),
+        entry(1, Call::UnlockWrite(0), Reply::Mismatch, (1, 1, 1)),
+        entry(0, Call::TryWrite, Reply::Stamp(384), (0, 2, 2)),
+        entry(1, Call::UnlockWrite(384), Reply::Done, (3, 4, 4)),
     ];
     let words = [256, 256, 384, 384, 512];
     shows(&rt, rt.alloc(), &script, &entries, &words)
@@ -216,8 +216,8 @@ fn gets_and_puts_of_a_record_change_no_word_of_the_lock(rt: HostRuntime) -> Resu
     let calls = [ScriptCall::Put(words(&[7])?), ScriptCall::Get];
     let script = script_under(rt.alloc(), limits(127, 0)?, 1, [&calls, &[]], &[0; 7])?;
     let entries = [
-        entry(0, Call::Put(words(&[7])?), Reply::Done, 0, 3),
-        entry(0, Call::Get, Reply::Content(words(&[7])?), 4, 6),
+        entry(0, Call::Put(words(&[7])?), Reply::Done, (0, 3, 3)),
+        entry(0, Call::Get, Reply::Content(words(&[7])?), (4, 6, 6)),
     ];
     shows(&rt, rt.alloc(), &script, &entries, &[256; 7])
 }
@@ -234,9 +234,9 @@ fn a_schedule_in_the_second_layout(rt: HostRuntime) -> Result<(), Fail> {
         &[0, 1, 1, 1, 1, 0, 0],
     )?;
     let entries = [
-        entry(1, Call::TryWrite, Reply::Stamp(196_608), 1, 2),
-        entry(1, Call::UnlockWrite(196_608), Reply::Done, 3, 4),
-        entry(0, Call::TryWrite, Reply::Stamp(327_680), 0, 6),
+        entry(1, Call::TryWrite, Reply::Stamp(196_608), (1, 2, 2)),
+        entry(1, Call::UnlockWrite(196_608), Reply::Done, (3, 4, 4)),
+        entry(0, Call::TryWrite, Reply::Stamp(327_680), (0, 6, 6)),
     ];
     ends_with(&rt, rt.alloc(), &script, &entries, 327_680)?;
     costs(&rt, rt.alloc(), &script, &[(2, 0), (2, 0), (3, 2)])
@@ -252,8 +252,8 @@ fn a_get_beside_a_put_reads_words_that_were_held_together(rt: HostRuntime) -> Re
         &[0, 0, 1, 1, 1, 1, 1, 0, 0, 0, 0, 0, 0, 0, 0],
     )?;
     let entries = [
-        entry(1, Call::Put(words(&[7, 9])?), Reply::Done, 2, 6),
-        entry(0, Call::Get, Reply::Content(words(&[7, 9])?), 0, 14),
+        entry(1, Call::Put(words(&[7, 9])?), Reply::Done, (2, 6, 6)),
+        entry(0, Call::Get, Reply::Content(words(&[7, 9])?), (0, 14, 14)),
     ];
     ends_with(&rt, rt.alloc(), &script, &entries, 256)
 }
@@ -271,8 +271,8 @@ fn two_conditional_puts_beside_each_other_store_once(rt: HostRuntime) -> Result<
     let stored = Call::PutIf(words(&[0])?, words(&[6])?);
     let refused = Call::PutIf(words(&[0])?, words(&[5])?);
     let entries = [
-        entry(1, stored, Reply::Yes, 2, 13),
-        entry(0, refused, Reply::No, 0, 17),
+        entry(1, stored, Reply::Yes, (2, 13, 13)),
+        entry(0, refused, Reply::No, (0, 17, 17)),
     ];
     ends_with(&rt, rt.alloc(), &script, &entries, 256)?;
     costs(&rt, rt.alloc(), &script, &[(7, 0), (11, 0)])
