@@ -1,4 +1,4 @@
-//! The tests of the libraries of calls, machines and histories, and of the program's engine, in a crate of their
+//! The tests of the libraries of calls, machines, histories and runs, and of the program's engine, in a crate of their
 //! own, since one with tests is proved twice.
 #![tactic(auto)]
 
@@ -21,9 +21,13 @@ mod history_reading_tests;
 #[cfg(test)]
 mod history_tests;
 #[cfg(test)]
+mod judge_tests;
+#[cfg(test)]
 mod machine_tests;
 #[cfg(test)]
 mod migration_tests;
+#[cfg(test)]
+mod online_tests;
 #[cfg(test)]
 mod plain_check;
 #[cfg(test)]
@@ -40,5 +44,7 @@ mod script_tests;
 mod serve_tests;
 #[cfg(test)]
 mod text_tests;
+#[cfg(test)]
+mod watch_tests;
 #[cfg(test)]
 mod writing_tests;

@@ -1,0 +1,470 @@
+-- What comes as was told, where all that comes is known.
+use Rattle.std.proofs.Common.{ℕ, zero, suc, ◌≡◌, ◌≢◌, ◌⊎◌, ◌+◌, ◌<◌, ◌≤◌, ◌==◌, Bool, true, false, List, [], ◌∷◌, ◌++◌}
+use Rattle.std.proofs.Common.{length, Option, Some, None, refl, sym, ◌∙◌, ap, subst, inl, inr, arith, append_assoc}
+use Rattle.std.proofs.Common.{eq-eqb, ne_eqb}
+use Rattle.std.specs.Prelude.{slice_set, not, ◌&&◌, ◌||◌}
+use Rattle.std.specs.List.{All}
+use Rattle.std.specs.Option.{is_some}
+use Rattle.std.proofs.lemmas.Bool.{cases_eq, false≢true}
+use Rattle.std.proofs.lemmas.List.Elements.{All-head, All-tail}
+use Rattle.std.proofs.lemmas.Option.{none-some, same_Some}
+use Rattle.stamp_core.specs.Limits.{Bounds}
+use Rattle.stamp_core.specs.LockDecision.{reply_as}
+use Rattle.stamp_core.specs.declared.lock_decision.LockReply.{LockReply}
+use Rattle.stamp_core.specs.declared.call.Call.{Call}
+use Rattle.stamp_core.specs.declared.reply.Reply.{Reply}
+use Rattle.stamp_explain.specs.declared.observed.Returned.{Returned}
+use Rattle.stamp_watch.specs.declared.event.Event.{Event}
+use Rattle.stamp_watch.specs.declared.event.Event.TheVariants as event
+use Rattle.stamp_watch.specs.declared.ending.Ending.{Ending}
+use Rattle.stamp_watch.specs.declared.ending.Ending.TheVariants.{Returns, Withdraws, Never}
+use Rattle.stamp_watch.specs.declared.open_call.OpenCall.{OpenCall}
+use Rattle.stamp_watch.specs.declared.position.Position.{Position}
+use Rattle.stamp_watch.specs.declared.progress.Progress.{Progress}
+use Rattle.stamp_watch.specs.declared.progress.Progress.TheVariants.{Going, Dead, TooMany, Refused}
+use Rattle.stamp_watch.specs.declared.watch.Watch.{Watch}
+use Rattle.stamp_watch.specs.Ahead.{Tells, IsWithdrawn, EndsNever, ReturnsSooner}
+use Rattle.stamp_watch.specs.Ahead.Tells.{tells_next, past_beginning, past_return, past_withdrawal}
+use Rattle.stamp_watch.specs.Ahead.IsWithdrawn.{withdrawn_next, withdrawn_past_beginning, withdrawn_past_return}
+use Rattle.stamp_watch.specs.Ahead.IsWithdrawn.{withdrawn_past_withdrawal}
+use Rattle.stamp_watch.specs.Ahead.EndsNever.{never_more, not_beginning, not_returning, not_withdrawing}
+use Rattle.stamp_watch.specs.Ahead.ReturnsSooner.{sooner_next, sooner_past_beginning, sooner_past_return}
+use Rattle.stamp_watch.specs.Ahead.ReturnsSooner.{sooner_past_withdrawal}
+use Rattle.stamp_watch.specs.AsObserved as observed
+use Rattle.stamp_watch.specs.AsObserved.{ending_of}
+use Rattle.stamp_watch.specs.AsObserved.Ending.{StaysOpen, EndsBy, EndsWithdrawn}
+use Rattle.stamp_watch.specs.Foretold.{open_at, EndsSo, HasEachOpen, ReturnsBefore, ComesAsTold}
+use Rattle.stamp_watch.specs.Form.{is_busy_then, is_busy_after, MayCome}
+use Rattle.stamp_watch.specs.Run.{AreExplained}
+use Rattle.stamp_watch.specs.Run.Survives.{at_end}
+use Rattle.stamp_watch.specs.Verdict.{AreOfLock, IsOfLock, AreTooMany}
+use Rattle.stamp_watch.specs.Watch.{AreKept, IsCopy, IsWatching, IsUntold, IsInForm, IsProgress, IsTaken}
+use Rattle.stamp_watch.specs.Watch.{BeginsTold, ReturnsTold, WithdrawsTold}
+use Rattle.stamp_watch.specs.Judging.{ends_as, IsFollowed, IsJudging}
+use Rattle.stamp_watch.specs.inner.Judging.{IsEndTold, IsStep}
+use Rattle.stamp_watch.proofs.Form.{busy_after_one}
+use Rattle.stamp_watch.proofs.Forming.{next_comes, next_of_lock}
+use Rattle.stamp_watch.proofs.Numbered.{return_ends, return_spares, withdrawal_ends, withdrawal_spares, one_return}
+use Rattle.stamp_watch.proofs.Numbered.{open_or_ended, withdrawn_or_ended, ended_by_return, ended_past_withdrawal}
+use Rattle.stamp_watch.proofs.Numbered.{ending_last}
+use Rattle.stamp_watch.proofs.Tables.{open_at_within, open_at_set_none, open_at_set_here, open_at_set_other}
+
+withdrawn_or_open : EndsWithdrawn ≡ StaysOpen → ⊥
+withdrawn_or_open same = cc
+
+-- the end that an entry tells
+record IsReturnAt (ends : Ending) (r : Returned) : Type 0 where
+  pub told : LockReply
+  pub place : ℕ
+  pub is : ends ≡ Returns told place
+  pub same : reply_as told ≡ r.reply
+  pub here : place ≡ r.last
+
+returns_at : (ends : Ending) (r : Returned) → ends_as ends ≡ EndsBy r → IsReturnAt ends r
+returns_at (Returns told place) r is = record {
+  told = told;
+  place = place;
+  is = refl;
+  same = ap (λ (q : Returned). q.reply) (one_return is);
+  here = ap (λ (q : Returned). q.last) (one_return is);
+}
+returns_at Withdraws r is = absurd (withdrawn_or_ended is)
+returns_at Never r is = absurd (open_or_ended is)
+
+withdraws_so : (ends : Ending) → ends_as ends ≡ EndsWithdrawn → ends ≡ Withdraws
+withdraws_so (Returns told place) is = absurd (withdrawn_or_ended (sym is))
+withdraws_so Withdraws is = refl
+withdraws_so Never is = absurd (withdrawn_or_open (sym is))
+
+ends_past_beginning : (u : ℕ) (ends : Ending) (lane : ℕ) (call : Call) (events : List Event) → EndsSo u ends events →
+    EndsSo u ends (event.Begins lane call ∷ events)
+ends_past_beginning u (Returns told place) lane call events is = past_beginning lane call is
+ends_past_beginning u Withdraws lane call events is = withdrawn_past_beginning lane call is
+ends_past_beginning u Never lane call events is = not_beginning lane call is
+
+ends_past_return : (u : ℕ) (ends : Ending) (lane : ℕ) (reply : Reply) (events : List Event) → lane ≢ u →
+    EndsSo u ends events → EndsSo u ends (event.Returns lane reply ∷ events)
+ends_past_return u (Returns told place) lane reply events apart is = past_return lane reply apart is
+ends_past_return u Withdraws lane reply events apart is = withdrawn_past_return lane reply apart is
+ends_past_return u Never lane reply events apart is = not_returning lane reply apart is
+
+ends_past_withdrawal : (u : ℕ) (ends : Ending) (lane : ℕ) (events : List Event) → lane ≢ u →
+    EndsSo u ends events → EndsSo u ends (event.Withdraws lane ∷ events)
+ends_past_withdrawal u (Returns told place) lane events apart is = past_withdrawal lane apart is
+ends_past_withdrawal u Withdraws lane events apart is = withdrawn_past_withdrawal lane apart is
+ends_past_withdrawal u Never lane events apart is = not_withdrawing lane apart is
+
+ends_here : (lane n : ℕ) (reply : Reply) (events : List Event) (ends : Ending) →
+    ends_as ends ≡ EndsBy (record { last = n; reply = reply }) → EndsSo lane ends (event.Returns lane reply ∷ events)
+ends_here lane n reply events ends is = by (returns_at ends (record { last = n; reply = reply }) is)
+  where
+    by : IsReturnAt ends (record { last = n; reply = reply }) → EndsSo lane ends (event.Returns lane reply ∷ events)
+    by at = subst (λ (e : Ending). EndsSo lane e (event.Returns lane reply ∷ events)) (sym at.is)
+        (subst (λ (r : Reply). Tells lane (reply_as at.told) (event.Returns lane r ∷ events)) at.same tells_next)
+
+withdrawn_here : (lane : ℕ) (events : List Event) (ends : Ending) → ends_as ends ≡ EndsWithdrawn →
+    EndsSo lane ends (event.Withdraws lane ∷ events)
+withdrawn_here lane events ends is = subst (λ (e : Ending). EndsSo lane e (event.Withdraws lane ∷ events))
+    (sym (withdraws_so ends is)) withdrawn_next
+
+-- a call ends as its entry tells
+pub ends_so : (lane n : ℕ) (events : List Event) (ends : Ending) → ends_as ends ≡ ending_of lane n events →
+    EndsSo lane ends events
+ends_so lane n [] (Returns told place) is = absurd (open_or_ended (sym is))
+ends_so lane n [] Withdraws is = absurd (withdrawn_or_open is)
+ends_so lane n [] Never is = never_more
+ends_so lane n (event.Begins other call ∷ events) ends is =
+    ends_past_beginning lane ends other call events (ends_so lane (n + 1) events ends is)
+ends_so lane n (event.Returns other reply ∷ events) ends is =
+    by (λ later. ends_so lane (n + 1) events ends later) (cases_eq other lane)
+  where
+    by : (ends_as ends ≡ ending_of lane (n + 1) events → EndsSo lane ends events) →
+        (other ≡ lane) ⊎ (other ≢ lane) → EndsSo lane ends (event.Returns other reply ∷ events)
+    by later (inl same) = subst (λ (u : ℕ). EndsSo lane ends (event.Returns u reply ∷ events)) (sym same)
+        (ends_here lane n reply events ends (is ∙ return_ends lane other n reply events same))
+    by later (inr apart) = ends_past_return lane ends other reply events apart
+        (later (is ∙ return_spares lane other n reply events apart))
+ends_so lane n (event.Withdraws other ∷ events) ends is =
+    by (λ later. ends_so lane (n + 1) events ends later) (cases_eq other lane)
+  where
+    by : (ends_as ends ≡ ending_of lane (n + 1) events → EndsSo lane ends events) →
+        (other ≡ lane) ⊎ (other ≢ lane) → EndsSo lane ends (event.Withdraws other ∷ events)
+    by later (inl same) = subst (λ (u : ℕ). EndsSo lane ends (event.Withdraws u ∷ events)) (sym same)
+        (withdrawn_here lane events ends (is ∙ withdrawal_ends lane other n events same))
+    by later (inr apart) = ends_past_withdrawal lane ends other events apart
+        (later (is ∙ withdrawal_spares lane other n events apart))
+
+-- calls return in the order of their places
+sooner_so : (lane than n : ℕ) (events : List Event) (a b : Returned) → ending_of lane n events ≡ EndsBy a →
+    ending_of than n events ≡ EndsBy b → a.last < b.last → ReturnsSooner lane than events
+sooner_so lane than n [] a b is also less = absurd (open_or_ended is)
+sooner_so lane than n (event.Begins other call ∷ events) a b is also less =
+    sooner_past_beginning other call (sooner_so lane than (n + 1) events a b is also less)
+sooner_so lane than n (event.Returns other reply ∷ events) a b is also less =
+    by (λ is also. sooner_so lane than (n + 1) events a b is also less)
+    (ended_by_return lane other n reply events a is) (ended_by_return than other n reply events b also)
+  where
+    by : (ending_of lane (n + 1) events ≡ EndsBy a → ending_of than (n + 1) events ≡ EndsBy b →
+        ReturnsSooner lane than events) →
+        ((other ≡ lane) × (a ≡ record { last = n; reply = reply })) ⊎
+        ((other ≢ lane) × (ending_of lane (n + 1) events ≡ EndsBy a)) →
+        ((other ≡ than) × (b ≡ record { last = n; reply = reply })) ⊎
+        ((other ≢ than) × (ending_of than (n + 1) events ≡ EndsBy b)) →
+        ReturnsSooner lane than (event.Returns other reply ∷ events)
+    by later (inl here) _ = subst (λ (u : ℕ). ReturnsSooner lane than (event.Returns u reply ∷ events)) (sym here.0)
+        (sooner_next reply)
+    by later (inr past) (inl here) =
+        let low : n + 1 ≤ a.last = ending_last lane (n + 1) events a past.1 in
+        let at : b.last ≡ n = ap (λ (q : Returned). q.last) here.1 in absurd (omega arith)
+    by later (inr past) (inr beyond) = sooner_past_return other reply past.0 beyond.0 (later past.1 beyond.1)
+sooner_so lane than n (event.Withdraws other ∷ events) a b is also less =
+    by (λ is also. sooner_so lane than (n + 1) events a b is also less)
+    (ended_past_withdrawal lane other n events a is) (ended_past_withdrawal than other n events b also)
+  where
+    by : (ending_of lane (n + 1) events ≡ EndsBy a → ending_of than (n + 1) events ≡ EndsBy b →
+        ReturnsSooner lane than events) →
+        (other ≢ lane) × (ending_of lane (n + 1) events ≡ EndsBy a) →
+        (other ≢ than) × (ending_of than (n + 1) events ≡ EndsBy b) →
+        ReturnsSooner lane than (event.Withdraws other ∷ events)
+    by later past beyond = sooner_past_withdrawal other past.0 beyond.0 (later past.1 beyond.1)
+
+told_return : (ends : Ending) (told : LockReply) (place lane n : ℕ) (events : List Event) → ends ≡ Returns told place →
+    ends_as ends ≡ ending_of lane n events →
+    ending_of lane n events ≡ EndsBy (record { last = place; reply = reply_as told })
+told_return ends told place lane n events returns is = sym is ∙ ap ends_as returns
+
+-- what comes is as it was told
+pub comes : (n : ℕ) (past future : List Event) (watch : Watch) → IsFollowed n past future watch →
+    ComesAsTold watch.table.items watch.last future
+comes n past future watch f = record {
+  ends = λ lane begun is. ends_so lane n future begun.ends (f.told lane begun is);
+  sooner = λ lane than first other is also before. sooner_so lane than n future
+      (record { last = before.place; reply = reply_as before.reply })
+      (record { last = before.later; reply = reply_as before.answer })
+      (told_return first.ends before.reply before.place lane n future before.first_is (f.told lane first is))
+      (told_return other.ends before.answer before.later than n future before.other_is (f.told than other also))
+      before.sooner;
+  due = λ lane begun told place is ends.
+      let low : n ≤ place = ending_last lane n future (record { last = place; reply = reply_as told })
+      (told_return begun.ends told place lane n future ends (f.told lane begun is)) in
+      let last : watch.last ≤ n = f.last in omega (arith, low, last);
+}
+
+-- an open call, where there is one
+record IsOpen (slot : Option OpenCall) : Type 0 where
+  pub begun : OpenCall
+  pub is : slot ≡ Some begun
+
+some_open : (slot : Option OpenCall) → is_some slot ≡ true → IsOpen slot
+some_open None is = absurd (false≢true is)
+some_open (Some begun) is = record { begun = begun; is = refl }
+
+none_open : (slot : Option OpenCall) → is_some slot ≡ false → slot ≡ None
+none_open None is = refl
+none_open (Some begun) is = absurd (false≢true (sym is))
+
+-- the next event may come
+pub in_form : (n : ℕ) (past : List Event) (e : Event) (ahead : List Event) (old : Watch) →
+    IsFollowed n past (e ∷ ahead) old → IsInForm old e
+in_form n past (event.Begins lane call) ahead old f =
+    let may : MayCome (is_busy_after past) (event.Begins lane call) =
+    next_comes past (event.Begins lane call) ahead f.whole in (
+      next_of_lock past (event.Begins lane call) ahead f.whole,
+      none_open (open_at old.table.items lane) (f.agrees lane ∙ may.0),
+      may.1,
+    )
+in_form n past (event.Returns lane reply) ahead old f = by (some_open (open_at old.table.items lane)
+    (f.agrees lane ∙ next_comes past (event.Returns lane reply) ahead f.whole))
+  where
+    told : (o : OpenCall) → open_at old.table.items lane ≡ Some o →
+        IsReturnAt o.ends (record { last = n; reply = reply })
+    told o is = returns_at o.ends (record { last = n; reply = reply })
+        (f.told lane o is ∙ return_ends lane lane n reply ahead refl)
+
+    by : IsOpen (open_at old.table.items lane) → IsInForm old (event.Returns lane reply)
+    by one = record {
+      begun = one.begun;
+      told = (told one.begun one.is).told;
+      place = (told one.begun one.is).place;
+      is_open = one.is;
+      ends = (told one.begun one.is).is;
+      same = (told one.begun one.is).same;
+      due = let at : (told one.begun one.is).place ≡ n = (told one.begun one.is).here in
+          let last : old.last ≤ n = f.last in omega (arith, at, last);
+    }
+in_form n past (event.Withdraws lane) ahead old f = by (some_open (open_at old.table.items lane)
+    (f.agrees lane ∙ next_comes past (event.Withdraws lane) ahead f.whole))
+  where
+    by : IsOpen (open_at old.table.items lane) → IsInForm old (event.Withdraws lane)
+    by one = record {
+      begun = one.begun;
+      is_open = one.is;
+      ends = withdraws_so one.begun.ends
+          (f.told lane one.begun one.is ∙ withdrawal_ends lane lane n ahead refl);
+    }
+
+-- one lane is put, and the others are as they were
+module _ (old new : List (Option OpenCall)) (lane : ℕ) (slot : Option OpenCall) (put : new ≡ slice_set old lane slot)
+    (within : lane < length old) where
+  put_here : (u : ℕ) → u ≡ lane → open_at new u ≡ slot
+  put_here u same = ap (λ (v : ℕ). open_at new v) same ∙ ap (λ (t : List (Option OpenCall)). open_at t lane) put ∙
+      open_at_set_here old lane slot within
+
+  put_other : (u : ℕ) → u ≢ lane → open_at new u ≡ open_at old u
+  put_other u apart = ap (λ (t : List (Option OpenCall)). open_at t u) put ∙ open_at_set_other old lane u slot apart
+
+-- the run once one event more is past
+whole_on : (past : List Event) (e : Event) (ahead : List Event) → AreOfLock (past ++ e ∷ ahead) →
+    AreOfLock (past ++ e ∷ [] ++ ahead)
+whole_on past e ahead whole = subst AreOfLock (sym (append_assoc past (e ∷ []) ahead)) whole
+
+pub followed_begins : (n : ℕ) (past ahead : List Event) (lane : ℕ) (call : Call) (ends : Ending) (old new : Watch) →
+    length old.table.items ≡ 64 → ends_as ends ≡ ending_of lane (n + 1) ahead → BeginsTold old new lane call ends →
+    IsFollowed n past (event.Begins lane call ∷ ahead) old →
+    IsFollowed (n + 1) (past ++ event.Begins lane call ∷ []) ahead new
+followed_begins n past ahead lane call ends old new long is told f = record {
+  whole = whole_on past (event.Begins lane call) ahead f.whole;
+  agrees = λ u. agrees u (cases_eq u lane) ∙ sym (busy_after_one u false past (event.Begins lane call));
+  told = λ u o opened. ends_there u o opened (cases_eq u lane);
+  last = let same : new.last ≡ old.last = told.last in let last : old.last ≤ n = f.last in omega (arith, same, last);
+}
+  where
+    within : lane < length old.table.items
+    within = let below : lane < 64 = next_of_lock past (event.Begins lane call) ahead f.whole in
+        omega (arith, below, long)
+
+    agrees : (u : ℕ) → (u ≡ lane) ⊎ (u ≢ lane) →
+        is_some (open_at new.table.items u) ≡ is_busy_then u (is_busy_after past u) (event.Begins lane call)
+    agrees u (inl same) = ap is_some (put_here old.table.items new.table.items lane (Some told.begun) told.table within
+        u same) ∙ sym (ap (λ (b : Bool). b || is_busy_after past u) (eq-eqb lane u (sym same)))
+    agrees u (inr apart) = ap is_some (put_other old.table.items new.table.items lane (Some told.begun) told.table
+        within u apart) ∙ f.agrees u ∙
+        sym (ap (λ (b : Bool). b || is_busy_after past u) (ne_eqb lane u (λ e. apart (sym e))))
+
+    ends_there : (u : ℕ) (o : OpenCall) → open_at new.table.items u ≡ Some o → (u ≡ lane) ⊎ (u ≢ lane) →
+        ends_as o.ends ≡ ending_of u (n + 1) ahead
+    ends_there u o opened (inl same) =
+        ap (λ (x : OpenCall). ends_as x.ends) (same_Some o told.begun (sym opened ∙
+        put_here old.table.items new.table.items lane (Some told.begun) told.table within u same)) ∙
+        ap ends_as told.told ∙ is ∙ ap (λ (v : ℕ). ending_of v (n + 1) ahead) (sym same)
+    ends_there u o opened (inr apart) = f.told u o (sym (put_other old.table.items new.table.items lane
+        (Some told.begun) told.table within u apart) ∙ opened)
+
+-- a call ends
+module _ (n : ℕ) (past ahead : List Event) (lane : ℕ) (e : Event) (old new : Watch)
+    (long : length old.table.items ≡ 64) (put : new.table.items ≡ slice_set old.table.items lane None)
+    (below : lane < 64)
+    (frees : (u : ℕ) (busy : Bool) → is_busy_then u busy e ≡ (not (lane == u) && busy))
+    (spares : (u : ℕ) → u ≢ lane → ending_of u n (e ∷ ahead) ≡ ending_of u (n + 1) ahead)
+    (f : IsFollowed n past (e ∷ ahead) old) where
+  within_ended : lane < length old.table.items
+  within_ended = omega (arith, below, long)
+
+  agrees_ended : (u : ℕ) → (u ≡ lane) ⊎ (u ≢ lane) →
+      is_some (open_at new.table.items u) ≡ is_busy_then u (is_busy_after past u) e
+  agrees_ended u (inl same) =
+      ap is_some (put_here old.table.items new.table.items lane None put within_ended u same) ∙
+      sym (frees u (is_busy_after past u) ∙
+      ap (λ (b : Bool). not b && is_busy_after past u) (eq-eqb lane u (sym same)))
+  agrees_ended u (inr apart) =
+      ap is_some (put_other old.table.items new.table.items lane None put within_ended u apart) ∙ f.agrees u ∙
+      sym (frees u (is_busy_after past u) ∙
+      ap (λ (b : Bool). not b && is_busy_after past u) (ne_eqb lane u (λ e. apart (sym e))))
+
+  told_ended : (u : ℕ) (o : OpenCall) → open_at new.table.items u ≡ Some o → (u ≡ lane) ⊎ (u ≢ lane) →
+      ends_as o.ends ≡ ending_of u (n + 1) ahead
+  told_ended u o opened (inl same) = absurd (none-some o
+      (sym (put_here old.table.items new.table.items lane None put within_ended u same) ∙ opened))
+  told_ended u o opened (inr apart) =
+      f.told u o (sym (put_other old.table.items new.table.items lane None put within_ended u apart) ∙ opened) ∙
+      spares u apart
+
+  followed_ended : new.last ≤ n + 1 → IsFollowed (n + 1) (past ++ e ∷ []) ahead new
+  followed_ended low = record {
+    whole = whole_on past e ahead f.whole;
+    agrees = λ u. agrees_ended u (cases_eq u lane) ∙ sym (busy_after_one u false past e);
+    told = λ u o opened. told_ended u o opened (cases_eq u lane);
+    last = low;
+  }
+
+pub followed_returns : (n : ℕ) (past ahead : List Event) (lane : ℕ) (reply : Reply) (old new : Watch) →
+    length old.table.items ≡ 64 → ReturnsTold old new lane reply →
+    IsFollowed n past (event.Returns lane reply ∷ ahead) old →
+    IsFollowed (n + 1) (past ++ event.Returns lane reply ∷ []) ahead new
+followed_returns n past ahead lane reply old new long told f =
+    followed_ended n past ahead lane (event.Returns lane reply) old new long told.table
+    (next_of_lock past (event.Returns lane reply) ahead f.whole).0 (λ u busy. refl)
+    (λ u apart. return_spares u lane n reply ahead (λ e. apart (sym e))) f
+    (let same : new.last ≡ told.was.place = told.last in omega (arith, same, at))
+  where
+    at : told.was.place ≡ n
+    at = ap (λ (q : Returned). q.last) (one_return (sym (told_return told.was.begun.ends told.was.told told.was.place lane
+        n (event.Returns lane reply ∷ ahead) told.was.ends (f.told lane told.was.begun told.was.is_open)) ∙
+        return_ends lane lane n reply ahead refl))
+
+pub followed_withdraws : (n : ℕ) (past ahead : List Event) (lane : ℕ) (old new : Watch) →
+    length old.table.items ≡ 64 → WithdrawsTold old new lane →
+    IsFollowed n past (event.Withdraws lane ∷ ahead) old →
+    IsFollowed (n + 1) (past ++ event.Withdraws lane ∷ []) ahead new
+followed_withdraws n past ahead lane old new long told f =
+    followed_ended n past ahead lane (event.Withdraws lane) old new long told.table
+    (next_of_lock past (event.Withdraws lane) ahead f.whole) (λ u busy. refl)
+    (λ u apart. withdrawal_spares u lane n ahead (λ e. apart (sym e))) f
+    (let same : new.last ≡ old.last = told.last in let last : old.last ≤ n = f.last in omega (arith, same, last))
+
+-- one event on
+pub stepped : (limits : Bounds) (n : ℕ) (past : List Event) (e : Event) (ahead : List Event) (most : ℕ)
+    (old new : Watch) (progress : Progress) → IsProgress past e most old new progress →
+    (IsTaken progress → new.limits ≡ old.limits) → (IsTaken progress → IsFollowed (n + 1) (past ++ e ∷ []) ahead new) →
+    IsJudging limits n past (e ∷ ahead) old → IsStep limits n past e ahead most new progress
+stepped limits n past e ahead most old new Going is same follows judging = record {
+  limits_are = same tt ∙ judging.limits_are;
+  watching = is.0;
+  explained = subst (λ (l : Bounds). AreExplained l (past ++ e ∷ [])) (same tt ∙ judging.limits_are) is.1;
+  followed = follows tt;
+}
+stepped limits n past e ahead most old new Dead is same follows judging =
+    λ explained. is.1.none ahead (comes (n + 1) (past ++ e ∷ []) ahead new (follows tt))
+    (subst (λ (l : Bounds). AreExplained l (past ++ e ∷ [] ++ ahead)) (sym (same tt ∙ judging.limits_are))
+    (subst (AreExplained limits) (sym (append_assoc past (e ∷ []) ahead)) explained))
+stepped limits n past e ahead most old new TooMany is same follows judging = record {
+  watch = old;
+  limits_are = judging.limits_are;
+  watching = judging.watching;
+  more = is.0;
+}
+stepped limits n past e ahead most old new Refused is same follows judging =
+    is.0 (in_form n past e ahead old judging.followed)
+
+-- before any event
+pub judging_first : (limits : Bounds) (events : List Event) (watch : Watch) → IsWatching [] watch →
+    IsUntold watch limits → AreOfLock events → IsJudging limits 0 [] events watch
+judging_first limits events watch watching untold whole = record {
+  limits_are = untold.limits_are;
+  watching = watching;
+  explained = at_end;
+  followed = record {
+    whole = whole;
+    agrees = λ lane. ap is_some (untold.idle lane);
+    told = λ lane o is. absurd (none-some o (sym (untold.idle lane) ∙ is));
+    last = let none : watch.last ≡ 0 = untold.last in omega (arith, none);
+  };
+}
+
+-- the same by what the code reads
+table_long : {limits : Bounds} {n : ℕ} {past future : List Event} {watch : Watch} →
+    IsJudging limits n past future watch → length watch.table.items ≡ 64
+table_long judging = judging.watching.kept.lanes
+
+pub step_begins : (limits : Bounds) (n : ℕ) (past : List Event) (e : Event) (ahead : List Event) (most lane : ℕ)
+    (call : Call) (ends : Ending) (old new : Watch) (progress : Progress) → e ≡ event.Begins lane call →
+    IsEndTold e (n + 1) ahead ends → IsProgress past (event.Begins lane call) most old new progress →
+    (IsTaken progress → BeginsTold old new lane call ends) → IsJudging limits n past (e ∷ ahead) old →
+    IsStep limits n past e ahead most new progress
+step_begins limits n past e ahead most lane call ends old new progress same is answer told judging =
+    subst (λ (x : Event). IsStep limits n past x ahead most new progress) (sym same)
+    (by (subst (λ (x : Event). IsEndTold x (n + 1) ahead ends) same is)
+    (subst (λ (x : Event). IsJudging limits n past (x ∷ ahead) old) same judging))
+  where
+    by : ends_as ends ≡ ending_of lane (n + 1) ahead → IsJudging limits n past (event.Begins lane call ∷ ahead) old →
+        IsStep limits n past (event.Begins lane call) ahead most new progress
+    by ends_so on = stepped limits n past (event.Begins lane call) ahead most old new progress answer
+        (λ taken. (told taken).limits)
+        (λ taken. followed_begins n past ahead lane call ends old new (table_long on) ends_so (told taken) on.followed)
+        on
+
+pub step_returns : (limits : Bounds) (n : ℕ) (past : List Event) (e : Event) (ahead : List Event) (most lane : ℕ)
+    (reply : Reply) (old new : Watch) (progress : Progress) → e ≡ event.Returns lane reply →
+    IsProgress past (event.Returns lane reply) most old new progress →
+    (IsTaken progress → ReturnsTold old new lane reply) → IsJudging limits n past (e ∷ ahead) old →
+    IsStep limits n past e ahead most new progress
+step_returns limits n past e ahead most lane reply old new progress same answer told judging =
+    subst (λ (x : Event). IsStep limits n past x ahead most new progress) (sym same)
+    (by (subst (λ (x : Event). IsJudging limits n past (x ∷ ahead) old) same judging))
+  where
+    by : IsJudging limits n past (event.Returns lane reply ∷ ahead) old →
+        IsStep limits n past (event.Returns lane reply) ahead most new progress
+    by on = stepped limits n past (event.Returns lane reply) ahead most old new progress answer
+        (λ taken. (told taken).limits)
+        (λ taken. followed_returns n past ahead lane reply old new (table_long on) (told taken) on.followed) on
+
+pub step_withdraws : (limits : Bounds) (n : ℕ) (past : List Event) (e : Event) (ahead : List Event) (most lane : ℕ)
+    (old new : Watch) (progress : Progress) → e ≡ event.Withdraws lane →
+    IsProgress past (event.Withdraws lane) most old new progress →
+    (IsTaken progress → WithdrawsTold old new lane) → IsJudging limits n past (e ∷ ahead) old →
+    IsStep limits n past e ahead most new progress
+step_withdraws limits n past e ahead most lane old new progress same answer told judging =
+    subst (λ (x : Event). IsStep limits n past x ahead most new progress) (sym same)
+    (by (subst (λ (x : Event). IsJudging limits n past (x ∷ ahead) old) same judging))
+  where
+    by : IsJudging limits n past (event.Withdraws lane ∷ ahead) old →
+        IsStep limits n past (event.Withdraws lane) ahead most new progress
+    by on = stepped limits n past (event.Withdraws lane) ahead most old new progress answer
+        (λ taken. (told taken).limits)
+        (λ taken. followed_withdraws n past ahead lane old new (table_long on) (told taken) on.followed) on
+
+-- a copy judges as well
+pub judging_copied : (limits : Bounds) (n : ℕ) (past future : List Event) (watch copy : Watch) → IsCopy watch copy →
+    IsJudging limits n past future watch → IsJudging limits n past future copy
+judging_copied limits n past future watch copy same judging = record {
+  limits_are = same.limits ∙ judging.limits_are;
+  watching = record {
+    kept = subst (λ (l : Bounds). AreKept l past copy.table.items copy.last copy.positions.items) (sym same.limits)
+        (subst (λ (t : List (Option OpenCall)). AreKept watch.limits past t copy.last copy.positions.items)
+        (sym same.table)
+        (subst (λ (m : ℕ). AreKept watch.limits past watch.table.items m copy.positions.items) (sym same.last)
+        (subst (λ (xs : List Position). AreKept watch.limits past watch.table.items watch.last xs)
+        (sym same.positions) judging.watching.kept)));
+    busy = subst (λ (t : List (Option OpenCall)). HasEachOpen t copy.busy) (sym same.table)
+        (subst (λ (m : ℕ). HasEachOpen watch.table.items m) (sym same.busy) judging.watching.busy);
+  };
+  explained = judging.explained;
+  followed = record {
+    whole = judging.followed.whole;
+    agrees = λ lane. ap (λ (t : List (Option OpenCall)). is_some (open_at t lane)) same.table ∙
+        judging.followed.agrees lane;
+    told = λ lane begun is. judging.followed.told lane begun
+        (sym (ap (λ (t : List (Option OpenCall)). open_at t lane) same.table) ∙ is);
+    last = subst (λ (m : ℕ). m ≤ n) (sym same.last) judging.followed.last;
+  };
+}

@@ -1,0 +1,260 @@
+-- The events of a run, numbered, and the entries of its calls.
+use Rattle.std.proofs.Common.{◌≡◌, ◌≢◌, ◌⊎◌, ℕ, suc, zero, ◌+◌, ◌<◌, ◌≤◌, ◌==◌, Bool, List, [], ◌∷◌, refl, sym, ◌∙◌}
+use Rattle.std.proofs.Common.{ap, subst, inl, inr, arith, eq-eqb, ne_eqb, Some, None}
+use Rattle.std.specs.Prelude.{slice_get, if◌then◌else◌}
+use Rattle.std.specs.List.{Contains}
+use Rattle.std.proofs.lemmas.Bool.{cases_eq}
+use Rattle.std.proofs.lemmas.Option.{slice_get_within, get_or_from_slice_get, same_Some, none-some}
+use Rattle.stamp_core.specs.declared.call.Call.{Call}
+use Rattle.stamp_core.specs.declared.reply.Reply.{Reply}
+use Rattle.stamp_explain.specs.declared.observed.Observation.{Observation}
+use Rattle.stamp_explain.specs.declared.observed.Returned.{Returned}
+use Rattle.stamp_explain.specs.Observed.{AllowsReply}
+use Rattle.stamp_explain.proofs.Lists.{none_in_empty, contains_cases, contains_first, contains_rest}
+use Rattle.stamp_watch.specs.declared.event.Event.{Event}
+use Rattle.stamp_watch.specs.declared.event.Event.TheVariants.{Begins, Returns, Withdraws}
+use Rattle.stamp_watch.specs.AsObserved.{Ending, ending_of, with_entry, entries_from}
+use Rattle.stamp_watch.specs.AsObserved.Ending.{StaysOpen, EndsBy, EndsWithdrawn}
+
+-- what a test of two numbers chooses
+if_same : (a b : ℕ) (x y : Ending) → a ≡ b → (if a == b then x else y) ≡ x
+if_same a b x y same = ap (λ (t : Bool). if t then x else y) (eq-eqb a b same)
+
+if_other : (a b : ℕ) (x y : Ending) → a ≢ b → (if a == b then x else y) ≡ y
+if_other a b x y apart = ap (λ (t : Bool). if t then x else y) (ne_eqb a b apart)
+
+-- how a return and a withdrawal end the calls of lanes
+pub return_ends : (lane other n : ℕ) (reply : Reply) (events : List Event) → other ≡ lane →
+    ending_of lane n (Returns other reply ∷ events) ≡ EndsBy (record { last = n; reply = reply })
+return_ends lane other n reply events same = if_same other lane (EndsBy (record { last = n; reply = reply }))
+    (ending_of lane (n + 1) events) same
+
+pub return_spares : (lane other n : ℕ) (reply : Reply) (events : List Event) → other ≢ lane →
+    ending_of lane n (Returns other reply ∷ events) ≡ ending_of lane (n + 1) events
+return_spares lane other n reply events apart = if_other other lane (EndsBy (record { last = n; reply = reply }))
+    (ending_of lane (n + 1) events) apart
+
+pub withdrawal_ends : (lane other n : ℕ) (events : List Event) → other ≡ lane →
+    ending_of lane n (Withdraws other ∷ events) ≡ EndsWithdrawn
+withdrawal_ends lane other n events same = if_same other lane EndsWithdrawn (ending_of lane (n + 1) events) same
+
+pub withdrawal_spares : (lane other n : ℕ) (events : List Event) → other ≢ lane →
+    ending_of lane n (Withdraws other ∷ events) ≡ ending_of lane (n + 1) events
+withdrawal_spares lane other n events apart = if_other other lane EndsWithdrawn (ending_of lane (n + 1) events) apart
+
+pub one_return : {q r : Returned} → EndsBy q ≡ EndsBy r → q ≡ r
+one_return same = cc
+
+pub open_or_ended : {r : Returned} → StaysOpen ≡ EndsBy r → ⊥
+open_or_ended same = cc
+
+pub withdrawn_or_ended : {r : Returned} → EndsWithdrawn ≡ EndsBy r → ⊥
+withdrawn_or_ended same = cc
+
+-- a return among the events that ends the call is the next event, or later
+pub ended_by_return : (lane other n : ℕ) (reply : Reply) (events : List Event) (r : Returned) →
+    ending_of lane n (Returns other reply ∷ events) ≡ EndsBy r →
+    ((other ≡ lane) × (r ≡ record { last = n; reply = reply })) ⊎
+    ((other ≢ lane) × (ending_of lane (n + 1) events ≡ EndsBy r))
+ended_by_return lane other n reply events r ends = by (cases_eq other lane)
+  where
+    by : (other ≡ lane) ⊎ (other ≢ lane) → ((other ≡ lane) × (r ≡ record { last = n; reply = reply })) ⊎
+        ((other ≢ lane) × (ending_of lane (n + 1) events ≡ EndsBy r))
+    by (inl same) = inl (same, one_return (sym ends ∙ return_ends lane other n reply events same))
+    by (inr apart) = inr (apart, sym (return_spares lane other n reply events apart) ∙ ends)
+
+pub ended_past_withdrawal : (lane other n : ℕ) (events : List Event) (r : Returned) →
+    ending_of lane n (Withdraws other ∷ events) ≡ EndsBy r →
+    (other ≢ lane) × (ending_of lane (n + 1) events ≡ EndsBy r)
+ended_past_withdrawal lane other n events r ends = by (cases_eq other lane)
+  where
+    by : (other ≡ lane) ⊎ (other ≢ lane) → (other ≢ lane) × (ending_of lane (n + 1) events ≡ EndsBy r)
+    by (inl same) = absurd (withdrawn_or_ended (sym (withdrawal_ends lane other n events same) ∙ ends))
+    by (inr apart) = (apart, sym (withdrawal_spares lane other n events apart) ∙ ends)
+
+-- events have the numbers from this one on
+pub ending_last : (lane n : ℕ) (events : List Event) (r : Returned) → ending_of lane n events ≡ EndsBy r → n ≤ r.last
+ending_last lane n [] r ends = absurd (open_or_ended ends)
+ending_last lane n (Begins other call ∷ events) r ends = let later = ending_last lane (n + 1) events r ends in
+    omega arith
+ending_last lane n (Returns other reply ∷ events) r ends = by (ended_by_return lane other n reply events r ends)
+    (λ more. ending_last lane (n + 1) events r more)
+  where
+    by : ((other ≡ lane) × (r ≡ record { last = n; reply = reply })) ⊎
+        ((other ≢ lane) × (ending_of lane (n + 1) events ≡ EndsBy r)) →
+        (ending_of lane (n + 1) events ≡ EndsBy r → n + 1 ≤ r.last) → n ≤ r.last
+    by (inl here) _ = let same : r.last ≡ n = ap (λ (q : Returned). q.last) here.1 in omega arith
+    by (inr past) later = let low = later past.1 in omega arith
+ending_last lane n (Withdraws other ∷ events) r ends =
+    let later = ending_last lane (n + 1) events r (ended_past_withdrawal lane other n events r ends).1 in omega arith
+
+-- the entry of a call that ends so; one that is withdrawn has none
+abbrev pub IsEntryOf : ℕ → Call → ℕ → Ending → Observation → Type 0
+IsEntryOf lane call first StaysOpen e = e ≡ record { thread = lane; call = call; first = first; returned = None }
+IsEntryOf lane call first (EndsBy r) e = e ≡ record { thread = lane; call = call; first = first; returned = Some r }
+IsEntryOf lane call first EndsWithdrawn e = ⊥
+
+-- what an entry tells of its call
+pub record AreOfEntry (lane : ℕ) (call : Call) (first : ℕ) (e : Observation) : Type 0 where
+  pub its_lane : e.thread ≡ lane
+  pub its_call : e.call ≡ call
+  pub its_first : e.first ≡ first
+
+pub entry_tells : (lane : ℕ) (call : Call) (first : ℕ) (ending : Ending) (e : Observation) →
+    IsEntryOf lane call first ending e → AreOfEntry lane call first e
+entry_tells lane call first StaysOpen e is = record {
+  its_lane = ap (λ (o : Observation). o.thread) is;
+  its_call = ap (λ (o : Observation). o.call) is;
+  its_first = ap (λ (o : Observation). o.first) is;
+}
+entry_tells lane call first (EndsBy r) e is = record {
+  its_lane = ap (λ (o : Observation). o.thread) is;
+  its_call = ap (λ (o : Observation). o.call) is;
+  its_first = ap (λ (o : Observation). o.first) is;
+}
+entry_tells lane call first EndsWithdrawn e is = absurd is
+
+pub entry_returned : (lane : ℕ) (call : Call) (first : ℕ) (ending : Ending) (e : Observation) (r : Returned) →
+    IsEntryOf lane call first ending e → e.returned ≡ Some r → ending ≡ EndsBy r
+entry_returned lane call first StaysOpen e r is back =
+    absurd (none-some r (sym (ap (λ (o : Observation). o.returned) is) ∙ back))
+entry_returned lane call first (EndsBy q) e r is back =
+    ap EndsBy (same_Some q r (sym (ap (λ (o : Observation). o.returned) is) ∙ back))
+entry_returned lane call first EndsWithdrawn e r is back = absurd is
+
+pub one_entry : (lane : ℕ) (call : Call) (first : ℕ) (ending : Ending) (e f : Observation) →
+    IsEntryOf lane call first ending e → IsEntryOf lane call first ending f → e ≡ f
+one_entry lane call first StaysOpen e f is other = is ∙ sym other
+one_entry lane call first (EndsBy r) e f is other = is ∙ sym other
+one_entry lane call first EndsWithdrawn e f is other = absurd is
+
+-- the call may have this reply by how it ends
+abbrev pub IsReplyOf : Reply → Ending → Type 0
+IsReplyOf reply StaysOpen = Unit {0}
+IsReplyOf reply (EndsBy r) = r.reply ≡ reply
+IsReplyOf reply EndsWithdrawn = ⊥
+
+pub entry_replies : (lane : ℕ) (call : Call) (first : ℕ) (ending : Ending) (e : Observation) (reply : Reply) →
+    IsEntryOf lane call first ending e → AllowsReply e reply → IsReplyOf reply ending
+entry_replies lane call first StaysOpen e reply is allows = tt
+entry_replies lane call first (EndsBy r) e reply is allows =
+    subst (λ (o : Observation). AllowsReply o reply) is allows
+entry_replies lane call first EndsWithdrawn e reply is allows = absurd is
+
+-- a call that may have a reply has an entry, with this reply
+pub record HasEntry (lane : ℕ) (call : Call) (first : ℕ) (ending : Ending) (reply : Reply) : Type 0 where
+  pub entry : Observation
+  pub is : IsEntryOf lane call first ending entry
+  pub allows : AllowsReply entry reply
+
+pub entry_of_reply : (lane : ℕ) (call : Call) (first : ℕ) (ending : Ending) (reply : Reply) →
+    IsReplyOf reply ending → HasEntry lane call first ending reply
+entry_of_reply lane call first StaysOpen reply replies = record {
+  entry = record { thread = lane; call = call; first = first; returned = None };
+  is = refl;
+  allows = tt;
+}
+entry_of_reply lane call first (EndsBy r) reply replies = record {
+  entry = record { thread = lane; call = call; first = first; returned = Some r };
+  is = refl;
+  allows = replies;
+}
+entry_of_reply lane call first EndsWithdrawn reply replies = absurd replies
+
+-- the entries with one more
+pub in_with_entry : (lane : ℕ) (call : Call) (n : ℕ) (ending : Ending) (entries : List Observation)
+    (e : Observation) → Contains (with_entry lane call n ending entries) e →
+    IsEntryOf lane call n ending e ⊎ Contains entries e
+in_with_entry lane call n StaysOpen entries e has = by (contains_cases
+    (record { thread = lane; call = call; first = n; returned = None }) entries e has)
+  where
+    by : (record { thread = lane; call = call; first = n; returned = None } ≡ e) ⊎ Contains entries e →
+        (e ≡ record { thread = lane; call = call; first = n; returned = None }) ⊎ Contains entries e
+    by (inl is) = inl (sym is)
+    by (inr later) = inr later
+in_with_entry lane call n (EndsBy r) entries e has = by (contains_cases
+    (record { thread = lane; call = call; first = n; returned = Some r }) entries e has)
+  where
+    by : (record { thread = lane; call = call; first = n; returned = Some r } ≡ e) ⊎ Contains entries e →
+        (e ≡ record { thread = lane; call = call; first = n; returned = Some r }) ⊎ Contains entries e
+    by (inl is) = inl (sym is)
+    by (inr later) = inr later
+in_with_entry lane call n EndsWithdrawn entries e has = inr has
+
+pub with_entry_has : (lane : ℕ) (call : Call) (n : ℕ) (ending : Ending) (entries : List Observation)
+    (e : Observation) → IsEntryOf lane call n ending e ⊎ Contains entries e →
+    Contains (with_entry lane call n ending entries) e
+with_entry_has lane call n StaysOpen entries e (inl is) =
+    contains_first (record { thread = lane; call = call; first = n; returned = None }) entries e (sym is)
+with_entry_has lane call n StaysOpen entries e (inr has) =
+    contains_rest (record { thread = lane; call = call; first = n; returned = None }) entries e has
+with_entry_has lane call n (EndsBy r) entries e (inl is) =
+    contains_first (record { thread = lane; call = call; first = n; returned = Some r }) entries e (sym is)
+with_entry_has lane call n (EndsBy r) entries e (inr has) =
+    contains_rest (record { thread = lane; call = call; first = n; returned = Some r }) entries e has
+with_entry_has lane call n EndsWithdrawn entries e (inl is) = absurd is
+with_entry_has lane call n EndsWithdrawn entries e (inr has) = has
+
+pub first_from : (n : ℕ) (events : List Event) (e : Observation) → Contains (entries_from n events) e → n ≤ e.first
+first_from n [] e has = absurd (none_in_empty e has)
+first_from n (Begins lane call ∷ events) e has = by (in_with_entry lane call n (ending_of lane (n + 1) events)
+    (entries_from (n + 1) events) e has) (λ later. first_from (n + 1) events e later)
+  where
+    by : IsEntryOf lane call n (ending_of lane (n + 1) events) e ⊎ Contains (entries_from (n + 1) events) e →
+        (Contains (entries_from (n + 1) events) e → n + 1 ≤ e.first) → n ≤ e.first
+    by (inl is) _ = let at = (entry_tells lane call n (ending_of lane (n + 1) events) e is).its_first in omega arith
+    by (inr has) later = let low = later has in omega arith
+first_from n (Returns lane reply ∷ events) e has = let low = first_from (n + 1) events e has in omega arith
+first_from n (Withdraws lane ∷ events) e has = let low = first_from (n + 1) events e has in omega arith
+
+-- a call returns behind its beginning
+pub last_from : (n : ℕ) (events : List Event) (e : Observation) (r : Returned) → Contains (entries_from n events) e →
+    e.returned ≡ Some r → n < r.last
+last_from n [] e r has back = absurd (none_in_empty e has)
+last_from n (Begins lane call ∷ events) e r has back = by (in_with_entry lane call n (ending_of lane (n + 1) events)
+    (entries_from (n + 1) events) e has) (λ later. last_from (n + 1) events e r later back)
+  where
+    by : IsEntryOf lane call n (ending_of lane (n + 1) events) e ⊎ Contains (entries_from (n + 1) events) e →
+        (Contains (entries_from (n + 1) events) e → n + 1 < r.last) → n < r.last
+    by (inl is) _ = let low = ending_last lane (n + 1) events r
+        (entry_returned lane call n (ending_of lane (n + 1) events) e r is back) in omega arith
+    by (inr has) later = let low = later has in omega arith
+last_from n (Returns lane reply ∷ events) e r has back = let low = last_from (n + 1) events e r has back in omega arith
+last_from n (Withdraws lane ∷ events) e r has back = let low = last_from (n + 1) events e r has back in omega arith
+
+pub contains_at : (entries : List Observation) (i : ℕ) (e : Observation) → slice_get entries i ≡ Some e →
+    Contains entries e
+contains_at entries i e at = (i, slice_get_within entries i e at, get_or_from_slice_get entries i e e at)
+
+-- no two entries begin at one position
+abbrev pub HaveOwnFirsts : List Observation → Type 0
+HaveOwnFirsts entries = (i j : ℕ) (e f : Observation) → slice_get entries i ≡ Some e → slice_get entries j ≡ Some f →
+    e.first ≡ f.first → i ≡ j
+
+own_firsts_more : (x : Observation) (entries : List Observation) →
+    ((e : Observation) → Contains entries e → x.first < e.first) → HaveOwnFirsts entries → HaveOwnFirsts (x ∷ entries)
+own_firsts_more x entries above own zero zero e f at_e at_f same = refl
+own_firsts_more x entries above own zero (suc j) e f at_e at_f same =
+    let less = above f (contains_at entries j f at_f) in
+    let is : x.first ≡ e.first = ap (λ (o : Observation). o.first) (same_Some x e at_e) in absurd (omega arith)
+own_firsts_more x entries above own (suc i) zero e f at_e at_f same =
+    let less = above e (contains_at entries i e at_e) in
+    let is : x.first ≡ f.first = ap (λ (o : Observation). o.first) (same_Some x f at_f) in absurd (omega arith)
+own_firsts_more x entries above own (suc i) (suc j) e f at_e at_f same = ap suc (own i j e f at_e at_f same)
+
+own_firsts_with : (lane : ℕ) (call : Call) (n : ℕ) (ending : Ending) (entries : List Observation) →
+    ((e : Observation) → Contains entries e → n < e.first) → HaveOwnFirsts entries →
+    HaveOwnFirsts (with_entry lane call n ending entries)
+own_firsts_with lane call n StaysOpen entries above own = own_firsts_more
+    (record { thread = lane; call = call; first = n; returned = None }) entries above own
+own_firsts_with lane call n (EndsBy r) entries above own = own_firsts_more
+    (record { thread = lane; call = call; first = n; returned = Some r }) entries above own
+own_firsts_with lane call n EndsWithdrawn entries above own = own
+
+pub own_firsts : (n : ℕ) (events : List Event) → HaveOwnFirsts (entries_from n events)
+own_firsts n [] = λ i j e f at_e at_f same. absurd (none-some e at_e)
+own_firsts n (Begins lane call ∷ events) = own_firsts_with lane call n (ending_of lane (n + 1) events)
+    (entries_from (n + 1) events) (λ e has. let low = first_from (n + 1) events e has in omega arith)
+    (own_firsts (n + 1) events)
+own_firsts n (Returns lane reply ∷ events) = own_firsts (n + 1) events
+own_firsts n (Withdraws lane ∷ events) = own_firsts (n + 1) events

@@ -1,0 +1,424 @@
+-- A run that is judged while it goes on.
+use Rattle.std.proofs.Common.{ℕ, ◌≡◌, ◌≢◌, ◌⊎◌, ◌+◌, ◌-◌, ◌<◌, ◌≤◌, Bool, true, false, List, [], ◌∷◌, ◌++◌, length}
+use Rattle.std.proofs.Common.{get_or, Option, Some, None, refl, sym, ◌∙◌, ap, subst, inl, inr, arith, append_assoc}
+use Rattle.std.proofs.Common.{append-nil, add-zero, add_assoc, eq-eqb, ne_eqb}
+use Rattle.std.specs.Prelude.{take, drop, not, ◌&&◌, ◌||◌}
+use Rattle.std.specs.Option.{is_some}
+use Rattle.std.proofs.lemmas.Bool.{cases_eq, false≢true}
+use Rattle.std.proofs.lemmas.List.{take-append-drop, take-append-le, drop-append-le, length-append, length-drop}
+use Rattle.std.proofs.Math.Seq.{take-add, take-append_seam}
+use Rattle.stamp_core.specs.Limits.{Bounds}
+use Rattle.stamp_core.specs.declared.call.Call.{Call}
+use Rattle.stamp_core.specs.declared.reply.Reply.{Reply}
+use Rattle.stamp_watch.specs.declared.event.Event.{Event}
+use Rattle.stamp_watch.specs.declared.event.Event.TheVariants.{Begins, Returns, Withdraws}
+use Rattle.stamp_watch.specs.declared.ending.Ending.{Ending}
+use Rattle.stamp_watch.specs.declared.ending.Ending.TheVariants as ending
+use Rattle.stamp_watch.specs.declared.open_call.OpenCall.{OpenCall}
+use Rattle.stamp_watch.specs.declared.progress.Progress.{Progress}
+use Rattle.stamp_watch.specs.declared.progress.Progress.TheVariants as progress
+use Rattle.stamp_watch.specs.declared.watch.Watch.{Watch}
+use Rattle.stamp_watch.specs.AsObserved.{ending_of}
+use Rattle.stamp_watch.specs.AsObserved.Ending.{StaysOpen}
+use Rattle.stamp_watch.specs.Foretold.{open_at}
+use Rattle.stamp_watch.specs.Form.{is_busy_then, is_busy_after}
+use Rattle.stamp_watch.specs.Run.{AreExplained}
+use Rattle.stamp_watch.specs.Verdict.{AreOfLock, AreTooMany, IsVerdict}
+use Rattle.stamp_watch.specs.Judging.{ends_as, IsFound, IsJudging}
+use Rattle.stamp_watch.specs.inner.Judging.{IsBase, IsEndTold, IsOutcome, IsStep}
+use Rattle.stamp_watch.specs.Judging.{AreBusyLanes}
+use Rattle.stamp_watch.specs.inner.Judging.{IsStuckBehind, IsStuckFrom, MayComeIn}
+use Rattle.stamp_watch.specs.Course.{AreEnded, IsRunOn, IsStanding}
+use Rattle.stamp_watch.specs.inner.Course.{IsKnown, IsRest, broken_off}
+use Rattle.stamp_watch.specs.declared.judge.Outcome.TheVariants as judged
+use Rattle.stamp_watch.specs.declared.verdict.Verdict.{Verdict}
+use Rattle.stamp_watch.specs.declared.verdict.Verdict.TheVariants as verdict
+use Rattle.stamp_watch.specs.declared.verdict.Why.TheVariants as cause
+use Rattle.stamp_watch.proofs.Form.{busy_after_one}
+use Rattle.stamp_watch.proofs.Forming.{form_first, of_lock_not, of_lock_up_to}
+use Rattle.stamp_watch.proofs.Judged.{cut_behind, judging_here, judging_more, past_on, unexplained_here, too_many_here}
+use Rattle.stamp_watch.proofs.Judging.{judging_first, judging_copied}
+use Rattle.stamp_watch.proofs.Reading.{drop_read}
+use Rattle.stamp_watch.specs.Watch.{IsCopy, IsUntold, IsWatching}
+use Rattle.stamp_watch.proofs.Numbered.{return_ends, return_spares, withdrawal_ends, withdrawal_spares}
+use Rattle.stamp_watch.proofs.Numbered.{open_or_ended}
+
+-- how a call ends stays as it is when more events come
+ending_stays : (lane n : ℕ) (events more : List Event) → ending_of lane n events ≢ StaysOpen →
+    ending_of lane n (events ++ more) ≡ ending_of lane n events
+ending_stays lane n [] more ended = absurd (ended refl)
+ending_stays lane n (Begins other call ∷ events) more ended = ending_stays lane (n + 1) events more ended
+ending_stays lane n (Returns other reply ∷ events) more ended = by (cases_eq other lane)
+    (λ later. ending_stays lane (n + 1) events more later)
+  where
+    by : (other ≡ lane) ⊎ (other ≢ lane) → (ending_of lane (n + 1) events ≢ StaysOpen →
+        ending_of lane (n + 1) (events ++ more) ≡ ending_of lane (n + 1) events) →
+        ending_of lane n (Returns other reply ∷ events ++ more) ≡ ending_of lane n (Returns other reply ∷ events)
+    by (inl same) later = return_ends lane other n reply (events ++ more) same ∙
+        sym (return_ends lane other n reply events same)
+    by (inr apart) later = return_spares lane other n reply (events ++ more) apart ∙
+        later (λ open_still. ended (return_spares lane other n reply events apart ∙ open_still)) ∙
+        sym (return_spares lane other n reply events apart)
+ending_stays lane n (Withdraws other ∷ events) more ended = by (cases_eq other lane)
+    (λ later. ending_stays lane (n + 1) events more later)
+  where
+    by : (other ≡ lane) ⊎ (other ≢ lane) → (ending_of lane (n + 1) events ≢ StaysOpen →
+        ending_of lane (n + 1) (events ++ more) ≡ ending_of lane (n + 1) events) →
+        ending_of lane n (Withdraws other ∷ events ++ more) ≡ ending_of lane n (Withdraws other ∷ events)
+    by (inl same) later = withdrawal_ends lane other n (events ++ more) same ∙
+        sym (withdrawal_ends lane other n events same)
+    by (inr apart) later = withdrawal_spares lane other n (events ++ more) apart ∙
+        later (λ open_still. ended (withdrawal_spares lane other n events apart ∙ open_still)) ∙
+        sym (withdrawal_spares lane other n events apart)
+
+-- so a watch goes on judging when more events come
+pub standing_more : (limits : Bounds) (n : ℕ) (past future more : List Event) (watch : Watch) →
+    AreOfLock (past ++ (future ++ more)) → IsStanding limits n past future watch →
+    IsStanding limits n past (future ++ more) watch
+standing_more limits n past future more watch whole is = record {
+  judging = record {
+    limits_are = is.judging.limits_are;
+    watching = is.judging.watching;
+    explained = is.judging.explained;
+    followed = record {
+      whole = whole;
+      agrees = is.judging.followed.agrees;
+      told = λ lane begun opened. is.judging.followed.told lane begun opened ∙
+          sym (ending_stays lane n future more (is.ended.ends lane (busy lane begun opened)));
+      last = is.judging.followed.last;
+    };
+  };
+  ended = record {
+    ends = λ lane taken open_still. is.ended.ends lane taken
+        (sym (ending_stays lane n future more (is.ended.ends lane taken)) ∙ open_still);
+  };
+}
+  where
+    busy : (lane : ℕ) (begun : OpenCall) → open_at watch.table.items lane ≡ Some begun →
+        is_busy_after past lane ≡ true
+    busy lane begun opened = sym (is.judging.followed.agrees lane) ∙ ap is_some opened
+
+-- behind others, from so many of these events to more of them
+pub standing_up_to : (limits : Bounds) (n k m : ℕ) (past events : List Event) (watch : Watch) →
+    AreOfLock (past ++ events) → k ≤ m → IsStanding limits n past (take k events) watch →
+    IsStanding limits n past (take m events) watch
+standing_up_to limits n k m past events watch whole less is =
+    subst (λ (future : List Event). IsStanding limits n past future watch) (sym parts)
+    (standing_more limits n past (take k events) (take (m - k) (drop k events)) watch
+    (subst (λ (future : List Event). AreOfLock (past ++ future)) parts part) is)
+  where
+    sum_is : k + (m - k) ≡ m
+    sum_is = omega (arith, less)
+
+    parts : take m events ≡ take k events ++ take (m - k) (drop k events)
+    parts = ap (λ (i : ℕ). take i events) (sym sum_is) ∙ take-add k (m - k) events
+
+    part : AreOfLock (past ++ take m events)
+    part = subst AreOfLock (cut_behind (length past) m past events refl)
+        (of_lock_up_to (length past + m) (past ++ events) whole)
+
+-- the end that is told of a call, where it is known
+told_ended : (ends : Ending) → ends ≢ ending.Never → ends_as ends ≢ StaysOpen
+told_ended (ending.Returns told place) known open_still = open_or_ended (sym open_still)
+told_ended ending.Withdraws known open_still = cc
+told_ended ending.Never known open_still = absurd (known refl)
+
+not_free : (b : Bool) → (not true && b) ≡ true → ⊥
+not_free b is = false≢true is
+
+-- one event on the open calls end as well
+pub ended_on : (n : ℕ) (past : List Event) (e : Event) (ahead : List Event) (ends : Ending) →
+    AreEnded n past (e ∷ ahead) → IsEndTold e (n + 1) ahead ends → IsKnown e ends →
+    AreEnded (n + 1) (past ++ e ∷ []) ahead
+ended_on n past (Begins v call) ahead ends old told known = record {
+  ends = λ lane busy. by lane (sym (busy_after_one lane false past (Begins v call)) ∙ busy) (cases_eq v lane);
+}
+  where
+    by : (lane : ℕ) → is_busy_then lane (is_busy_after past lane) (Begins v call) ≡ true → (v ≡ lane) ⊎ (v ≢ lane) →
+        ending_of lane (n + 1) ahead ≢ StaysOpen
+    by lane busy (inl same) open_still = told_ended ends known
+        (told ∙ ap (λ (u : ℕ). ending_of u (n + 1) ahead) same ∙ open_still)
+    by lane busy (inr apart) open_still = old.ends lane
+        (sym (ap (λ (b : Bool). b || is_busy_after past lane) (ne_eqb v lane apart)) ∙ busy) open_still
+ended_on n past (Returns v reply) ahead ends old told known = record {
+  ends = λ lane busy. by lane (sym (busy_after_one lane false past (Returns v reply)) ∙ busy) (cases_eq v lane);
+}
+  where
+    by : (lane : ℕ) → is_busy_then lane (is_busy_after past lane) (Returns v reply) ≡ true → (v ≡ lane) ⊎ (v ≢ lane) →
+        ending_of lane (n + 1) ahead ≢ StaysOpen
+    by lane busy (inl same) open_still = not_free (is_busy_after past lane)
+        (sym (ap (λ (b : Bool). not b && is_busy_after past lane) (eq-eqb v lane same)) ∙ busy)
+    by lane busy (inr apart) open_still = old.ends lane
+        (sym (ap (λ (b : Bool). not b && is_busy_after past lane) (ne_eqb v lane apart)) ∙ busy)
+        (return_spares lane v n reply ahead apart ∙ open_still)
+ended_on n past (Withdraws v) ahead ends old told known = record {
+  ends = λ lane busy. by lane (sym (busy_after_one lane false past (Withdraws v)) ∙ busy) (cases_eq v lane);
+}
+  where
+    by : (lane : ℕ) → is_busy_then lane (is_busy_after past lane) (Withdraws v) ≡ true → (v ≡ lane) ⊎ (v ≢ lane) →
+        ending_of lane (n + 1) ahead ≢ StaysOpen
+    by lane busy (inl same) open_still = not_free (is_busy_after past lane)
+        (sym (ap (λ (b : Bool). not b && is_busy_after past lane) (eq-eqb v lane same)) ∙ busy)
+    by lane busy (inr apart) open_still = old.ends lane
+        (sym (ap (λ (b : Bool). not b && is_busy_after past lane) (ne_eqb v lane apart)) ∙ busy)
+        (withdrawal_spares lane v n ahead apart ∙ open_still)
+
+-- before any event
+pub run_first : (limits : Bounds) (events : List Event) (base watch : Watch) → events ≡ [] → IsWatching [] base →
+    IsUntold base limits → IsCopy base watch → IsRunOn limits [] 0 0 events base watch
+run_first limits events base watch none watching untold copied =
+    subst (λ (xs : List Event). IsRunOn limits [] 0 0 xs base watch) (sym none) (record {
+      past = [];
+      run_is = refl;
+      place = refl;
+      whole = whole;
+      within = omega arith;
+      from_base = record { judging = judging; ended = ended };
+      now = record { judging = judging_copied limits 0 [] [] base watch copied judging; ended = ended };
+    })
+  where
+    whole : AreOfLock []
+    whole = form_first.0
+
+    judging : IsJudging limits 0 [] [] base
+    judging = judging_first limits [] base watching untold whole
+
+    ended : AreEnded 0 [] []
+    ended = record { ends = λ lane busy. absurd (false≢true busy) }
+
+-- one event more
+pub run_added : (limits : Bounds) (run : List Event) (first seen : ℕ) (events then_events : List Event)
+    (base watch : Watch) (e : Event) → then_events ≡ events ++ e ∷ [] → AreOfLock (run ++ e ∷ []) →
+    IsRunOn limits run first seen events base watch → IsRunOn limits (run ++ e ∷ []) first seen then_events base watch
+run_added limits run first seen events then_events base watch e added whole is =
+    subst (λ (xs : List Event). IsRunOn limits (run ++ e ∷ []) first seen xs base watch) (sym added) (record {
+      past = is.past;
+      run_is = run_then;
+      place = is.place;
+      whole = subst AreOfLock run_then whole;
+      within = let long : length (events ++ e ∷ []) ≡ length events + length (e ∷ []) =
+          length-append events (e ∷ []) in
+          let within : seen ≤ length events = is.within in omega (arith, long, within);
+      from_base = subst (λ (xs : List Event). IsStanding limits first is.past xs base) (sym same_seen) is.from_base;
+      now = subst (λ (xs : List Event). IsStanding limits (first + seen) (is.past ++ xs) (drop seen (events ++ e ∷ []))
+          watch) (sym same_seen)
+          (subst (λ (xs : List Event). IsStanding limits (first + seen) (is.past ++ take seen events) xs watch)
+          (sym (drop-append-le seen events (e ∷ []) is.within))
+          (standing_more limits (first + seen) (is.past ++ take seen events) (drop seen events) (e ∷ []) watch
+          (subst AreOfLock (sym around) whole) is.now));
+    })
+  where
+    run_then : run ++ e ∷ [] ≡ is.past ++ (events ++ e ∷ [])
+    run_then = ap (λ (xs : List Event). xs ++ e ∷ []) is.run_is ∙ append_assoc is.past events (e ∷ [])
+
+    same_seen : take seen (events ++ e ∷ []) ≡ take seen events
+    same_seen = take-append-le seen events (e ∷ []) is.within
+
+    around : (is.past ++ take seen events) ++ (drop seen events ++ e ∷ []) ≡ run ++ e ∷ []
+    around = append_assoc is.past (take seen events) (drop seen events ++ e ∷ []) ∙
+        ap (λ (xs : List Event). is.past ++ xs) (sym (append_assoc (take seen events) (drop seen events) (e ∷ [])) ∙
+        ap (λ (xs : List Event). xs ++ e ∷ []) (take-append-drop seen events)) ∙ sym run_then
+
+module _ (limits : Bounds) (run : List Event) (first seen : ℕ) (events : List Event) (base watch : Watch)
+    (is : IsRunOn limits run first seen events base watch) where
+  -- so many of the events, and not fewer than were seen, can be judged from the base
+  pub run_base : (k : ℕ) → seen ≤ k → IsBase limits first k is.past events base
+  run_base k less = record {
+    place = is.place;
+    judging = λ m more within. (standing_up_to limits first seen m is.past events base is.whole
+        (omega (arith, less, more))
+        is.from_base).judging;
+  }
+
+  pub run_found : (most : ℕ) (ahead : Option ℕ) (v : Verdict) → IsFound limits (is.past ++ events) most ahead v →
+      IsFound limits run most ahead v
+  run_found most ahead v found = subst (λ (xs : List Event). IsFound limits xs most ahead v) (sym is.run_is) found
+
+  pub run_stuck_from : (k : ℕ) (slice : List Event) → slice ≡ events → seen ≤ k →
+      IsStuckBehind limits is.past events k →
+      IsStuckFrom first k slice base
+  run_stuck_from k slice same less stuck = subst (λ (xs : List Event). IsStuckFrom first k xs base) (sym same)
+      (record {
+        limits = limits;
+        past = is.past;
+        base = run_base k less;
+        stuck = stuck;
+      })
+
+  pub run_finds : (k most : ℕ) (ahead : Option ℕ) (slice : List Event) (v : Verdict) → slice ≡ events → seen ≤ k →
+      IsStuckBehind limits is.past events k →
+      ((l : Bounds) (past : List Event) → IsBase l first k past slice base → IsStuckBehind l past slice k →
+      IsFound l (past ++ slice) most ahead v) → IsFound limits run most ahead v
+  run_finds k most ahead slice v same less stuck found = run_found most ahead v
+      (subst (λ (xs : List Event). IsFound limits (is.past ++ xs) most ahead v) same (found limits is.past
+      (subst (λ (xs : List Event). IsBase limits first k is.past xs base) (sym same) (run_base k less))
+      (subst (λ (xs : List Event). IsStuckBehind limits is.past xs k) (sym same) stuck)))
+
+  pub cut_run : (k : ℕ) (more : List Event) → k ≤ length events →
+      take (first + k) (run ++ more) ≡ is.past ++ take k events
+  cut_run k more within = ap (λ (xs : List Event). take (first + k) (xs ++ more)) is.run_is ∙
+      ap (take (first + k)) (append_assoc is.past events more) ∙ cut_behind first k is.past (events ++ more) is.place ∙
+      ap (λ (xs : List Event). is.past ++ xs) (take-append-le k events more within)
+
+  pub part_of_lock : (k : ℕ) → AreOfLock (is.past ++ take k events)
+  part_of_lock k = subst AreOfLock (cut_behind (length is.past) k is.past events refl)
+      (of_lock_up_to (length is.past + k) (is.past ++ events) is.whole)
+
+  pub run_undecided : (most k : ℕ) (ahead : Option ℕ) → k ≤ length events →
+      AreExplained limits (is.past ++ take k events) →
+      AreTooMany limits (is.past ++ take k events) most →
+      IsFound limits run most ahead (verdict.Undecided (first + k) cause.TooMany)
+  run_undecided most k ahead within explained many more = (
+    subst AreOfLock (sym (cut_run k more within)) (part_of_lock k),
+    subst (AreExplained limits) (sym (cut_run k more within)) explained,
+    subst (λ (xs : List Event). AreTooMany limits xs most) (sym (cut_run k more within)) many,
+  )
+
+  -- one event is seen
+  module _ (e : Event) (less : seen < length events) (read : e ≡ get_or events seen e) (most : ℕ) where
+    pub run_here : IsJudging limits (first + seen) (is.past ++ take seen events) (e ∷ drop (seen + 1) events) watch
+    run_here = judging_here limits first is.past events most seen e less read watch is.now.judging
+
+    pub run_steps : (ends : Ending) (new : Watch) (answer : Progress) → answer ≡ progress.Going →
+        IsEndTold e (first + seen + 1) (drop (seen + 1) events) ends → IsKnown e ends →
+        IsStep limits (first + seen) (is.past ++ take seen events) e (drop (seen + 1) events) most new answer →
+        IsRunOn limits run first (seen + 1) events base new
+    run_steps ends new answer going told known step = record {
+      past = is.past;
+      run_is = is.run_is;
+      place = is.place;
+      whole = is.whole;
+      within = omega (arith, less);
+      from_base = standing_up_to limits first seen (seen + 1) is.past events base is.whole (omega arith) is.from_base;
+      now = record {
+        judging = judging_more limits first is.past events most seen e less read new answer step going;
+        ended = subst (λ (n : ℕ). AreEnded n (is.past ++ take (seen + 1) events) (drop (seen + 1) events))
+            (add_assoc first seen 1)
+            (subst (λ (before : List Event). AreEnded (first + seen + 1) before (drop (seen + 1) events))
+            (past_on limits first is.past events most seen e less read)
+            (ended_on (first + seen) (is.past ++ take seen events) e (drop (seen + 1) events) ends
+            (subst (λ (future : List Event). AreEnded (first + seen) (is.past ++ take seen events) future)
+            (drop_read events seen e less read) is.now.ended) told known));
+      };
+    }
+
+    pub run_dead : (new : Watch) (answer : Progress) → answer ≡ progress.Dead →
+        IsStep limits (first + seen) (is.past ++ take seen events) e (drop (seen + 1) events) most new answer →
+        IsStuckBehind limits is.past events seen
+    run_dead new answer dead step = record {
+      explained = is.now.judging.explained;
+      stuck = (unexplained_here limits first is.past events most seen e less read new answer step dead
+          is.now.judging.explained).2;
+    }
+
+    pub run_too_many : (ahead : Option ℕ) (new : Watch) (answer : Progress) → answer ≡ progress.TooMany →
+        IsStep limits (first + seen) (is.past ++ take seen events) e (drop (seen + 1) events) most new answer →
+        IsFound limits run most ahead (verdict.Undecided (first + seen) cause.TooMany)
+    run_too_many ahead new answer many step = run_undecided most seen ahead is.within is.now.judging.explained
+        (too_many_here limits first is.past events most seen e less read new answer step many
+        is.now.judging.explained).2
+
+  -- the run ends here
+  seen_and_rest : (is.past ++ take seen events) ++ drop seen events ≡ is.past ++ events
+  seen_and_rest = append_assoc is.past (take seen events) (drop seen events) ∙
+      ap (λ (xs : List Event). is.past ++ xs) (take-append-drop seen events)
+
+  seen_and_some : (k : ℕ) → (is.past ++ take seen events) ++ take k (drop seen events) ≡ is.past ++ take (seen + k)
+      events
+  seen_and_some k = append_assoc is.past (take seen events) (take k (drop seen events)) ∙
+      ap (λ (xs : List Event). is.past ++ xs) (sym (take-add seen k events))
+
+  pub rest_within : (k : ℕ) → k < length (drop seen events) → seen + k < length events
+  rest_within k less = let rest : length (drop seen events) ≡ length events - seen = length-drop seen events in
+      let within : seen ≤ length events = is.within in omega (arith, less, rest, within)
+
+  module _ (most : ℕ) (ahead : Option ℕ) where
+    pub rest_explained : IsOutcome limits (is.past ++ take seen events) (drop seen events) most judged.Explained →
+        IsRest limits run most ahead verdict.Explained
+    rest_explained explained = (
+      subst AreOfLock (sym is.run_is) is.whole,
+      subst (AreExplained limits) (seen_and_rest ∙ sym is.run_is) explained,
+    )
+
+    pub rest_stuck : (k : ℕ) →
+        IsOutcome limits (is.past ++ take seen events) (drop seen events) most (judged.Unexplained k) →
+        IsStuckBehind limits is.past events (seen + k)
+    rest_stuck k outcome = record {
+      explained = subst (AreExplained limits) (seen_and_some k) outcome.1;
+      stuck = λ whole. outcome.2 (subst (AreExplained limits) (sym seen_and_rest) whole);
+    }
+
+    pub rest_undecided : (k : ℕ) →
+        IsOutcome limits (is.past ++ take seen events) (drop seen events) most (judged.TooMany k) →
+        IsRest limits run most ahead (verdict.Undecided (first + seen + k) cause.TooMany)
+    rest_undecided k outcome = subst (λ (n : ℕ). IsFound limits run most ahead (verdict.Undecided n cause.TooMany))
+        (sym (add_assoc first seen k)) (run_undecided most (seen + k) ahead
+        (let less : k < length (drop seen events) = outcome.0 in
+        let rest : length (drop seen events) ≡ length events - seen = length-drop seen events in
+        let within : seen ≤ length events = is.within in omega (arith, less, rest, within))
+        (subst (AreExplained limits) (seen_and_some k) outcome.1)
+        (subst (λ (xs : List Event). AreTooMany limits xs most) (seen_and_some k) outcome.2))
+
+-- what is found, whatever comes later
+pub found_now : (limits : Bounds) (run : List Event) (most : ℕ) (ahead : Option ℕ) (v : Verdict) →
+    IsFound limits run most ahead v →
+    IsVerdict limits run most ahead v
+found_now limits run most ahead v found =
+    subst (λ (xs : List Event). IsVerdict limits xs most ahead v) (append-nil run) (found [])
+
+pub found_later : (limits : Bounds) (run : List Event) (most : ℕ) (ahead : Option ℕ) (v : Verdict) (e : Event) →
+    IsFound limits run most ahead v → IsFound limits (run ++ e ∷ []) most ahead v
+found_later limits run most ahead v e found more =
+    subst (λ (xs : List Event). IsVerdict limits xs most ahead v) (sym (append_assoc run (e ∷ []) more))
+    (found (e ∷ more))
+
+pub rest_found : (limits : Bounds) (run : List Event) (most : ℕ) (ahead : Option ℕ) (v : Verdict) →
+    IsFound limits run most ahead v →
+    IsRest limits run most ahead v
+rest_found limits run most ahead verdict.Explained found = found_now limits run most ahead verdict.Explained found
+rest_found limits run most ahead (verdict.Stuck k) found = found
+rest_found limits run most ahead (verdict.StuckWithin k m) found = found
+rest_found limits run most ahead (verdict.Undecided k why) found = found
+rest_found limits run most ahead (verdict.Broken k) found = found
+
+pub rest_now : (limits : Bounds) (run : List Event) (most : ℕ) (ahead : Option ℕ) (v : Verdict) →
+    IsRest limits run most ahead v →
+    IsVerdict limits run most ahead v
+rest_now limits run most ahead verdict.Explained rest = rest
+rest_now limits run most ahead (verdict.Stuck k) rest = found_now limits run most ahead (verdict.Stuck k) rest
+rest_now limits run most ahead (verdict.StuckWithin k m) rest =
+    found_now limits run most ahead (verdict.StuckWithin k m) rest
+rest_now limits run most ahead (verdict.Undecided k why) rest =
+    found_now limits run most ahead (verdict.Undecided k why) rest
+rest_now limits run most ahead (verdict.Broken k) rest = found_now limits run most ahead (verdict.Broken k) rest
+
+-- an event that may not come there
+module _ (limits : Bounds) (run : List Event) (most : ℕ) (ahead : Option ℕ) (busy place : ℕ) (e : Event)
+    (at : place ≡ length run)
+    (lanes : AreBusyLanes run busy) (not_there : ¬ MayComeIn busy e) where
+  cut_before : (more : List Event) → take place (run ++ e ∷ [] ++ more) ≡ run
+  cut_before more = ap (λ (n : ℕ). take n (run ++ e ∷ [] ++ more)) at ∙
+      ap (take (length run)) (append_assoc run (e ∷ []) more) ∙ take-append_seam run (e ∷ more)
+
+  cut_behind_it : (more : List Event) → take (place + 1) (run ++ e ∷ [] ++ more) ≡ run ++ e ∷ []
+  cut_behind_it more = ap (λ (n : ℕ). take n (run ++ e ∷ [] ++ more)) long ∙ take-append_seam (run ++ e ∷ []) more
+    where
+      long : place + 1 ≡ length (run ++ e ∷ [])
+      long = let whole : length (run ++ e ∷ []) ≡ length run + length (e ∷ []) = length-append run (e ∷ []) in
+          omega (arith, whole, at)
+
+  pub broken_found : (v : Verdict) → IsRest limits run most ahead v →
+      IsFound limits (run ++ e ∷ []) most ahead (broken_off v place)
+  broken_found verdict.Explained rest more = (
+    record {
+      whole = subst AreOfLock (sym (cut_before more)) rest.0;
+      broken = λ whole. of_lock_not run busy e lanes not_there (subst AreOfLock (cut_behind_it more) whole);
+    },
+    subst (AreExplained limits) (sym (cut_before more)) rest.1,
+  )
+  broken_found (verdict.Stuck k) rest more = found_later limits run most ahead (verdict.Stuck k) e rest more
+  broken_found (verdict.StuckWithin k m) rest more = found_later limits run most ahead (verdict.StuckWithin k m) e
+      rest more
+  broken_found (verdict.Undecided k why) rest more = found_later limits run most ahead (verdict.Undecided k why) e
+      rest more
+  broken_found (verdict.Broken k) rest more = found_later limits run most ahead (verdict.Broken k) e rest more

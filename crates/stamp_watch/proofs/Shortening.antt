@@ -1,0 +1,332 @@
+-- A run up to one of its events, and the entries that it has then.
+use Rattle.std.proofs.Common.{◌≡◌, ◌≢◌, ◌⊎◌, ℕ, suc, zero, ◌+◌, ◌<◌, ◌≤◌, ◌==◌, Bool, true, false, List, [], ◌∷◌}
+use Rattle.std.proofs.Common.{length, refl, sym, ◌∙◌, ap, subst, inl, inr, arith, eq-eqb, ne_eqb, lt-ltb, le-ltb}
+use Rattle.std.proofs.Common.{Option, Some, None, length-take}
+use Rattle.std.specs.Prelude.{slice_get, map, take, drop, nat_lt, not, ◌&&◌, ◌||◌, if◌then◌else◌}
+use Rattle.std.specs.List.{Contains, fold}
+use Rattle.std.specs.Option.{option_map}
+use Rattle.std.proofs.lemmas.Bool.{cases_eq}
+use Rattle.std.proofs.lemmas.Option.{none-some, same_Some, slice_get-map}
+use Rattle.stamp_core.specs.Call.{is_lock_call}
+use Rattle.stamp_core.specs.declared.call.Call.{Call}
+use Rattle.stamp_explain.specs.declared.observed.Observation.{Observation}
+use Rattle.stamp_explain.specs.declared.observed.Returned.{Returned}
+use Rattle.stamp_explain.proofs.Lists.{none_in_empty, contains_cases, contains_first, contains_rest}
+use Rattle.stamp_watch.specs.declared.event.Event.{Event}
+use Rattle.stamp_watch.specs.declared.event.Event.TheVariants.{Begins, Returns, Withdraws}
+use Rattle.stamp_watch.specs.Ahead.{IsWithdrawn}
+use Rattle.stamp_watch.specs.Ahead.IsWithdrawn.{withdrawn_next, withdrawn_past_beginning, withdrawn_past_return}
+use Rattle.stamp_watch.specs.Ahead.IsWithdrawn.{withdrawn_past_withdrawal}
+use Rattle.stamp_watch.specs.AsObserved.{Ending, ending_of, entries_from}
+use Rattle.stamp_watch.specs.AsObserved.Ending.{StaysOpen, EndsBy, EndsWithdrawn}
+use Rattle.stamp_watch.specs.Form.{is_busy_then, AreInForm}
+use Rattle.stamp_watch.proofs.Numbered.{IsEntryOf, entry_tells, entry_returned, in_with_entry, with_entry_has}
+use Rattle.stamp_watch.proofs.Numbered.{ending_last, first_from, contains_at, own_firsts}
+use Rattle.stamp_watch.proofs.Planning.{IsLate}
+use Rattle.stamp_watch.proofs.AsObserved.{AreOfRun, locks_from}
+
+abbrev pub returned_below : ℕ → Option Returned → Bool
+returned_below end None = false
+returned_below end (Some r) = nat_lt r.last end
+
+-- what returned at this position or later is open still
+abbrev pub shortened : ℕ → Observation → Observation
+shortened end e = if returned_below end e.returned then e else record e { returned = None }
+
+same_first : (end : ℕ) (e : Observation) → (shortened end e).first ≡ e.first
+same_first end e = by (returned_below end e.returned)
+  where
+    by : (b : Bool) → (if b then e else record e { returned = None }).first ≡ e.first
+    by true = refl
+    by false = refl
+
+same_call : (end : ℕ) (e : Observation) → (shortened end e).call ≡ e.call
+same_call end e = by (returned_below end e.returned)
+  where
+    by : (b : Bool) → (if b then e else record e { returned = None }).call ≡ e.call
+    by true = refl
+    by false = refl
+
+shortened_open : (end : ℕ) (e : Observation) → ((r : Returned) → e.returned ≡ Some r → end ≤ r.last) →
+    (shortened end e).returned ≡ None
+shortened_open end e later = by e.returned refl later
+  where
+    by : (o : Option Returned) → e.returned ≡ o → ((r : Returned) → o ≡ Some r → end ≤ r.last) →
+        (if returned_below end o then e else record e { returned = None }).returned ≡ None
+    by None is all = refl
+    by (Some r) is all = ap (λ (b : Bool). (if b then e else record e { returned = None }).returned)
+        (le-ltb r.last end (all r refl))
+
+-- how a call ends, in the whole run and up to a position
+data EndsUpTo (end : ℕ) : Ending → Ending → Type 0 where
+  open_still : EndsUpTo end StaysOpen StaysOpen
+  ended : {r : Returned} → r.last < end → EndsUpTo end (EndsBy r) (EndsBy r)
+  ends_later : {r : Returned} → end ≤ r.last → EndsUpTo end (EndsBy r) StaysOpen
+  withdrawn : EndsUpTo end EndsWithdrawn EndsWithdrawn
+
+-- the entry up to there
+shortened_entry : (lane : ℕ) (call : Call) (first end : ℕ) (whole cut : Ending) (e : Observation) →
+    EndsUpTo end whole cut → IsEntryOf lane call first whole e → IsEntryOf lane call first cut (shortened end e)
+shortened_entry lane call first end whole cut e open_still is = ap (shortened end) is
+shortened_entry lane call first end whole cut e (ended {r} less) is = ap (shortened end) is ∙
+    ap (λ (b : Bool). if b then record { thread = lane; call = call; first = first; returned = Some r } else
+    record { thread = lane; call = call; first = first; returned = None }) (lt-ltb r.last end less)
+shortened_entry lane call first end whole cut e (ends_later {r} le) is = ap (shortened end) is ∙
+    ap (λ (b : Bool). if b then record { thread = lane; call = call; first = first; returned = Some r } else
+    record { thread = lane; call = call; first = first; returned = None }) (le-ltb r.last end le)
+shortened_entry lane call first end whole cut e withdrawn is = is
+
+-- each entry up to there is one of the whole run, shortened
+record IsShortenedOf (end : ℕ) (e : Observation) (P : Observation → Type 0) : Type 0 where
+  whole : Observation
+  is : P whole
+  same : shortened end whole ≡ e
+
+lengthened_entry : (lane : ℕ) (call : Call) (first end : ℕ) (whole cut : Ending) (e : Observation) →
+    EndsUpTo end whole cut → IsEntryOf lane call first cut e →
+    IsShortenedOf end e (IsEntryOf lane call first whole)
+lengthened_entry lane call first end whole cut e open_still is = record {
+  whole = e;
+  is = is;
+  same = ap (shortened end) is ∙ sym is;
+}
+lengthened_entry lane call first end whole cut e (ended {r} less) is = record {
+  whole = e;
+  is = is;
+  same = shortened_entry lane call first end whole cut e (ended less) is ∙ sym is;
+}
+lengthened_entry lane call first end whole cut e (ends_later {r} le) is = record {
+  whole = record { thread = lane; call = call; first = first; returned = Some r };
+  is = refl;
+  same = shortened_entry lane call first end whole cut
+      (record { thread = lane; call = call; first = first; returned = Some r }) (ends_later le) refl ∙ sym is;
+}
+lengthened_entry lane call first end whole cut e withdrawn is = absurd is
+
+withdrawn_by : (lane n : ℕ) (events : List Event) → ending_of lane n events ≡ EndsWithdrawn → IsWithdrawn lane events
+withdrawn_by lane n [] ends = cc
+withdrawn_by lane n (Begins other call ∷ events) ends =
+    withdrawn_past_beginning other call (withdrawn_by lane (n + 1) events ends)
+withdrawn_by lane n (Returns other reply ∷ events) ends = by (cases_eq other lane)
+    (λ is. withdrawn_by lane (n + 1) events is)
+  where
+    by : (other ≡ lane) ⊎ (other ≢ lane) → (ending_of lane (n + 1) events ≡ EndsWithdrawn → IsWithdrawn lane events) →
+        IsWithdrawn lane (Returns other reply ∷ events)
+    by (inl same) _ = let here = rw (eq-eqb other lane same) at ends in cc
+    by (inr apart) more = withdrawn_past_return other reply apart (more (rw (ne_eqb other lane apart) at ends))
+withdrawn_by lane n (Withdraws other ∷ events) ends = by (cases_eq other lane)
+    (λ is. withdrawn_by lane (n + 1) events is)
+  where
+    by : (other ≡ lane) ⊎ (other ≢ lane) → (ending_of lane (n + 1) events ≡ EndsWithdrawn → IsWithdrawn lane events) →
+        IsWithdrawn lane (Withdraws other ∷ events)
+    by (inl same) _ = subst (λ (v : ℕ). IsWithdrawn lane (Withdraws v ∷ events)) (sym same) withdrawn_next
+    by (inr apart) more = withdrawn_past_withdrawal other apart (more (rw (ne_eqb other lane apart) at ends))
+
+-- a lane that is busy from then on is not withdrawn behind the first m events
+abbrev IsKept : ℕ → Bool → ℕ → List Event → Type 0
+IsKept lane busy m events = fold (is_busy_then lane) busy (take m events) ≡ true → ¬ IsWithdrawn lane (drop m events)
+
+still_kept : (lane m : ℕ) (a b : Bool) (events : List Event) → a ≡ b → IsKept lane a m events →
+    IsKept lane b m events
+still_kept lane m a b events same kept = subst (λ (c : Bool). IsKept lane c m events) same kept
+
+or_true : (a : Bool) → (a || true) ≡ true
+or_true true = refl
+or_true false = refl
+
+ends_up_to : (lane n m end : ℕ) (events : List Event) → end ≡ n + m → IsKept lane true m events →
+    EndsUpTo end (ending_of lane n events) (ending_of lane n (take m events))
+ends_up_to lane n zero end events at kept = by (ending_of lane n events) refl
+  where
+    by : (x : Ending) → ending_of lane n events ≡ x → EndsUpTo end x StaysOpen
+    by StaysOpen is = open_still
+    by (EndsBy r) is = let low = ending_last lane n events r is in ends_later (omega arith)
+    by EndsWithdrawn is = absurd (kept refl (withdrawn_by lane n events is))
+ends_up_to lane n (suc m) end [] at kept = open_still
+ends_up_to lane n (suc m) end (Begins other call ∷ events) at kept = ends_up_to lane (n + 1) m end events (omega arith)
+    (still_kept lane m ((other == lane) || true) true events (or_true (other == lane)) kept)
+ends_up_to lane n (suc m) end (Returns other reply ∷ events) at kept = by (cases_eq other lane)
+    (λ more. ends_up_to lane (n + 1) m end events (omega arith) more)
+  where
+    by : (other ≡ lane) ⊎ (other ≢ lane) → (IsKept lane true m events →
+        EndsUpTo end (ending_of lane (n + 1) events) (ending_of lane (n + 1) (take m events))) →
+        EndsUpTo end (ending_of lane n (Returns other reply ∷ events))
+        (ending_of lane n (Returns other reply ∷ take m events))
+    by (inl same) _ = let less : n < end = omega arith in
+        rw (eq-eqb other lane same) (ended {r = record { last = n; reply = reply }} less)
+    by (inr apart) more = rw (ne_eqb other lane apart) (more (still_kept lane m
+        (not (other == lane) && true) true events (rw (ne_eqb other lane apart)) kept))
+ends_up_to lane n (suc m) end (Withdraws other ∷ events) at kept = by (cases_eq other lane)
+    (λ more. ends_up_to lane (n + 1) m end events (omega arith) more)
+  where
+    by : (other ≡ lane) ⊎ (other ≢ lane) → (IsKept lane true m events →
+        EndsUpTo end (ending_of lane (n + 1) events) (ending_of lane (n + 1) (take m events))) →
+        EndsUpTo end (ending_of lane n (Withdraws other ∷ events))
+        (ending_of lane n (Withdraws other ∷ take m events))
+    by (inl same) _ = rw (eq-eqb other lane same) withdrawn
+    by (inr apart) more = rw (ne_eqb other lane apart) (more (still_kept lane m
+        (not (other == lane) && true) true events (rw (ne_eqb other lane apart)) kept))
+
+-- none of the lanes that are busy after the first m events is withdrawn behind them
+abbrev pub AreKept : (ℕ → Bool) → ℕ → List Event → Type 0
+AreKept busy m events = (lane : ℕ) → IsKept lane (busy lane) m events
+
+begins_up_to : (busy : ℕ → Bool) (lane n m end : ℕ) (call : Call) (events : List Event) → end ≡ n + suc m →
+    AreKept busy (suc m) (Begins lane call ∷ events) →
+    EndsUpTo end (ending_of lane (n + 1) events) (ending_of lane (n + 1) (take m events))
+begins_up_to busy lane n m end call events at kept = ends_up_to lane (n + 1) m end events (omega arith)
+    (still_kept lane m ((lane == lane) || busy lane) true events
+    (ap (λ (b : Bool). b || busy lane) (eq-eqb lane lane refl)) (kept lane))
+
+-- the entries up to there are those of the whole run, shortened, but for such as begin later
+lengthened : (busy : ℕ → Bool) (n m end : ℕ) (events : List Event) (e : Observation) → end ≡ n + m →
+    AreKept busy m events → Contains (entries_from n (take m events)) e →
+    IsShortenedOf end e (Contains (entries_from n events))
+lengthened busy n zero end events e at kept has = absurd (none_in_empty e has)
+lengthened busy n (suc m) end [] e at kept has = absurd (none_in_empty e has)
+lengthened busy n (suc m) end (Begins lane call ∷ events) e at kept has = by (in_with_entry lane call n
+    (ending_of lane (n + 1) (take m events)) (entries_from (n + 1) (take m events)) e has) (λ later. lengthened
+    (λ (other : ℕ). is_busy_then other (busy other) (Begins lane call)) (n + 1) m end events e (omega arith) kept
+    later)
+  where
+    by : IsEntryOf lane call n (ending_of lane (n + 1) (take m events)) e ⊎
+        Contains (entries_from (n + 1) (take m events)) e → (Contains (entries_from (n + 1) (take m events)) e →
+        IsShortenedOf end e (Contains (entries_from (n + 1) events))) →
+        IsShortenedOf end e (Contains (entries_from n (Begins lane call ∷ events)))
+    by (inl is) _ =
+        let found : IsShortenedOf end e (IsEntryOf lane call n (ending_of lane (n + 1) events)) =
+        lengthened_entry lane call n end (ending_of lane (n + 1) events) (ending_of lane (n + 1) (take m events)) e
+        (begins_up_to busy lane n m end call events at kept) is in
+        record {
+          whole = found.whole;
+          is = with_entry_has lane call n (ending_of lane (n + 1) events) (entries_from (n + 1) events) found.whole
+              (inl found.is);
+          same = found.same;
+        }
+    by (inr later) more =
+        let found = more later in
+        record {
+          whole = found.whole;
+          is = with_entry_has lane call n (ending_of lane (n + 1) events) (entries_from (n + 1) events) found.whole
+              (inr found.is);
+          same = found.same;
+        }
+lengthened busy n (suc m) end (Returns lane reply ∷ events) e at kept has = lengthened
+    (λ (other : ℕ). is_busy_then other (busy other) (Returns lane reply)) (n + 1) m end events e (omega arith) kept has
+lengthened busy n (suc m) end (Withdraws lane ∷ events) e at kept has = lengthened
+    (λ (other : ℕ). is_busy_then other (busy other) (Withdraws lane)) (n + 1) m end events e (omega arith) kept has
+
+shortens : (busy : ℕ → Bool) (n m end : ℕ) (events : List Event) (e : Observation) → end ≡ n + m →
+    AreKept busy m events → Contains (entries_from n events) e →
+    Contains (entries_from n (take m events)) (shortened end e) ⊎ (end ≤ e.first)
+shortens busy n zero end events e at kept has = let low = first_from n events e has in inr (omega arith)
+shortens busy n (suc m) end [] e at kept has = absurd (none_in_empty e has)
+shortens busy n (suc m) end (Begins lane call ∷ events) e at kept has = by (in_with_entry lane call n
+    (ending_of lane (n + 1) events) (entries_from (n + 1) events) e has) (λ later. shortens
+    (λ (other : ℕ). is_busy_then other (busy other) (Begins lane call)) (n + 1) m end events e (omega arith) kept
+    later)
+  where
+    more_of : Contains (entries_from (n + 1) (take m events)) (shortened end e) ⊎ (end ≤ e.first) →
+        Contains (entries_from n (Begins lane call ∷ take m events)) (shortened end e) ⊎ (end ≤ e.first)
+    more_of (inl is) = inl (with_entry_has lane call n (ending_of lane (n + 1) (take m events))
+        (entries_from (n + 1) (take m events)) (shortened end e) (inr is))
+    more_of (inr late) = inr late
+
+    by : IsEntryOf lane call n (ending_of lane (n + 1) events) e ⊎ Contains (entries_from (n + 1) events) e →
+        (Contains (entries_from (n + 1) events) e →
+        Contains (entries_from (n + 1) (take m events)) (shortened end e) ⊎ (end ≤ e.first)) →
+        Contains (entries_from n (Begins lane call ∷ take m events)) (shortened end e) ⊎ (end ≤ e.first)
+    by (inl is) _ = inl (with_entry_has lane call n (ending_of lane (n + 1) (take m events))
+        (entries_from (n + 1) (take m events)) (shortened end e) (inl (shortened_entry lane call n end
+        (ending_of lane (n + 1) events) (ending_of lane (n + 1) (take m events)) e
+        (begins_up_to busy lane n m end call events at kept) is)))
+    by (inr later) more = more_of (more later)
+shortens busy n (suc m) end (Returns lane reply ∷ events) e at kept has = shortens
+    (λ (other : ℕ). is_busy_then other (busy other) (Returns lane reply)) (n + 1) m end events e (omega arith) kept has
+shortens busy n (suc m) end (Withdraws lane ∷ events) e at kept has = shortens
+    (λ (other : ℕ). is_busy_then other (busy other) (Withdraws lane)) (n + 1) m end events e (omega arith) kept has
+
+-- a call returns behind where it began
+returns_behind : (n : ℕ) (events : List Event) (e : Observation) (r : Returned) → Contains (entries_from n events) e →
+    e.returned ≡ Some r → e.first < r.last
+returns_behind n [] e r has back = absurd (none_in_empty e has)
+returns_behind n (Begins lane call ∷ events) e r has back = by (in_with_entry lane call n
+    (ending_of lane (n + 1) events) (entries_from (n + 1) events) e has)
+    (λ later. returns_behind (n + 1) events e r later back)
+  where
+    by : IsEntryOf lane call n (ending_of lane (n + 1) events) e ⊎ Contains (entries_from (n + 1) events) e →
+        (Contains (entries_from (n + 1) events) e → e.first < r.last) → e.first < r.last
+    by (inl is) _ =
+        let at = (entry_tells lane call n (ending_of lane (n + 1) events) e is).its_first in
+        let low = ending_last lane (n + 1) events r
+        (entry_returned lane call n (ending_of lane (n + 1) events) e r is back) in omega arith
+    by (inr later) more = more later
+returns_behind n (Returns lane reply ∷ events) e r has back = returns_behind (n + 1) events e r has back
+returns_behind n (Withdraws lane ∷ events) e r has back = returns_behind (n + 1) events e r has back
+
+contains_map : (f : Observation → Observation) (xs : List Observation) (x : Observation) → Contains xs x →
+    Contains (map f xs) (f x)
+contains_map f [] x has = absurd (none_in_empty x has)
+contains_map f (y ∷ xs) x has = by (contains_cases y xs x has) (λ later. contains_map f xs x later)
+  where
+    by : (y ≡ x) ⊎ Contains xs x → (Contains xs x → Contains (map f xs) (f x)) → Contains (f y ∷ map f xs) (f x)
+    by (inl same) _ = contains_first (f y) (map f xs) (f x) (ap f same)
+    by (inr later) more = contains_rest (f y) (map f xs) (f x) (more later)
+
+-- what an element of a list's image is of
+record IsImage (f : Observation → Observation) (xs : List Observation) (i : ℕ) (y : Observation) : Type 0 where
+  of : Observation
+  at : slice_get xs i ≡ Some of
+  same : f of ≡ y
+
+image_of : (f : Observation → Observation) (xs : List Observation) (i : ℕ) (y : Observation) →
+    slice_get (map f xs) i ≡ Some y → IsImage f xs i y
+image_of f xs i y at = by (slice_get xs i) refl (sym (slice_get-map f xs i) ∙ at)
+  where
+    by : (o : Option Observation) → slice_get xs i ≡ o → option_map f o ≡ Some y → IsImage f xs i y
+    by None is none = absurd (none-some y none)
+    by (Some x) is some = record { of = x; at = is; same = same_Some (f x) y some }
+
+pub shortened_run : (m : ℕ) (events : List Event) → AreInForm events → AreKept (λ (lane : ℕ). false) m events →
+    AreOfRun (map (shortened m) (entries_from 0 events)) (take m events)
+shortened_run m events form kept = record {
+  inside = λ e has. inside e (lengthened (λ (lane : ℕ). false) 0 m m events e (omega arith) kept has);
+  each = λ i e at. each e (image_of (shortened m) (entries_from 0 events) i e at);
+  single = λ i j e at_i at_j. single i j e (image_of (shortened m) (entries_from 0 events) i e at_i)
+      (image_of (shortened m) (entries_from 0 events) j e at_j);
+  locks = λ i e at. locks e (image_of (shortened m) (entries_from 0 events) i e at);
+}
+  where
+    inside : (e : Observation) → IsShortenedOf m e (Contains (entries_from 0 events)) →
+        Contains (map (shortened m) (entries_from 0 events)) e
+    inside e found = subst (λ (o : Observation). Contains (map (shortened m) (entries_from 0 events)) o) found.same
+        (contains_map (shortened m) (entries_from 0 events) found.whole found.is)
+
+    each : {i : ℕ} (e : Observation) → IsImage (shortened m) (entries_from 0 events) i e →
+        Contains (entries_from 0 (take m events)) e ⊎ IsLate (length (take m events)) e
+    each {i} e image = by (shortens (λ (lane : ℕ). false) 0 m m events image.of (omega arith) kept
+        (contains_at (entries_from 0 events) i image.of image.at))
+      where
+        by : Contains (entries_from 0 (take m events)) (shortened m image.of) ⊎ (m ≤ image.of.first) →
+            Contains (entries_from 0 (take m events)) e ⊎ IsLate (length (take m events)) e
+        by (inl has) = inl (subst (λ (o : Observation). Contains (entries_from 0 (take m events)) o) image.same has)
+        by (inr late) =
+            let first : image.of.first ≡ e.first =
+            sym (same_first m image.of) ∙ ap (λ (o : Observation). o.first) image.same in
+            inr (record {
+              begins = omega (arith, length-take m events);
+              open_still = sym (ap (λ (o : Observation). o.returned) image.same) ∙ shortened_open m image.of
+                  (λ r back. let behind = returns_behind 0 events image.of r
+                  (contains_at (entries_from 0 events) i image.of image.at) back in omega arith);
+            })
+
+    single : (i j : ℕ) (e : Observation) → IsImage (shortened m) (entries_from 0 events) i e →
+        IsImage (shortened m) (entries_from 0 events) j e → i ≡ j
+    single i j e a b = own_firsts 0 events i j a.of b.of a.at b.at (sym (same_first m a.of) ∙
+        ap (λ (o : Observation). o.first) (a.same ∙ sym b.same) ∙ same_first m b.of)
+
+    locks : {i : ℕ} (e : Observation) → IsImage (shortened m) (entries_from 0 events) i e →
+        is_lock_call e.call ≡ true
+    locks {i} e image = ap is_lock_call (sym (ap (λ (o : Observation). o.call) image.same) ∙ same_call m image.of) ∙
+        locks_from (λ (lane : ℕ). false) 0 events image.of form
+        (contains_at (entries_from 0 events) i image.of image.at)

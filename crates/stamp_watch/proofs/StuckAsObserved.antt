@@ -1,0 +1,518 @@
+-- A run is stuck at an event exactly where it is as an observed history.
+use Rattle.std.proofs.Common.{◌≡◌, ◌≢◌, ◌⊎◌, ℕ, suc, zero, ◌+◌, ◌==◌, Bool, true, false, List, [], ◌∷◌, ◌++◌, refl}
+use Rattle.std.proofs.Common.{sym, ◌∙◌, ap, subst, inl, inr, arith, add-one, eq-eqb, ne_eqb, Option, Some, None}
+use Rattle.std.specs.Prelude.{slice_get, map, take, drop, nat_lt, not, ◌&&◌, ◌||◌, if◌then◌else◌, ◌↔◌}
+use Rattle.std.specs.List.{Contains}
+use Rattle.std.proofs.lemmas.Bool.{cases_eq, false≢true}
+use Rattle.std.proofs.lemmas.Bool.Decides.{nat_tests}
+use Rattle.std.proofs.lemmas.Option.{none-some, same_Some, slice_get-get_or}
+use Rattle.stamp_core.specs.Limits.{Bounds}
+use Rattle.stamp_core.specs.declared.call.Call.{Call}
+use Rattle.stamp_core.specs.declared.reply.Reply.{Reply}
+use Rattle.stamp_explain.specs.declared.observed.Observation.{Observation}
+use Rattle.stamp_explain.specs.declared.observed.Returned.{Returned}
+use Rattle.stamp_explain.specs.Observed.{observed_as, IsReturnAt}
+use Rattle.stamp_explain.specs.Explained.{IsExplained}
+use Rattle.stamp_explain.specs.Cut.{returned_by, cut_entries}
+use Rattle.stamp_explain.proofs.Lists.{none_in_empty}
+use Rattle.stamp_watch.specs.declared.event.Event.{Event}
+use Rattle.stamp_watch.specs.declared.event.Event.TheVariants.{Begins, Returns, Withdraws}
+use Rattle.stamp_watch.specs.Ahead.{IsWithdrawn}
+use Rattle.stamp_watch.specs.Ahead.IsWithdrawn.{withdrawn_next, withdrawn_past_beginning, withdrawn_past_return}
+use Rattle.stamp_watch.specs.Ahead.IsWithdrawn.{withdrawn_past_withdrawal}
+use Rattle.stamp_watch.specs.AsObserved.{Ending, ending_of, with_entry, entries_from, observed_of, IsStuckAtPosition}
+use Rattle.stamp_watch.specs.AsObserved.{NoneIsWithdrawnLater}
+use Rattle.stamp_watch.specs.AsObserved.Ending.{StaysOpen, EndsBy, EndsWithdrawn}
+use Rattle.stamp_watch.specs.Form.{is_busy_then, MayCome, AreInFormFrom, AreInForm}
+use Rattle.stamp_watch.specs.Run.{AreExplained, AreStuckAt, all_idle}
+use Rattle.stamp_watch.specs.WatchLaws.{StuckAsObserved, StuckAsSeen}
+use Rattle.stamp_watch.proofs.Surviving.{withdrawn_none}
+use Rattle.stamp_watch.proofs.Numbered.{IsEntryOf, entry_returned, in_with_entry, with_entry_has, ended_by_return}
+use Rattle.stamp_watch.proofs.Numbered.{ended_past_withdrawal, ending_last, last_from, open_or_ended, return_ends}
+use Rattle.stamp_watch.proofs.Numbered.{return_spares, withdrawal_spares, contains_at}
+use Rattle.stamp_watch.proofs.Form.{form_up_to, may_come_at, begins_next}
+use Rattle.stamp_watch.proofs.AsObserved.{AreOfRun, run_explained, explained_run}
+use Rattle.stamp_watch.proofs.Shortening.{returned_below, shortened, AreKept, shortened_run}
+
+-- two lanes' calls do not end by one return
+ends_apart : (a b n : ℕ) (events : List Event) (q r : Returned) → ending_of a n events ≡ EndsBy q →
+    ending_of b n events ≡ EndsBy r → q.last ≡ r.last → a ≡ b
+ends_apart a b n [] q r ends other same = absurd (open_or_ended ends)
+ends_apart a b n (Begins lane call ∷ events) q r ends other same = ends_apart a b (n + 1) events q r ends other same
+ends_apart a b n (Returns lane reply ∷ events) q r ends other same = by (ended_by_return a lane n reply events q ends)
+    (ended_by_return b lane n reply events r other)
+    (λ late later. ends_apart a b (n + 1) events q r late later same)
+  where
+    here : {x : Returned} → x ≡ record { last = n; reply = reply } → x.last ≡ n
+    here is = ap (λ (o : Returned). o.last) is
+
+    by : ((lane ≡ a) × (q ≡ record { last = n; reply = reply })) ⊎
+        ((lane ≢ a) × (ending_of a (n + 1) events ≡ EndsBy q)) →
+        ((lane ≡ b) × (r ≡ record { last = n; reply = reply })) ⊎
+        ((lane ≢ b) × (ending_of b (n + 1) events ≡ EndsBy r)) →
+        (ending_of a (n + 1) events ≡ EndsBy q → ending_of b (n + 1) events ≡ EndsBy r → a ≡ b) → a ≡ b
+    by (inl first) (inl second) more = sym first.0 ∙ second.0
+    by (inl first) (inr second) more =
+        let at = here first.1 in let low = ending_last b (n + 1) events r second.1 in absurd (omega arith)
+    by (inr first) (inl second) more =
+        let at = here second.1 in let low = ending_last a (n + 1) events q first.1 in absurd (omega arith)
+    by (inr first) (inr second) more = more first.1 second.1
+ends_apart a b n (Withdraws lane ∷ events) q r ends other same = ends_apart a b (n + 1) events q r
+    (ended_past_withdrawal a lane n events q ends).1 (ended_past_withdrawal b lane n events r other).1 same
+
+-- the return that ends the call of a busy lane ends none that begins later
+ends_none_later : (busy : ℕ → Bool) (lane n : ℕ) (events : List Event) (e : Observation) (q r : Returned) →
+    AreInFormFrom busy events → busy lane ≡ true → ending_of lane n events ≡ EndsBy q →
+    Contains (entries_from n events) e → e.returned ≡ Some r → q.last ≡ r.last → ⊥
+ends_none_later busy lane n [] e q r form is ends has back same = none_in_empty e has
+ends_none_later busy lane n (Begins other call ∷ events) e q r form is ends has back same = by (in_with_entry other
+    call n (ending_of other (n + 1) events) (entries_from (n + 1) events) e has) (λ later. ends_none_later
+    (λ (v : ℕ). is_busy_then v (busy v) (Begins other call)) lane (n + 1) events e q r form.1
+    (ap (λ (b : Bool). b || busy lane) (ne_eqb other lane apart) ∙ is) ends later back same)
+  where
+    apart : other ≢ lane
+    apart e = false≢true (sym form.0.0 ∙ ap busy e ∙ is)
+
+    by : IsEntryOf other call n (ending_of other (n + 1) events) e ⊎ Contains (entries_from (n + 1) events) e →
+        (Contains (entries_from (n + 1) events) e → ⊥) → ⊥
+    by (inl its) _ = apart (sym (ends_apart lane other (n + 1) events q r ends
+        (entry_returned other call n (ending_of other (n + 1) events) e r its back) same))
+    by (inr later) more = more later
+ends_none_later busy lane n (Returns other reply ∷ events) e q r form is ends has back same =
+    by (ended_by_return lane other n reply events q ends) (λ apart more. ends_none_later
+    (λ (v : ℕ). is_busy_then v (busy v) (Returns other reply)) lane (n + 1) events e q r form.1
+    (ap (λ (b : Bool). not b && busy lane) (ne_eqb other lane apart) ∙ is) more has back same)
+  where
+    by : ((other ≡ lane) × (q ≡ record { last = n; reply = reply })) ⊎
+        ((other ≢ lane) × (ending_of lane (n + 1) events ≡ EndsBy q)) →
+        (other ≢ lane → ending_of lane (n + 1) events ≡ EndsBy q → ⊥) → ⊥
+    by (inl here) _ =
+        let at : q.last ≡ n = ap (λ (o : Returned). o.last) here.1 in
+        let low = last_from (n + 1) events e r has back in omega arith
+    by (inr past) more = more past.0 past.1
+ends_none_later busy lane n (Withdraws other ∷ events) e q r form is ends has back same =
+    let past = ended_past_withdrawal lane other n events q ends in ends_none_later
+    (λ (v : ℕ). is_busy_then v (busy v) (Withdraws other)) lane (n + 1) events e q r form.1
+    (ap (λ (b : Bool). not b && busy lane) (ne_eqb other lane past.0) ∙ is) past.1 has back same
+
+-- no two entries return at one position
+HaveOwnLasts : List Observation → Type 0
+HaveOwnLasts entries = (i j : ℕ) (e f : Observation) (q r : Returned) → slice_get entries i ≡ Some e →
+    slice_get entries j ≡ Some f → e.returned ≡ Some q → f.returned ≡ Some r → q.last ≡ r.last → i ≡ j
+
+own_lasts_more : (x : Observation) (entries : List Observation) →
+    ((e : Observation) (q r : Returned) → Contains entries e → x.returned ≡ Some q → e.returned ≡ Some r →
+    q.last ≢ r.last) → HaveOwnLasts entries → HaveOwnLasts (x ∷ entries)
+unfolding HaveOwnLasts
+own_lasts_more x entries others own zero zero e f q r at_e at_f back_e back_f same = refl
+own_lasts_more x entries others own zero (suc j) e f q r at_e at_f back_e back_f same =
+    absurd (others f q r (contains_at entries j f at_f)
+    (ap (λ (o : Observation). o.returned) (same_Some x e at_e) ∙ back_e) back_f same)
+own_lasts_more x entries others own (suc i) zero e f q r at_e at_f back_e back_f same =
+    absurd (others e r q (contains_at entries i e at_e)
+    (ap (λ (o : Observation). o.returned) (same_Some x f at_f) ∙ back_f) back_e (sym same))
+own_lasts_more x entries others own (suc i) (suc j) e f q r at_e at_f back_e back_f same =
+    ap suc (own i j e f q r at_e at_f back_e back_f same)
+
+own_lasts_with : (lane : ℕ) (call : Call) (n : ℕ) (ending : Ending) (entries : List Observation) →
+    ((e : Observation) (q r : Returned) → Contains entries e → ending ≡ EndsBy q → e.returned ≡ Some r →
+    q.last ≢ r.last) → HaveOwnLasts entries → HaveOwnLasts (with_entry lane call n ending entries)
+own_lasts_with lane call n StaysOpen entries others own = own_lasts_more
+    (record { thread = lane; call = call; first = n; returned = None }) entries
+    (λ e q r has is back. absurd (none-some q is)) own
+own_lasts_with lane call n (EndsBy o) entries others own = own_lasts_more
+    (record { thread = lane; call = call; first = n; returned = Some o }) entries
+    (λ e q r has is back. others e q r has (ap EndsBy (same_Some o q is)) back) own
+own_lasts_with lane call n EndsWithdrawn entries others own = own
+
+own_lasts : (busy : ℕ → Bool) (n : ℕ) (events : List Event) → AreInFormFrom busy events →
+    HaveOwnLasts (entries_from n events)
+unfolding HaveOwnLasts
+own_lasts busy n [] form = λ i j e f q r at_e at_f back_e back_f same. absurd (none-some e at_e)
+own_lasts busy n (Begins lane call ∷ events) form = own_lasts_with lane call n (ending_of lane (n + 1) events)
+    (entries_from (n + 1) events)
+    (λ e q r has ends back same. ends_none_later (λ (v : ℕ). is_busy_then v (busy v) (Begins lane call)) lane (n + 1)
+    events e q r form.1 (ap (λ (b : Bool). b || busy lane) (eq-eqb lane lane refl)) ends has back same)
+    (own_lasts (λ (v : ℕ). is_busy_then v (busy v) (Begins lane call)) (n + 1) events form.1)
+own_lasts busy n (Returns lane reply ∷ events) form =
+    own_lasts (λ (v : ℕ). is_busy_then v (busy v) (Returns lane reply)) (n + 1) events form.1
+own_lasts busy n (Withdraws lane ∷ events) form =
+    own_lasts (λ (v : ℕ). is_busy_then v (busy v) (Withdraws lane)) (n + 1) events form.1
+
+-- so a cut at a return is the run up to there
+cut_is_short : (last bound i end : ℕ) (entries : List Observation) →
+    ((j k : ℕ) (e : Observation) → k ≡ i + j → slice_get entries j ≡ Some e →
+    returned_by last bound k e.returned ≡ returned_below end e.returned) →
+    cut_entries last bound i entries ≡ map (shortened end) entries
+cut_is_short last bound i end [] each = refl
+cut_is_short last bound i end (e ∷ entries) each =
+    ap (λ (b : Bool). (if b then e else record e { returned = None }) ∷ cut_entries last bound (i + 1) entries)
+    (each 0 i e (omega arith) refl) ∙ ap (λ (es : List Observation). shortened end e ∷ es)
+    (cut_is_short last bound (i + 1) end entries (λ j k f at is. each (suc j) k f (omega arith) is))
+
+module _ (events : List Event) (form : AreInForm events) (i : ℕ) (e : Observation) (r : Returned)
+    (is_entry : slice_get (entries_from 0 events) i ≡ Some e) (returned : e.returned ≡ Some r)
+  where
+    own : (j : ℕ) (f : Observation) (q : Returned) → slice_get (entries_from 0 events) j ≡ Some f →
+        f.returned ≡ Some q → q.last ≡ r.last → j ≡ i
+    unfolding HaveOwnLasts
+    own j f q at back same = own_lasts (λ (lane : ℕ). false) 0 events form j i f e q r at is_entry back returned same
+
+    pub cut_before_it : cut_entries r.last i 0 (entries_from 0 events) ≡
+        map (shortened r.last) (entries_from 0 events)
+    cut_before_it = cut_is_short r.last i 0 r.last (entries_from 0 events)
+        (λ j k f at is. by j k f.returned at (λ q back. own j f q is back))
+      where
+        by : (j k : ℕ) (o : Option Returned) → k ≡ 0 + j → ((q : Returned) → o ≡ Some q → q.last ≡ r.last → j ≡ i) →
+            returned_by r.last i k o ≡ returned_below r.last o
+        by j k None at one = refl
+        by j k (Some q) at one = test q.last (one q refl)
+          where
+            test : (n : ℕ) → (n ≡ r.last → j ≡ i) →
+                (nat_lt n r.last || ((n == r.last) && nat_lt k i)) ≡ nat_lt n r.last
+            test n here = grind (arith, nat_tests)
+
+    pub cut_after_it : cut_entries r.last (i + 1) 0 (entries_from 0 events) ≡
+        map (shortened (suc r.last)) (entries_from 0 events)
+    cut_after_it = cut_is_short r.last (i + 1) 0 (suc r.last) (entries_from 0 events)
+        (λ j k f at is. by j k f.returned at (λ q back. own j f q is back))
+      where
+        by : (j k : ℕ) (o : Option Returned) → k ≡ 0 + j → ((q : Returned) → o ≡ Some q → q.last ≡ r.last → j ≡ i) →
+            returned_by r.last (i + 1) k o ≡ returned_below (suc r.last) o
+        by j k None at one = refl
+        by j k (Some q) at one = test q.last (one q refl)
+          where
+            test : (n : ℕ) → (n ≡ r.last → j ≡ i) →
+                (nat_lt n r.last || ((n == r.last) && nat_lt k (i + 1))) ≡ nat_lt n (suc r.last)
+            test n here = grind (arith, nat_tests)
+
+-- the event at k, and the events up to it
+take_none : (k : ℕ) (events : List Event) → slice_get events k ≡ None → take (suc k) events ≡ take k events
+take_none zero [] none = refl
+take_none (suc k) [] none = refl
+take_none zero (x ∷ events) none = absurd (none-some x (sym none))
+take_none (suc k) (x ∷ events) none = ap (λ (es : List Event). x ∷ es) (take_none k events none)
+
+take_one : (k : ℕ) (events : List Event) (event : Event) → slice_get events k ≡ Some event →
+    take (suc k) events ≡ take k events ++ event ∷ []
+take_one zero [] event is = absurd (none-some event is)
+take_one (suc k) [] event is = absurd (none-some event is)
+take_one zero (x ∷ events) event is = ap (λ (e : Event). e ∷ []) (same_Some x event is)
+take_one (suc k) (x ∷ events) event is = ap (λ (es : List Event). x ∷ es) (take_one k events event is)
+
+withdrawn_at : (k lane : ℕ) (events : List Event) → slice_get events k ≡ Some (Withdraws lane) →
+    IsWithdrawn lane (drop k events)
+withdrawn_at zero lane [] is = absurd (none-some (Withdraws lane) is)
+withdrawn_at (suc k) lane [] is = absurd (none-some (Withdraws lane) is)
+withdrawn_at zero lane (x ∷ events) is = subst (λ (e : Event). IsWithdrawn lane (e ∷ events))
+    (sym (same_Some x (Withdraws lane) is)) withdrawn_next
+withdrawn_at (suc k) lane (x ∷ events) is = withdrawn_at k lane events is
+
+-- what is kept at a return is kept behind it
+kept_past_return : (k : ℕ) (busy : ℕ → Bool) (events : List Event) (u : ℕ) (reply : Reply) →
+    slice_get events k ≡ Some (Returns u reply) → AreKept busy k events → AreKept busy (suc k) events
+kept_past_return zero busy [] u reply is kept = absurd (none-some (Returns u reply) is)
+kept_past_return (suc k) busy [] u reply is kept = absurd (none-some (Returns u reply) is)
+kept_past_return zero busy (x ∷ events) u reply is kept = λ lane still withdrawn.
+    by lane (cases_eq u lane) (subst (λ (e : Event). is_busy_then lane (busy lane) e ≡ true) first still) withdrawn
+  where
+    first : x ≡ Returns u reply
+    first = same_Some x (Returns u reply) is
+
+    second : (a b : Bool) → (a && b) ≡ true → b ≡ true
+    second true b both = both
+    second false b both = absurd (false≢true both)
+
+    by : (lane : ℕ) → (u ≡ lane) ⊎ (u ≢ lane) → (not (u == lane) && busy lane) ≡ true → IsWithdrawn lane events → ⊥
+    by lane (inl same) still withdrawn =
+        false≢true (sym (ap (λ (b : Bool). not b && busy lane) (eq-eqb u lane same)) ∙ still)
+    by lane (inr apart) still withdrawn = kept lane (second (not (u == lane)) (busy lane) still)
+        (subst (λ (e : Event). IsWithdrawn lane (e ∷ events)) (sym first)
+        (withdrawn_past_return u reply apart withdrawn))
+kept_past_return (suc k) busy (x ∷ events) u reply is kept =
+    kept_past_return k (λ (lane : ℕ). is_busy_then lane (busy lane) x) events u reply is kept
+
+-- an entry that returns so
+record HasReturnAt (entries : List Observation) (r : Returned) : Type 0 where
+  entry : Observation
+  has : Contains entries entry
+  back : entry.returned ≡ Some r
+
+-- the call that returns so is open in this lane, or has its entry behind
+abbrev IsOfCall : Bool → Ending → List Observation → Returned → Type 0
+IsOfCall busy ending entries r = ((busy ≡ true) × (ending ≡ EndsBy r)) ⊎ HasReturnAt entries r
+
+call_past_end : (busy : Bool) (other lane : ℕ) (ending then_ending : Ending) (entries : List Observation)
+    (r : Returned) → (other ≢ lane → ending ≡ then_ending) →
+    IsOfCall (not (other == lane) && busy) then_ending entries r → IsOfCall busy ending entries r
+call_past_end busy other lane ending then_ending entries r spares (inr found) = inr found
+call_past_end busy other lane ending then_ending entries r spares (inl open_now) = by (cases_eq other lane)
+  where
+    by : (other ≡ lane) ⊎ (other ≢ lane) → IsOfCall busy ending entries r
+    by (inl its) = absurd (false≢true (sym (ap (λ (b : Bool). not b && busy) (eq-eqb other lane its)) ∙ open_now.0))
+    by (inr apart) = inl (
+      sym (ap (λ (b : Bool). not b && busy) (ne_eqb other lane apart)) ∙ open_now.0,
+      spares apart ∙ open_now.1,
+    )
+
+call_past_beginning : (busy : Bool) (other lane n : ℕ) (call : Call) (events : List Event) (r : Returned) →
+    IsOfCall ((other == lane) || busy) (ending_of lane (n + 1) events) (entries_from (n + 1) events) r →
+    IsOfCall busy (ending_of lane (n + 1) events) (entries_from n (Begins other call ∷ events)) r
+call_past_beginning busy other lane n call events r (inr found) = inr (record {
+  entry = found.entry;
+  has = with_entry_has other call n (ending_of other (n + 1) events) (entries_from (n + 1) events) found.entry
+      (inr found.has);
+  back = found.back;
+})
+call_past_beginning busy other lane n call events r (inl open_now) = by (cases_eq other lane)
+  where
+    is_its : other ≡ lane → IsEntryOf other call n (ending_of other (n + 1) events)
+        (record { thread = other; call = call; first = n; returned = Some r })
+    is_its same = rw (same, open_now.1) refl
+
+    by : (other ≡ lane) ⊎ (other ≢ lane) →
+        IsOfCall busy (ending_of lane (n + 1) events) (entries_from n (Begins other call ∷ events)) r
+    by (inl same) = inr (record {
+      entry = record { thread = other; call = call; first = n; returned = Some r };
+      has = with_entry_has other call n (ending_of other (n + 1) events) (entries_from (n + 1) events)
+          (record { thread = other; call = call; first = n; returned = Some r }) (inl (is_its same));
+      back = refl;
+    })
+    by (inr apart) = inl (sym (ap (λ (b : Bool). b || busy) (ne_eqb other lane apart)) ∙ open_now.0, open_now.1)
+
+-- each return is that of a call
+call_of_return : (busy : ℕ → Bool) (n k : ℕ) (events : List Event) (lane : ℕ) (r : Returned) → r.last ≡ n + k →
+    AreInFormFrom busy events → slice_get events k ≡ Some (Returns lane r.reply) →
+    IsOfCall (busy lane) (ending_of lane n events) (entries_from n events) r
+call_of_return busy n zero [] lane r at form is = absurd (none-some (Returns lane r.reply) is)
+call_of_return busy n (suc k) [] lane r at form is = absurd (none-some (Returns lane r.reply) is)
+call_of_return busy n zero (x ∷ events) lane r at form is = inl (
+  subst (λ (e : Event). MayCome busy e) first form.0,
+  subst (λ (e : Event). ending_of lane n (e ∷ events) ≡ EndsBy r) (sym first)
+      (return_ends lane lane n r.reply events refl ∙
+      ap (λ (m : ℕ). EndsBy (record { last = m; reply = r.reply })) (omega arith)),
+)
+  where
+    first : x ≡ Returns lane r.reply
+    first = same_Some x (Returns lane r.reply) is
+call_of_return busy n (suc k) (Begins other call ∷ events) lane r at form is =
+    call_past_beginning (busy lane) other lane n call events r
+    (call_of_return (λ (v : ℕ). is_busy_then v (busy v) (Begins other call)) (n + 1) k events lane r (omega arith)
+    form.1 is)
+call_of_return busy n (suc k) (Returns other reply ∷ events) lane r at form is = call_past_end (busy lane) other lane
+    (ending_of lane n (Returns other reply ∷ events)) (ending_of lane (n + 1) events) (entries_from (n + 1) events) r
+    (return_spares lane other n reply events)
+    (call_of_return (λ (v : ℕ). is_busy_then v (busy v) (Returns other reply)) (n + 1) k events lane r (omega arith)
+    form.1 is)
+call_of_return busy n (suc k) (Withdraws other ∷ events) lane r at form is = call_past_end (busy lane) other lane
+    (ending_of lane n (Withdraws other ∷ events)) (ending_of lane (n + 1) events) (entries_from (n + 1) events) r
+    (withdrawal_spares lane other n events)
+    (call_of_return (λ (v : ℕ). is_busy_then v (busy v) (Withdraws other)) (n + 1) k events lane r (omega arith)
+    form.1 is)
+
+-- and an entry that returned has its return among the events
+abbrev IsReturnThere : ℕ → List Event → Type 0
+IsReturnThere k events = (lane : ℕ) × ((reply : Reply) × (slice_get events k ≡ Some (Returns lane reply)))
+
+return_of_ending : (lane n k : ℕ) (events : List Event) (r : Returned) → ending_of lane n events ≡ EndsBy r →
+    r.last ≡ n + k → IsReturnThere k events
+return_of_ending lane n k [] r ends at = absurd (open_or_ended ends)
+return_of_ending lane n zero (Begins other call ∷ events) r ends at =
+    let low = ending_last lane (n + 1) events r ends in absurd (omega arith)
+return_of_ending lane n (suc k) (Begins other call ∷ events) r ends at =
+    return_of_ending lane (n + 1) k events r ends (omega arith)
+return_of_ending lane n zero (Returns other reply ∷ events) r ends at = (other, (reply, refl))
+return_of_ending lane n (suc k) (Returns other reply ∷ events) r ends at =
+    by (ended_by_return lane other n reply events r ends)
+    (λ more. return_of_ending lane (n + 1) k events r more (omega arith))
+  where
+    by : ((other ≡ lane) × (r ≡ record { last = n; reply = reply })) ⊎
+        ((other ≢ lane) × (ending_of lane (n + 1) events ≡ EndsBy r)) →
+        (ending_of lane (n + 1) events ≡ EndsBy r → IsReturnThere k events) → IsReturnThere k events
+    by (inl here) _ = let last : r.last ≡ n = ap (λ (o : Returned). o.last) here.1 in absurd (omega arith)
+    by (inr past) more = more past.1
+return_of_ending lane n zero (Withdraws other ∷ events) r ends at =
+    let low = ending_last lane (n + 1) events r (ended_past_withdrawal lane other n events r ends).1 in
+    absurd (omega arith)
+return_of_ending lane n (suc k) (Withdraws other ∷ events) r ends at = return_of_ending lane (n + 1) k events r
+    (ended_past_withdrawal lane other n events r ends).1 (omega arith)
+
+return_of_entry : (n k : ℕ) (events : List Event) (e : Observation) (r : Returned) →
+    Contains (entries_from n events) e → e.returned ≡ Some r → r.last ≡ n + k → IsReturnThere k events
+return_of_entry n k [] e r has back at = absurd (none_in_empty e has)
+return_of_entry n zero events e r has back at = let low = last_from n events e r has back in absurd (omega arith)
+return_of_entry n (suc k) (Begins lane call ∷ events) e r has back at = by (in_with_entry lane call n
+    (ending_of lane (n + 1) events) (entries_from (n + 1) events) e has)
+    (λ later. return_of_entry (n + 1) k events e r later back (omega arith))
+  where
+    by : IsEntryOf lane call n (ending_of lane (n + 1) events) e ⊎ Contains (entries_from (n + 1) events) e →
+        (Contains (entries_from (n + 1) events) e → IsReturnThere k events) → IsReturnThere k events
+    by (inl is) _ = return_of_ending lane (n + 1) k events r
+        (entry_returned lane call n (ending_of lane (n + 1) events) e r is back) (omega arith)
+    by (inr later) more = more later
+return_of_entry n (suc k) (Returns lane reply ∷ events) e r has back at =
+    return_of_entry (n + 1) k events e r has back (omega arith)
+return_of_entry n (suc k) (Withdraws lane ∷ events) e r has back at =
+    return_of_entry (n + 1) k events e r has back (omega arith)
+
+-- at the return of an entry, with the events up to it
+module _ (limits : Bounds) (events : List Event) (form : AreInForm events) (i : ℕ) (e : Observation) (r : Returned)
+    (is_entry : slice_get (entries_from 0 events) i ≡ Some e) (returned : e.returned ≡ Some r)
+    (kept : AreKept (λ (lane : ℕ). false) r.last events)
+  where
+    before : AreOfRun (map (shortened r.last) (entries_from 0 events)) (take r.last events)
+    before = shortened_run r.last events form kept
+
+    there : IsReturnThere r.last events
+    there = return_of_entry 0 r.last events e r (contains_at (entries_from 0 events) i e is_entry) returned
+        (omega arith)
+
+    after : AreOfRun (map (shortened (suc r.last)) (entries_from 0 events)) (take (suc r.last) events)
+    after = shortened_run (suc r.last) events form (kept_past_return r.last (λ (lane : ℕ). false) events there.0
+        there.1.0 there.1.1 kept)
+
+    pub explained_before : AreExplained limits (take r.last events) →
+        IsExplained (observed_as limits 0 (cut_entries r.last i 0 (entries_from 0 events)))
+    explained_before explained = subst (λ (es : List Observation). IsExplained (observed_as limits 0 es))
+        (sym (cut_before_it events form i e r is_entry returned))
+        (run_explained limits (map (shortened r.last) (entries_from 0 events)) (take r.last events) before explained)
+
+    pub before_explained : IsExplained (observed_as limits 0 (cut_entries r.last i 0 (entries_from 0 events))) →
+        AreExplained limits (take r.last events)
+    before_explained explained = explained_run limits (map (shortened r.last) (entries_from 0 events))
+        (take r.last events) (form_up_to r.last (λ (lane : ℕ). false) events form) before
+        (subst (λ (es : List Observation). IsExplained (observed_as limits 0 es))
+        (cut_before_it events form i e r is_entry returned) explained)
+
+    pub explained_after : AreExplained limits (take (suc r.last) events) →
+        IsExplained (observed_as limits 0 (cut_entries r.last (i + 1) 0 (entries_from 0 events)))
+    explained_after explained = subst (λ (es : List Observation). IsExplained (observed_as limits 0 es))
+        (sym (cut_after_it events form i e r is_entry returned))
+        (run_explained limits (map (shortened (suc r.last)) (entries_from 0 events)) (take (suc r.last) events) after
+        explained)
+
+    pub after_explained : IsExplained (observed_as limits 0 (cut_entries r.last (i + 1) 0 (entries_from 0 events))) →
+        AreExplained limits (take (suc r.last) events)
+    after_explained explained = explained_run limits (map (shortened (suc r.last)) (entries_from 0 events))
+        (take (suc r.last) events) (form_up_to (suc r.last) (λ (lane : ℕ). false) events form) after
+        (subst (λ (es : List Observation). IsExplained (observed_as limits 0 es))
+        (cut_after_it events form i e r is_entry returned) explained)
+
+stuck_there : (limits : Bounds) (events : List Event) (k : ℕ) → AreInForm events → NoneIsWithdrawnLater k events →
+    AreStuckAt limits events k → IsStuckAtPosition (observed_of limits events) k
+stuck_there limits events k form kept are = at (slice_get events k) refl
+  where
+    stuck : ¬ AreExplained limits (take (suc k) events)
+    stuck explained = are.stuck (subst (λ (n : ℕ). AreExplained limits (take n events)) (sym (add-one k)) explained)
+
+    here : (reply : Reply) → HasReturnAt (entries_from 0 events) (record { last = k; reply = reply }) →
+        IsStuckAtPosition (observed_of limits events) k
+    here reply found = record {
+      entry = found.has.0;
+      stuck = record {
+        at = record {
+          entry = found.entry;
+          return = record { last = k; reply = reply };
+          is_entry = place;
+          returned = found.back;
+        };
+        explained = explained_before limits events form found.has.0 found.entry (record { last = k; reply = reply })
+            place found.back kept are.explained;
+        stuck = λ explained. stuck (after_explained limits events form found.has.0 found.entry
+            (record { last = k; reply = reply }) place found.back kept explained);
+      };
+      here = refl;
+    }
+      where
+        place : slice_get (entries_from 0 events) found.has.0 ≡ Some found.entry
+        place = slice_get-get_or (entries_from 0 events) found.has.0 found.entry found.has.1 ∙
+            ap (λ (o : Observation). Some o) found.has.2
+
+    returned : (lane : ℕ) (reply : Reply) →
+        IsOfCall false (ending_of lane 0 events) (entries_from 0 events) (record { last = k; reply = reply }) →
+        IsStuckAtPosition (observed_of limits events) k
+    returned lane reply (inl never) = absurd (false≢true never.0)
+    returned lane reply (inr found) = here reply found
+
+    by : (event : Event) → slice_get events k ≡ Some event → IsStuckAtPosition (observed_of limits events) k
+    by (Begins lane call) is = absurd (stuck (subst (AreExplained limits)
+        (sym (take_one k events (Begins lane call) is)) (begins_next limits lane call (take k events) [] all_idle false
+        refl (may_come_at k (λ (other : ℕ). false) events (Begins lane call) form is).0 are.explained)))
+    by (Returns lane reply) is = returned lane reply (call_of_return (λ (other : ℕ). false) 0 k events lane
+        (record { last = k; reply = reply }) (omega arith) form is)
+    by (Withdraws lane) is = absurd (kept lane (may_come_at k (λ (other : ℕ). false) events (Withdraws lane) form is)
+        (withdrawn_at k lane events is))
+
+    at : (o : Option Event) → slice_get events k ≡ o → IsStuckAtPosition (observed_of limits events) k
+    at None is = absurd (stuck (subst (AreExplained limits) (sym (take_none k events is)) are.explained))
+    at (Some event) is = by event is
+
+there_stuck : (limits : Bounds) (events : List Event) (k : ℕ) → AreInForm events → NoneIsWithdrawnLater k events →
+    IsStuckAtPosition (observed_of limits events) k → AreStuckAt limits events k
+there_stuck limits events k form kept found = subst (AreStuckAt limits events) found.here (record {
+  explained = before_explained limits events form found.entry at.entry at.return at.is_entry at.returned now
+      found.stuck.explained;
+  stuck = λ explained. found.stuck.stuck (explained_after limits events form found.entry at.entry at.return at.is_entry
+      at.returned now (subst (λ (n : ℕ). AreExplained limits (take n events)) (add-one at.return.last) explained));
+})
+  where
+    at : IsReturnAt (entries_from 0 events) found.entry
+    at = found.stuck.at
+
+    now : AreKept (λ (lane : ℕ). false) found.stuck.at.return.last events
+    now = subst (λ (n : ℕ). AreKept (λ (lane : ℕ). false) n events) (sym found.here) kept
+
+pub stuck_as_observed : StuckAsObserved
+stuck_as_observed limits events k form kept =
+    ((λ are. stuck_there limits events k form kept are), (λ found. there_stuck limits events k form kept found))
+
+-- a run up to an event, of which the event is the last
+take_short : (k : ℕ) (events : List Event) → take k (take (suc k) events) ≡ take k events
+take_short zero events = refl
+take_short (suc k) [] = refl
+take_short (suc k) (x ∷ events) = ap (λ (es : List Event). x ∷ es) (take_short k events)
+
+take_twice : (k : ℕ) (events : List Event) → take k (take k events) ≡ take k events
+take_twice zero events = refl
+take_twice (suc k) [] = refl
+take_twice (suc k) (x ∷ events) = ap (λ (es : List Event). x ∷ es) (take_twice k events)
+
+withdrawn_alone : {lane : ℕ} {event : Event} → IsWithdrawn lane (event ∷ []) → event ≡ Withdraws lane
+withdrawn_alone withdrawn_next = refl
+withdrawn_alone (withdrawn_past_beginning other call none) = absurd (withdrawn_none none)
+withdrawn_alone (withdrawn_past_return other reply apart none) = absurd (withdrawn_none none)
+withdrawn_alone (withdrawn_past_withdrawal other apart none) = absurd (withdrawn_none none)
+
+withdrawn_last : (k lane : ℕ) (events : List Event) → IsWithdrawn lane (drop k (take (suc k) events)) →
+    slice_get events k ≡ Some (Withdraws lane)
+withdrawn_last zero lane [] withdrawn = absurd (withdrawn_none withdrawn)
+withdrawn_last (suc k) lane [] withdrawn = absurd (withdrawn_none withdrawn)
+withdrawn_last zero lane (x ∷ events) withdrawn = ap (λ (e : Event). Some e) (withdrawn_alone withdrawn)
+withdrawn_last (suc k) lane (x ∷ events) withdrawn = withdrawn_last k lane events withdrawn
+
+pub stuck_as_seen : StuckAsSeen
+stuck_as_seen limits events k form no_withdrawal = ((λ are. same.0 (shorter are)), (λ found. longer (same.1 found)))
+  where
+    none_later : NoneIsWithdrawnLater k (take (k + 1) events)
+    none_later lane busy withdrawn = no_withdrawal lane (withdrawn_last k lane events
+        (subst (λ (n : ℕ). IsWithdrawn lane (drop k (take n events))) (add-one k) withdrawn))
+
+    same : AreStuckAt limits (take (k + 1) events) k ↔
+        IsStuckAtPosition (observed_of limits (take (k + 1) events)) k
+    same = stuck_as_observed limits (take (k + 1) events) k
+        (form_up_to (k + 1) (λ (lane : ℕ). false) events form) none_later
+
+    first : take k (take (k + 1) events) ≡ take k events
+    first = ap (λ (n : ℕ). take k (take n events)) (add-one k) ∙ take_short k events
+
+    shorter : AreStuckAt limits events k → AreStuckAt limits (take (k + 1) events) k
+    shorter are = record {
+      explained = subst (AreExplained limits) (sym first) are.explained;
+      stuck = λ explained. are.stuck (subst (AreExplained limits) (take_twice (k + 1) events) explained);
+    }
+
+    longer : AreStuckAt limits (take (k + 1) events) k → AreStuckAt limits events k
+    longer are = record {
+      explained = subst (AreExplained limits) first are.explained;
+      stuck = λ explained. are.stuck (subst (AreExplained limits) (sym (take_twice (k + 1) events)) explained);
+    }

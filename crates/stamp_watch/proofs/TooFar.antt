@@ -1,0 +1,76 @@
+-- A call that is open for too long.
+use Rattle.std.proofs.Common.{ℕ, zero, suc, ◌≡◌, ◌+◌, ◌-◌, ◌<◌, ◌≤◌, List, [], ◌∷◌, ◌++◌, length, get_or, Some, sym}
+use Rattle.std.proofs.Common.{◌∙◌}
+use Rattle.std.proofs.Common.{ap, subst, arith}
+use Rattle.std.specs.Prelude.{take, drop}
+use Rattle.std.proofs.lemmas.List.{take-append-le, drop-append-le, length-append}
+use Rattle.stamp_core.specs.Limits.{Bounds}
+use Rattle.stamp_watch.specs.declared.event.Event.{Event}
+use Rattle.stamp_watch.specs.declared.event.Event.TheVariants.{Begins, Returns, Withdraws}
+use Rattle.stamp_watch.specs.declared.ending.Ending.{Ending}
+use Rattle.stamp_watch.specs.declared.ending.Ending.TheVariants.{Never}
+use Rattle.stamp_watch.specs.declared.verdict.Verdict.TheVariants as verdict
+use Rattle.stamp_watch.specs.declared.verdict.Why.TheVariants as cause
+use Rattle.stamp_watch.specs.declared.watch.Watch.{Watch}
+use Rattle.stamp_watch.specs.Ahead.{EndsNever}
+use Rattle.stamp_watch.specs.Ahead.EndsNever.{never_more, not_beginning, not_returning, not_withdrawing}
+use Rattle.stamp_watch.specs.Judging.{ends_as, IsFound}
+use Rattle.stamp_watch.specs.Course.{IsRunOn}
+use Rattle.stamp_watch.specs.Run.{AreExplained}
+use Rattle.stamp_watch.specs.Verdict.{AreOfLock, IsOpenFor}
+use Rattle.stamp_watch.specs.inner.Judging.{IsEndTold}
+use Rattle.stamp_watch.specs.inner.Course.{IsUnknown}
+use Rattle.stamp_watch.proofs.Judging.{ends_so}
+use Rattle.stamp_watch.proofs.LettingGo.{run_behind, run_length}
+use Rattle.stamp_watch.proofs.Reading.{drop_read}
+use Rattle.stamp_watch.proofs.Running.{cut_run, part_of_lock}
+use Rattle.stamp_watch.proofs.Surviving.{never_past_beginning, never_past_return, never_past_withdrawal}
+
+never_up_to : (lane k : ℕ) (events : List Event) → EndsNever lane events → EndsNever lane (take k events)
+never_up_to lane zero events never = never_more
+never_up_to lane (suc k) [] never = never_more
+never_up_to lane (suc k) (Begins other call ∷ events) never =
+    not_beginning other call (never_up_to lane k events (never_past_beginning never))
+never_up_to lane (suc k) (Returns other reply ∷ events) never = not_returning other reply (never_past_return never).0
+    (never_up_to lane k events (never_past_return never).1)
+never_up_to lane (suc k) (Withdraws other ∷ events) never = not_withdrawing other (never_past_withdrawal never).0
+    (never_up_to lane k events (never_past_withdrawal never).1)
+
+open_for : (e : Event) (n k ahead : ℕ) (ends : Ending) (run behind more : List Event) → IsUnknown e ends →
+    IsEndTold e n behind ends → drop k run ≡ e ∷ behind ++ more → ahead ≤ length behind → IsOpenFor run k ahead
+open_for (Begins lane call) n k ahead ends run behind more never told there many = record {
+  lane = lane;
+  call = call;
+  later = behind ++ more;
+  there = there;
+  many = let long : length (behind ++ more) ≡ length behind + length more = length-append behind more in
+      omega (arith, long, many);
+  never = subst (EndsNever lane) (sym (take-append-le ahead behind more many))
+      (never_up_to lane ahead behind (ends_so lane n behind Never (sym (ap ends_as never) ∙ told)));
+}
+open_for (Returns lane reply) n k ahead ends run behind more never told there many = absurd never
+open_for (Withdraws lane) n k ahead ends run behind more never told there many = absurd never
+
+module _ (limits : Bounds) (run : List Event) (first seen : ℕ) (events : List Event) (base watch : Watch)
+    (is : IsRunOn limits run first seen events base watch) (e : Event) (less : seen < length events)
+    (read : e ≡ get_or events seen e) where
+  there : (more : List Event) → drop (first + seen) (run ++ more) ≡ e ∷ drop (seen + 1) events ++ more
+  there more = drop-append-le (first + seen) run more within ∙
+      ap (λ (xs : List Event). xs ++ more)
+      (run_behind limits run first seen events base watch is seen ∙ drop_read events seen e less read)
+    where
+      within : first + seen ≤ length run
+      within = let long : length run ≡ first + length events = run_length limits run first seen events base watch is in
+          omega (arith, long, less)
+
+  -- the call that begins by the event at the front does not end among so many events
+  pub run_too_far : (most ahead n : ℕ) (ends : Ending) → ahead ≤ length (drop (seen + 1) events) → IsUnknown e ends →
+      IsEndTold e n (drop (seen + 1) events) ends →
+      IsFound limits run most (Some ahead) (verdict.Undecided (first + seen) cause.TooFar)
+  run_too_far most ahead n ends many unknown told more = (
+    subst AreOfLock (sym (cut_run limits run first seen events base watch is seen more is.within))
+        (part_of_lock limits run first seen events base watch is seen),
+    subst (AreExplained limits) (sym (cut_run limits run first seen events base watch is seen more is.within))
+        is.now.judging.explained,
+    open_for e n (first + seen) ahead ends (run ++ more) (drop (seen + 1) events) more unknown told (there more) many,
+  )

@@ -1,0 +1,27 @@
+use Rattle.std.proofs.Common.{sym, ◌∙◌, subst}
+use Rattle.stamp_watch.specs.declared.position.Position.{Position}
+use Rattle.stamp_watch.specs.inner.Effect.{Settles}
+use Rattle.stamp_watch.proofs.CountingLanes.{lanes_in_less}
+use Rattle.stamp_watch.proofs.TakingEffect.{same_word_admitted, settles_none, settles_more}
+use Rattle.stamp_watch.proofs.effect.settled.Goals as goal
+use Rattle.stamp_watch.proofs.effect.settled.Goals.{in-Some, in_default}
+
+pub loop-rest-init : goal.loop-rest-init
+loop-rest-init c = settles_none c.args.limits c.args.table.now c.args.position
+
+pub at_once-settled-requires-clause-admitted : goal.at_once-settled-requires-clause-admitted
+at_once-settled-requires-clause-admitted c = same_word_admitted c.args.limits c.args.position.word
+    c.loop-rest.settled.word c.loop-rest.invariant.word c.requires
+
+pub loop-rest-preserved : goal.loop-rest-preserved
+loop-rest-preserved c = elim c.match-open_in.branch [
+  | in-Some w ↦ subst (λ (p : Position). Settles c.args.limits c.args.table.now c.args.position p) (sym w.settled-is)
+      (settles_more c.args.limits c.args.table.now c.args.position c.loop-rest.settled w.at_once-settled.result
+      c.loop-rest.invariant (w.at_once-settled.ensures c.args.table.now (sym c.open_in.ensures ∙ w.in-Some.is)))
+  | in_default w ↦ subst (λ (p : Position). Settles c.args.limits c.args.table.now c.args.position p)
+      (sym w.settled-is) c.loop-rest.invariant
+]
+
+pub loop-rest-smaller : goal.loop-rest-smaller
+loop-rest-smaller c = lanes_in_less c.loop-rest.rest c.without_lane-rest.result c.first_lane-lane.result
+    c.first_lane-lane.ensures.within c.without_lane-rest.ensures c.first_lane-lane.ensures.among

@@ -1,0 +1,29 @@
+use Rattle.std.proofs.Common.{[], ◌∷◌, ◌++◌, Some, refl, sym, subst}
+use Rattle.stamp_watch.specs.declared.verdict.Verdict.{Verdict}
+use Rattle.stamp_watch.specs.Judging.{IsFound}
+use Rattle.stamp_watch.proofs.GoingOn.{found_broken, judge_broken}
+use Rattle.stamp_watch.proofs.online.Judge.break_off.Goals as goal
+
+pub returns-clause-found : goal.returns-clause-found
+returns-clause-found c limits most ahead run is =
+    subst (λ (v : Verdict). IsFound limits (run ++ c.args.event.now ∷ []) most (Some ahead) v)
+    (sym c.broken_off-verdict.ensures)
+    (found_broken limits most ahead run c.args.event.now c.args.self.now is c.requires.none c.count.result
+    c.in_ok-rest.rest
+    c.count.ensures c.requires.not c.in_ok-rest.ensures)
+
+pub returns-clause-given : goal.returns-clause-given
+returns-clause-given c limits most ahead run is = judge_broken limits most ahead run c.args.event.now c.args.self.now
+    is c.requires.none _
+    c.broken_off-verdict.result refl refl refl refl (returns-clause-found c limits most ahead run is)
+
+pub returns-clause-known : goal.returns-clause-known
+returns-clause-known c =
+    let some = c.requires.some in
+    record {
+      limits = some.limits;
+      most = some.most;
+      ahead = some.ahead;
+      run = some.run ++ c.args.event.now ∷ [];
+      judge_of = returns-clause-given c some.limits some.most some.ahead some.run some.judge_of;
+    }

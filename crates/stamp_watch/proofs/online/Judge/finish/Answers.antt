@@ -1,0 +1,16 @@
+use Rattle.std.proofs.Common.{ℕ, Some, subst}
+use Rattle.std.proofs.lemmas.Result.{IfOk-weaker}
+use Rattle.stamp_watch.specs.inner.Course.{IsRest}
+use Rattle.stamp_watch.proofs.GoingOn.{found_of, way_of}
+use Rattle.stamp_watch.proofs.Running.{found_now, rest_now}
+use Rattle.stamp_watch.proofs.online.Judge.finish.Goals as goal
+
+pub returns-in-Some : goal.returns-in-Some
+returns-in-Some c limits most ahead run is = found_now limits run most (Some ahead) c.in-Some.verdict
+    (found_of limits most ahead run c.args.self.now is c.in-Some.verdict c.in-Some.is)
+
+pub returns-in-None : goal.returns-in-None
+returns-in-None c = IfOk-weaker c.rest.result _ _
+    (λ verdict rest limits most ahead run is. rest_now limits run most (Some ahead) verdict
+    (subst (λ (m : ℕ). IsRest limits run m (Some ahead) verdict) is.most_is (rest (Some ahead) limits run
+    (way_of limits most ahead run c.args.self.now is c.in-None.is).course_of))) c.rest.ensures

@@ -1,0 +1,71 @@
+-- What is kept of a run while it is judged, event by event.
+use Rattle.std.specs.Prelude.{ℕ, ◌≡◌, ◌≢◌, ◌+◌, ◌^◌, ◌<◌, ◌≤◌, ◌++◌, true, List, [], ◌∷◌, length, take, drop}
+use Rattle.stamp_core.specs.Limits.{Bounds}
+use Rattle.stamp_watch.specs.declared.event.Event.{Event}
+use Rattle.stamp_watch.specs.declared.event.Event.TheVariants.{Begins, Returns, Withdraws}
+use Rattle.stamp_watch.specs.declared.course.Course.{Course}
+use Rattle.stamp_watch.specs.declared.watch.Watch.{Watch}
+use Rattle.stamp_watch.specs.Ahead.{EndsNever}
+use Rattle.stamp_watch.specs.AsObserved.{ending_of}
+use Rattle.stamp_watch.specs.AsObserved.Ending.{StaysOpen}
+use Rattle.stamp_watch.specs.Form.{is_busy_after}
+use Rattle.stamp_watch.specs.Verdict.{AreOfLock}
+use Rattle.stamp_watch.specs.Judging.{IsJudging}
+
+-- the open calls of a run end among the events that come; the first of these has this number
+pub record AreEnded (n : ℕ) (past future : List Event) : Type 0 where
+  pub ends : (lane : ℕ) → is_busy_after past lane ≡ true → ending_of lane n future ≢ StaysOpen
+
+-- a watch judges a run, whatever comes behind these events
+pub record IsStanding (limits : Bounds) (n : ℕ) (past future : List Event) (watch : Watch) : Type 0 where
+  pub judging : IsJudging limits n past future watch
+  pub ended : AreEnded n past future
+
+-- a run so far: the events before the one with the first number, and these; a watch stands behind those before, and
+-- another behind so many of these as well
+pub record IsRunOn (limits : Bounds) (run : List Event) (first seen : ℕ) (events : List Event) (base watch : Watch) :
+    Type 0 where
+  pub past : List Event
+  pub run_is : run ≡ past ++ events
+  pub place : first ≡ length past
+  pub whole : AreOfLock (past ++ events)
+  pub within : seen ≤ length events
+  pub from_base : IsStanding limits first past (take seen events) base
+  pub now : IsStanding limits (first + seen) (past ++ take seen events) (drop seen events) watch
+
+-- a watch stands behind so many events of a run, and its open calls end among so many that come then
+pub record IsSpare (limits : Bounds) (run : List Event) (place reach : ℕ) (spare : Watch) : Type 0 where
+  pub within : place + reach ≤ length run
+  pub standing : IsStanding limits place (take place run) (take reach (drop place run)) spare
+
+-- none of these events ends the call that begins by the event
+abbrev pub LeavesOpen : Event → List Event → Type 0
+LeavesOpen (Begins lane call) events = EndsNever lane events
+LeavesOpen (Returns lane reply) events = Unit {0}
+LeavesOpen (Withdraws lane) events = Unit {0}
+
+-- none of so many events behind the first of these ends its call
+abbrev pub IsLooked : ℕ → List Event → Type 0
+IsLooked looked [] = looked ≡ 0
+IsLooked looked (event ∷ events) = (looked ≤ length events) × LeavesOpen event (take looked events)
+
+-- the course of this run
+pub record IsCourse (limits : Bounds) (run : List Event) (course : Course) : Type 0 where
+  pub on : IsRunOn limits run course.first course.seen course.events.items course.base course.watch
+  pub looked : IsLooked course.looked (drop course.seen course.events.items)
+  pub spare_is : IsSpare limits run (course.first + course.place) course.reach course.spare
+
+-- its events can be numbered
+pub record HasRoom (course : Course) : Type 0 where
+  pub room : course.first + length course.events.items < 2 ^ 64
+
+-- few events are kept, where so many are looked at for the end of a call
+pub record IsSmall (ahead : ℕ) (course : Course) : Type 0 where
+  pub place : course.place ≤ ahead + 1024
+  pub reach : course.reach ≤ ahead + 1
+  pub seen : course.seen ≤ course.place + (ahead + 1024)
+  pub events : length course.events.items ≤ course.seen + ahead + 1
+
+-- one event more may come then
+pub record IsNear (ahead : ℕ) (course : Course) : Type 0 where
+  pub events : length course.events.items ≤ course.seen + ahead

@@ -1,0 +1,50 @@
+-- How a run is judged whose events are known.
+use Rattle.std.specs.Prelude.{ℕ, ◌≡◌, ◌<◌, ◌≤◌, ◌↔◌, ◌++◌, true, List, Option, Some}
+use Rattle.std.specs.Int.{bit_at}
+use Rattle.std.specs.Option.{is_some}
+use Rattle.stamp_core.specs.Limits.{Bounds}
+use Rattle.stamp_core.specs.LockDecision.{reply_as}
+use Rattle.stamp_watch.specs.declared.event.Event.{Event}
+use Rattle.stamp_watch.specs.declared.ending.Ending.{Ending}
+use Rattle.stamp_watch.specs.declared.ending.Ending.TheVariants.{Returns, Withdraws, Never}
+use Rattle.stamp_watch.specs.declared.open_call.OpenCall.{OpenCall}
+use Rattle.stamp_watch.specs.declared.verdict.Verdict.{Verdict}
+use Rattle.stamp_watch.specs.declared.watch.Watch.{Watch}
+use Rattle.stamp_watch.specs.AsObserved as observed
+use Rattle.stamp_watch.specs.AsObserved.{ending_of}
+use Rattle.stamp_watch.specs.AsObserved.Ending.{StaysOpen, EndsBy, EndsWithdrawn}
+use Rattle.stamp_watch.specs.Foretold.{open_at}
+use Rattle.stamp_watch.specs.Form.{is_busy_after}
+use Rattle.stamp_watch.specs.Run.{AreExplained}
+use Rattle.stamp_watch.specs.Verdict.{AreOfLock, IsVerdict}
+use Rattle.stamp_watch.specs.Watch.{IsWatching}
+
+-- the lanes of this number are those with an open call
+pub record AreBusyLanes (past : List Event) (busy : ℕ) : Type 0 where
+  pub same : (lane : ℕ) → lane < 64 → (is_busy_after past lane ≡ true) ↔ (bit_at busy lane ≡ 1)
+
+-- the end of a call as its entry tells it
+abbrev pub ends_as : Ending → observed.Ending
+ends_as (Returns told place) = EndsBy (record { last = place; reply = reply_as told })
+ends_as Withdraws = EndsWithdrawn
+ends_as Never = StaysOpen
+
+-- the whole run is in form, and what comes is as was told of each open call; the first event of it has this number
+pub record IsFollowed (n : ℕ) (past future : List Event) (watch : Watch) : Type 0 where
+  pub whole : AreOfLock (past ++ future)
+  pub agrees : (lane : ℕ) → is_some (open_at watch.table.items lane) ≡ is_busy_after past lane
+  pub told : (lane : ℕ) (begun : OpenCall) → open_at watch.table.items lane ≡ Some begun →
+      ends_as begun.ends ≡ ending_of lane n future
+  pub last : watch.last ≤ n
+
+-- the events before the one with this number are explained, and the others come as was told
+pub record IsJudging (limits : Bounds) (n : ℕ) (past future : List Event) (watch : Watch) : Type 0 where
+  pub limits_are : watch.limits ≡ limits
+  pub watching : IsWatching past watch
+  pub explained : AreExplained limits past
+  pub followed : IsFollowed n past future watch
+
+-- a verdict, whatever comes later
+abbrev pub IsFound : Bounds → List Event → ℕ → Option ℕ → Verdict → Type 0
+IsFound limits events most ahead verdict = (more : List Event) →
+    IsVerdict limits (events ++ more) most ahead verdict

@@ -1,0 +1,14 @@
+pub mod inner
+pub mod LockCall
+pub mod Foretold
+pub mod Watch
+pub mod Verdict
+pub mod Judging
+pub mod Course
+pub mod Judge
+pub mod Run
+pub mod Ahead
+pub mod Form
+pub mod Watching
+pub mod AsObserved
+pub mod WatchLaws

@@ -1,0 +1,194 @@
+-- The laws of runs, over the definitions alone.
+use Rattle.std.specs.Prelude.{ℕ, ◌≡◌, ◌≢◌, ◌≤◌, ◌<◌, ◌+◌, ◌↔◌, ◌++◌, false, List, [], ◌∷◌, length, take, slice_get}
+use Rattle.std.specs.Prelude.{Some}
+use Rattle.stamp_core.specs.LockEvent.{LockEvent, write_count}
+use Rattle.stamp_core.specs.Limits.{Bounds}
+use Rattle.stamp_core.specs.declared.call.Call.{Call}
+use Rattle.stamp_core.specs.declared.reply.Reply.{Reply}
+use Rattle.stamp_explain.specs.Explained.{IsExplained}
+use Rattle.stamp_watch.specs.declared.event.Event.{Event}
+use Rattle.stamp_watch.specs.declared.event.Event.TheVariants.{Begins, Returns, Withdraws}
+use Rattle.stamp_watch.specs.Run.{AreExplained, AreStuckAt, Configuration, opening, Lanes, LockStep, Sets, Survives}
+use Rattle.stamp_watch.specs.Run.Phase.{Idle, Asks, Gets}
+use Rattle.stamp_watch.specs.Ahead.{Tells, IsWithdrawn, EndsNever, ReturnsSooner, Spares}
+use Rattle.stamp_watch.specs.Form.{is_busy_after, AreInForm}
+use Rattle.stamp_watch.specs.Watching.{Fits, GoesOn, StandFor, Told}
+use Rattle.stamp_watch.specs.AsObserved.{observed_of, IsStuckAtPosition, NoneIsWithdrawnLater}
+
+-- the lane is idle, and nothing is lost if its call begins at once
+pub record BeginsAtOnce (limits : Bounds) (lane : ℕ) (call : Call) (events : List Event) (s : List LockEvent)
+    (lanes : Lanes) : Type 0 where
+  pub idle : lanes lane ≡ Idle
+  pub survives : (after : Lanes) → Sets lanes after lane (Asks call) → Survives limits events s after
+
+abbrev pub BeginsFirst : Type 0
+BeginsFirst =
+    (limits : Bounds) (lane : ℕ) (call : Call) (events : List Event) (s : List LockEvent) (lanes : Lanes) →
+    Survives limits (Begins lane call ∷ events) s lanes → BeginsAtOnce limits lane call events s lanes
+
+-- the call in effect has this reply, and nothing is lost if it returns at once
+pub record ReturnsAtOnce (limits : Bounds) (lane : ℕ) (reply gotten : Reply) (events : List Event)
+    (s : List LockEvent) (lanes : Lanes) : Type 0 where
+  pub same : gotten ≡ reply
+  pub survives : (after : Lanes) → Sets lanes after lane Idle → Survives limits events s after
+
+abbrev pub ReturnsFirst : Type 0
+ReturnsFirst =
+    (limits : Bounds) (lane : ℕ) (reply gotten : Reply) (events : List Event) (s : List LockEvent)
+    (lanes : Lanes) → lanes lane ≡ Gets gotten →
+    Survives limits (Returns lane reply ∷ events) s lanes →
+    ReturnsAtOnce limits lane reply gotten events s lanes
+
+-- the lane's call is not in effect, and nothing is lost if it is withdrawn at once
+pub record WithdrawsAtOnce (limits : Bounds) (lane : ℕ) (events : List Event) (s : List LockEvent)
+    (lanes : Lanes) : Type 0 where
+  pub call : Call
+  pub asks : lanes lane ≡ Asks call
+  pub survives : (after : Lanes) → Sets lanes after lane Idle → Survives limits events s after
+
+abbrev pub WithdrawsFirst : Type 0
+WithdrawsFirst =
+    (limits : Bounds) (lane : ℕ) (events : List Event) (s : List LockEvent) (lanes : Lanes) →
+    Survives limits (Withdraws lane ∷ events) s lanes → WithdrawsAtOnce limits lane events s lanes
+
+-- some call takes effect, and the rest survives
+pub record TakesEffectNext (limits : Bounds) (events : List Event) (s : List LockEvent) (lanes : Lanes) : Type 0
+  where
+    pub lane : ℕ
+    pub call : Call
+    pub reply : Reply
+    pub asks : lanes lane ≡ Asks call
+    pub next : List LockEvent
+    pub step : LockStep limits s call reply next
+    pub after : Lanes
+    pub sets : Sets lanes after lane (Gets reply)
+    pub survives : Survives limits events next after
+
+abbrev pub TakesEffectFirst : Type 0
+TakesEffectFirst =
+    (limits : Bounds) (lane : ℕ) (reply : Reply) (call : Call) (events : List Event) (s : List LockEvent)
+    (lanes : Lanes) → lanes lane ≡ Asks call →
+    Survives limits (Returns lane reply ∷ events) s lanes →
+    TakesEffectNext limits (Returns lane reply ∷ events) s lanes
+
+-- Where the return that is told of a call has a reply by which it changes nothing in any state, nothing is lost if
+-- it is in effect.
+abbrev pub AtOnceLosesNothing : Type 0
+AtOnceLosesNothing =
+    (limits : Bounds) (lane : ℕ) (call : Call) (reply : Reply) (events : List Event) (s : List LockEvent)
+    (lanes after : Lanes) →
+    ((u v : List LockEvent) → LockStep limits u call reply v → v ≡ u) →
+    lanes lane ≡ Asks call → Sets lanes after lane (Gets reply) → Tells lane reply events →
+    Survives limits events s lanes → Survives limits events s after
+
+-- A call that is withdrawn takes no effect: where it is in effect no way goes on.
+abbrev pub WithdrawnTakesNoEffect : Type 0
+WithdrawnTakesNoEffect =
+    (limits : Bounds) (lane : ℕ) (reply : Reply) (events : List Event) (s : List LockEvent) (lanes : Lanes) →
+    lanes lane ≡ Gets reply → IsWithdrawn lane events → ¬ Survives limits events s lanes
+
+-- A call that never ends is not needed where it changed nothing.
+abbrev pub UnchangingNeverNeeded : Type 0
+UnchangingNeverNeeded =
+    (limits : Bounds) (lane : ℕ) (call : Call) (reply : Reply) (events : List Event) (s : List LockEvent)
+    (lanes after : Lanes) → lanes lane ≡ Asks call → Sets lanes after lane (Gets reply) →
+    EndsNever lane events → Survives limits events s after → Survives limits events s lanes
+
+-- Of two open calls that are alike, with one call and one reply, nothing is lost if the one that returns sooner takes
+-- effect instead of the other.
+abbrev pub SoonerAlikeFirst : Type 0
+SoonerAlikeFirst =
+    (limits : Bounds) (lane than : ℕ) (call : Call) (reply : Reply) (events : List Event) (s : List LockEvent)
+    (lanes later sooner : Lanes) → lane ≢ than → lanes lane ≡ Asks call → lanes than ≡ Asks call →
+    Sets lanes later than (Gets reply) → Sets lanes sooner lane (Gets reply) → Tells lane reply events →
+    ReturnsSooner lane than events → Survives limits events s later → Survives limits events s sooner
+
+-- Of two open calls that are one call, and of which neither ends, nothing is lost if the one takes effect instead of
+-- the other.
+abbrev pub EndlessAlikeFirst : Type 0
+EndlessAlikeFirst =
+    (limits : Bounds) (lane than : ℕ) (call : Call) (reply : Reply) (events : List Event) (s : List LockEvent)
+    (lanes later sooner : Lanes) → lane ≢ than → lanes lane ≡ Asks call → lanes than ≡ Asks call →
+    Sets lanes later than (Gets reply) → Sets lanes sooner lane (Gets reply) → EndsNever lane events →
+    EndsNever than events → Survives limits events s later → Survives limits events s sooner
+
+-- What is explained is explained up to each of its events.
+abbrev pub ShorterStayExplained : Type 0
+ShorterStayExplained =
+    (limits : Bounds) (past future : List Event) → AreExplained limits (past ++ future) → AreExplained limits past
+
+-- At first a judge keeps the opening alone.
+abbrev pub OpeningStands : Type 0
+OpeningStands = (limits : Bounds) (told : ℕ → Told) → StandFor limits [] told (opening ∷ [])
+
+-- What stands for the configurations after some events, and goes on by one more, stands for those after it.
+abbrev pub SetsGoOn : Type 0
+SetsGoOn =
+    (limits : Bounds) (past : List Event) (event : Event) (told then_told : ℕ → Told)
+    (old new : List Configuration) → StandFor limits past told old → GoesOn limits event told then_told old new →
+    StandFor limits (past ++ event ∷ []) then_told new
+
+-- While one is kept, the run is explained so far; where none is, nothing is that fits what is told.
+abbrev pub SetsTell : Type 0
+SetsTell =
+    (limits : Bounds) (past : List Event) (told : ℕ → Told) (kept : List Configuration) →
+    StandFor limits past told kept →
+    ((c : Configuration) (others : List Configuration) → kept ≡ c ∷ others → AreExplained limits past) ×
+    ((future : List Event) → kept ≡ [] → Fits told future → ¬ AreExplained limits (past ++ future))
+
+-- So a judge to whom nothing of what comes later is told says exactly at which event a run is stuck, whatever comes
+-- after it.
+abbrev pub StuckIsExact : Type 0
+StuckIsExact =
+    (limits : Bounds) (past : List Event) (event : Event) (more : List Event) (told then_told : ℕ → Told)
+    (c : Configuration) (others : List Configuration) → StandFor limits past told (c ∷ others) →
+    GoesOn limits event told then_told (c ∷ others) [] → Fits then_told [] →
+    AreStuckAt limits (past ++ event ∷ more) (length past)
+
+-- A call may begin later, behind events among which it does not return, if what comes after them goes on only from
+-- an older version than its reply tells: then it takes effect later on each way.
+abbrev pub BeginsLate : Type 0
+BeginsLate =
+    (limits : Bounds) (lane : ℕ) (call : Call) (reply : Reply) (version : ℕ) (between rest : List Event)
+    (s : List LockEvent) (lanes begun : Lanes) → lanes lane ≡ Idle → Sets lanes begun lane (Asks call) →
+    Tells lane reply (between ++ rest) → EndsNever lane between →
+    ((u v : List LockEvent) → LockStep limits u call reply v → version ≤ write_count v) →
+    ((v : List LockEvent) (there : Lanes) → Survives limits rest v there → write_count v < version) →
+    Survives limits (between ++ rest) s begun → Survives limits (between ++ Begins lane call ∷ rest) s lanes
+
+-- And a way on which a call begins later is one on which it begins sooner: a judge that lets calls begin late explains
+-- no more.
+abbrev pub BeginsSooner : Type 0
+BeginsSooner =
+    (limits : Bounds) (lane : ℕ) (call : Call) (between rest : List Event) (s : List LockEvent)
+    (lanes begun : Lanes) → Sets lanes begun lane (Asks call) → Spares lane between →
+    Survives limits (between ++ Begins lane call ∷ rest) s lanes → Survives limits (between ++ rest) s begun
+
+-- A call that is withdrawn may be left out: its two events make no difference.
+abbrev pub WithdrawnMayBeLeftOut : Type 0
+WithdrawnMayBeLeftOut =
+    (limits : Bounds) (lane : ℕ) (call : Call) (past between rest : List Event) →
+    is_busy_after past lane ≡ false → Spares lane between →
+    AreExplained limits (past ++ (Begins lane call ∷ between ++ Withdraws lane ∷ rest)) ↔
+    AreExplained limits (past ++ (between ++ rest))
+
+-- A run is explained exactly where it is as an observed history.
+abbrev pub ExplainedAsObserved : Type 0
+ExplainedAsObserved =
+    (limits : Bounds) (events : List Event) → AreInForm events →
+    AreExplained limits events ↔ IsExplained (observed_of limits events)
+
+-- And it is stuck at an event exactly where that history is stuck there, if none of the calls that are open then is
+-- withdrawn later: the history does not tell of those.
+abbrev pub StuckAsObserved : Type 0
+StuckAsObserved =
+    (limits : Bounds) (events : List Event) (k : ℕ) → AreInForm events → NoneIsWithdrawnLater k events →
+    AreStuckAt limits events k ↔ IsStuckAtPosition (observed_of limits events) k
+
+-- Up to an event that is no withdrawal all calls are told of: there a run is stuck exactly where what was seen by then
+-- is, whatever comes later.
+abbrev pub StuckAsSeen : Type 0
+StuckAsSeen =
+    (limits : Bounds) (events : List Event) (k : ℕ) → AreInForm events →
+    ((lane : ℕ) → slice_get events k ≢ Some (Withdraws lane)) →
+    AreStuckAt limits events k ↔ IsStuckAtPosition (observed_of limits (take (k + 1) events)) k

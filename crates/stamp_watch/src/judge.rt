@@ -1,0 +1,152 @@
+//! Judging runs that are in memory.
+ghost use Rattle.std.specs.Prelude.{◌≡◌, ◌+◌, ◌^◌, ◌<◌, ◌∷◌, ◌++◌, IfOk, List, None, Option, ℕ, length};
+ghost use Rattle.std.specs.List.{All};
+ghost use Rattle.stamp_core.specs.Limits.{Bounds};
+ghost use Rattle.stamp_watch.specs.declared.event.Event.{Event};
+ghost use Rattle.stamp_watch.specs.Watch.{IsWatched};
+ghost use Rattle.stamp_watch.specs.Verdict.{IsOfLock, IsVerdict};
+ghost use Rattle.stamp_watch.specs.Judging.{IsFound, IsJudging};
+ghost use Rattle.stamp_watch.specs.inner.Judging.{IsBase, IsEndTold, IsJudgingOn, IsOutcome, IsStep, IsStuckBehind, IsStuckFrom};
+
+use crate::ahead::end_ahead;
+use crate::ending::Ending;
+use crate::event::Event;
+use crate::lanes::in_form;
+use crate::progress::Progress;
+use crate::verdict::{Verdict, Why};
+use crate::watch::Watch;
+use stamp_core::Limits;
+use std::alloc::{AllocError, Global};
+
+/// What is found of events behind others, which are all in form.
+#[derive(Clone, Copy)]
+pub(crate) enum Outcome {
+    /// They are explained.
+    Explained,
+    /// They are not explained. So many of them are.
+    Unexplained(usize),
+    /// So many of them are explained, and behind those too many configurations are possible.
+    TooMany(usize),
+}
+
+/// How the call that begins by this event ends among those ahead, the first of which has this number. Of another
+/// event it says nothing.
+pub(crate) fn end_told(event: &Event, ahead: &[Event], first: u64) -> Ending
+    requires lock { All IsOfLock ahead.now }
+    requires room { first + length ahead.now < 2 ^ 64 }
+    ensures { IsEndTold event.now first ahead.now result }
+{
+    match event {
+        Event::Begins(lane, _) => end_ahead(ahead, *lane, first),
+        _ => Ending::Never,
+    }
+}
+
+/// One more event of a run. Of a call that begins the watch is told that it ends so.
+pub(crate) fn step(
+    watch: &mut Watch,
+    event: &Event,
+    ends: Ending,
+    most: u64,
+) -> Result<Progress, AllocError>
+    requires { IsWatched watch.old }
+    ensures { IfOk result (λ progress. (limits : Bounds) (n : ℕ) (past ahead : List Event)
+        → IsEndTold event.now (n + 1) ahead ends
+        → IsJudging limits n past (event.now ∷ ahead) watch.old
+        → IsStep limits n past event.now ahead most watch.new progress) }
+{
+    match event {
+        Event::Begins(lane, call) => Ok(watch.begins(*lane, call, ends)),
+        Event::Returns(lane, reply) => watch.returns(*lane, reply, most),
+        Event::Withdraws(lane) => Ok(watch.withdraws(*lane)),
+    }
+}
+
+/// Judges the events that come behind those that the watch has seen: a call that does not end among them never ends.
+pub(crate) fn judge_rest(
+    start: Watch,
+    first: u64,
+    events: &[Event],
+    most: u64,
+) -> Result<Outcome, AllocError>
+    requires room { first + length events.now < 2 ^ 64 }
+    requires judging { IsJudgingOn first events.now start }
+    ensures { IfOk result (λ outcome. (limits : Bounds) (past : List Event)
+        → IsJudging limits first past events.now start → IsOutcome limits past events.now most outcome) }
+{
+    let mut watch = start;
+    for (k, event) in events.iter().enumerate() {
+        let ends = end_told(event, &events[k + 1..], first + k as u64 + 1);
+        let progress = step(&mut watch, event, ends, most)?;
+        match progress {
+            Progress::Going => {}
+            Progress::Dead => return Ok(Outcome::Unexplained(k)),
+            Progress::TooMany => return Ok(Outcome::TooMany(k)),
+            Progress::Refused => unreachable!(),
+        }
+    }
+    Ok(Outcome::Explained)
+}
+
+/// Finds where events that are not explained are stuck, by judging shorter and shorter runs from this watch on. So
+/// many of the events are explained.
+pub(crate) fn find_stuck(
+    base: &Watch,
+    first: u64,
+    events: &[Event],
+    explained: usize,
+    most: u64,
+) -> Result<Verdict, AllocError>
+    requires within { explained < length events.now }
+    requires room { first + length events.now < 2 ^ 64 }
+    requires stuck { IsStuckFrom first explained events.now base.now }
+    ensures { IfOk result (λ verdict. (ahead : Option ℕ) (limits : Bounds) (past : List Event)
+        → IsBase limits first explained past events.now base.now
+        → IsStuckBehind limits past events.now explained
+        → IsFound limits (past ++ events.now) most ahead verdict) }
+{
+    let mut low = explained;
+    let mut high = events.len();
+    while low + 1 < high {
+        let middle = low + (high - low) / 2;
+        let start = base.copied()?;
+        let outcome = judge_rest(start, first, &events[..middle], most)?;
+        match outcome {
+            Outcome::Explained => low = middle,
+            Outcome::Unexplained(_) => high = middle,
+            Outcome::TooMany(_) => {
+                return Ok(Verdict::StuckWithin(first + low as u64, first + high as u64));
+            }
+        }
+    }
+    Ok(Verdict::Stuck(first + low as u64))
+}
+
+/// Judges a run of a lock that is in memory, from a new lock on: whether it is explained, and if not, at which event
+/// it is stuck. More than `most` configurations before an event are too many to go on. A run that is not explained
+/// may be judged again up to 64 times, each time up to an earlier event. A call may be open for as long as it likes.
+pub fn judge_run(
+    alloc: Global,
+    limits: Limits,
+    events: &[Event],
+    most: u64,
+) -> Result<Verdict, AllocError>
+    ensures { IfOk result (IsVerdict limits events.now most None) }
+{
+    let many = in_form(events);
+    let taken = &events[..many];
+    let base = Watch::new(alloc, limits)?;
+    let start = base.copied()?;
+    let outcome = judge_rest(start, 0, taken, most)?;
+    match outcome {
+        Outcome::Explained => {
+            if many == events.len() {
+                Ok(Verdict::Explained)
+            } else {
+                Ok(Verdict::Broken(many as u64))
+            }
+        }
+        Outcome::Unexplained(k) => find_stuck(&base, 0, taken, k, most),
+        Outcome::TooMany(k) => Ok(Verdict::Undecided(k as u64, Why::TooMany)),
+    }
+}
