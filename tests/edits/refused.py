@@ -15,8 +15,9 @@ tried once more with the bodies and proofs of all that the function calls. An ed
 functions is tried alone, and so is one with a line `by: FUNCTION`, which names a function that must not be proved with
 it: what it changes is no body.
 
-Before that, the same functions are tried without an edit, in the same form: one that isn't proved then, for its own
-sake, fails the crate. So does another function that isn't proved for its own sake beside an edit.
+Before that, the same functions are tried without an edit, in the same form, and what was proved is begun with: one that
+isn't proved then, for its own sake, fails the crate. So does another function that isn't proved for its own sake beside
+an edit.
 
 An edit is refused if the prover doesn't prove the edited function for its own sake, and names a goal of its contract,
 or a fault in the function's proof by hand. One that is tried alone is refused if one of its functions isn't proved so.
@@ -417,37 +418,42 @@ def edits_of(crate, more):
     return sorted(it for it in found if it.endswith(".edit") and (more or not it.startswith("more/")))
 
 
-def take_kept(begin, kept):
-    """Takes what `rt check` kept, if it is there; a gate moves it, and then nothing is begun with."""
+def take_kept(begun_with, kept):
+    """Takes what was kept there, if anything was; of what `rt check` keeps a gate moves all, and then nothing is."""
     try:
-        shutil.copytree(begin, kept)
+        shutil.copytree(begun_with, kept)
     except (OSError, shutil.Error):
         shutil.rmtree(kept, ignore_errors=True)
         os.mkdir(kept)
 
 
-def parts_of(count):
-    """In how many parts so many edits of a crate are tried, side by side."""
-    return -(-count // MOST)
+def parts_of(edits):
+    """Parts of a crate's edits that are tried side by side: each has all those of every so many functions."""
+    functions, count = sorted({it.functions[0] for it in edits}), -(-len(edits) // MOST)
+    return [[it for it in edits if functions.index(it.functions[0]) % count == part] for part in range(count)]
 
 
-def part_of(edits, part):
-    """A part of a crate's edits: all those of every so many functions."""
-    functions, count = sorted({it.functions[0] for it in edits}), parts_of(len(edits))
-    return [it for it in edits if functions.index(it.functions[0]) % count == part]
-
-
-def tried(crate, names, part):
-    """Tries a part of these edits of the crate, round by round, and gives what came of each, by its name."""
+def begin(crate, names, kept):
+    """Tries the functions of these edits of the crate as they are, which each part of the edits is begun with."""
     begun = time.monotonic()
-    edits = part_of([Edit(crate, name) for name in names], part)
+    take_kept(f"{crate.folder}/out/incremental", kept)
+    edits = [Edit(crate, name) for name in names]
+    alone = {function for it in edits if it.is_alone for function in it.functions}
+    with tempfile.TemporaryDirectory() as room:
+        try_without_edits(crate, room, kept, {it.functions[0] for it in edits if not it.is_alone}, is_bare=True)
+        try_without_edits(crate, room, kept, alone, is_bare=False)
+    print(f"{crate.name}: proved without edits, in {round(time.monotonic() - begun)} seconds", flush=True)
+    return edits
+
+
+def tried(crate, edits, begun_with):
+    """Tries these edits of the crate, round by round, and gives what came of each, by its name."""
+    begun = time.monotonic()
     lines, rounds = {}, 0
     with tempfile.TemporaryDirectory() as room:
         kept = f"{room}/kept"
-        take_kept(f"{crate.folder}/out/incremental", kept)
+        take_kept(begun_with, kept)
         several, alone = [it for it in edits if not it.is_alone], [it for it in edits if it.is_alone]
-        try_without_edits(crate, room, kept, {it.functions[0] for it in several}, is_bare=True)
-        try_without_edits(crate, room, kept, {function for it in alone for function in it.functions}, is_bare=False)
         while several:
             rounds += 1
             now = round_of(several, {})
@@ -471,9 +477,14 @@ def tried(crate, names, part):
     return [(f"{crate.name}/{name}", what) for name, what in lines.items()]
 
 
-def lines_of(crate, parts):
-    """What came of the edits of all parts. What is wrong with an edit is told by each part, and said once."""
+def lines_of(pool, crate, names, kept):
+    """What came of these edits of the crate. What is wrong with one is told by each part, and said once."""
     lines = set()
+    try:
+        edits = pool.submit(begin, crate, names, kept).result()
+        parts = [pool.submit(tried, crate, part, kept) for part in parts_of(edits)]
+    except Failed as fault:
+        return [(crate.name, f"FAILED: {fault}")]
     for part in parts:
         try:
             lines |= {*part.result()}
@@ -506,18 +517,17 @@ def wanted_by(options):
 
 def try_all(crates, wanted):
     """Tries the edits of these crates side by side, tells what came of each, and gives how many were refused and failed."""
-    lines = []
-    with concurrent.futures.ThreadPoolExecutor(len(os.sched_getaffinity(0))) as pool:
-        most_first = sorted(wanted, key=lambda name: -len(wanted[name]))
-        tries = {name: [pool.submit(tried, crates[name], wanted[name], part)
-                        for part in range(parts_of(len(wanted[name])))] for name in most_first}
+    lines, most_first = [], sorted(wanted, key=lambda name: -len(wanted[name]))
+    workers, crews = (concurrent.futures.ThreadPoolExecutor(it) for it in (len(os.sched_getaffinity(0)), len(wanted)))
+    with tempfile.TemporaryDirectory() as room, crews, workers:
+        tries = {name: crews.submit(lines_of, workers, crates[name], wanted[name], f"{room}/{name}") for name in most_first}
         try:
             for name in wanted:
-                told = lines_of(crates[name], tries[name])
+                told = tries[name].result()
                 print("\n".join(map(": ".join, told)), flush=True)
                 lines += told
         except Unusable as fault:
-            pool.shutdown(cancel_futures=True)
+            workers.shutdown(cancel_futures=True)
             print(f"FAILED: the libraries can't be used: {fault}")
             return 0, 1
     refused = [what for _, what in lines if what.startswith("refused")]

@@ -11,8 +11,6 @@ mod finding_text;
 mod help;
 mod note;
 mod orders;
-#[cfg(test)]
-mod serve_tests;
 mod serving;
 mod trials;
 

@@ -1,0 +1,122 @@
+"""Texts that the program `stamped_explain` is given: what it prints, what it says on standard error, and its status.
+
+    explained.py STAMPED_EXPLAIN"""
+import subprocess
+import sys
+
+# A write that another thread's optimistic read overlaps, and its release.
+SEEN = """{"entries":[
+    {"call":["unlock",384],"first":3,"last":5,"reply":"done","thread":0},
+    {"call":["try_write"],"first":0,"last":2,"reply":384,"thread":0},
+    {"call":["optimistic"],"first":1,"last":4,"reply":0,"thread":1}],
+    "format":1,"readers":1,"versions":1,"width":0}"""
+# The same calls, with points.
+FOUND = ('{"entries":[{"call":["try_write"],"first":0,"last":191,"point":0,"reply":384,"thread":0},'
+         '{"call":["optimistic"],"first":64,"last":319,"point":64,"reply":0,"thread":1},'
+         '{"call":["unlock",384],"first":192,"last":383,"point":192,"reply":"done","thread":0}],'
+         '"format":1,"readers":1,"versions":1,"width":0}')
+# Three readers at once, of which the first to return has a stamp of no reader.
+UNEXPLAINED = """{"entries":[
+    {"call":["try_read"],"first":0,"last":10,"reply":600,"thread":0},
+    {"call":["try_read"],"first":0,"last":11,"reply":257,"thread":1},
+    {"call":["try_read"],"first":0,"last":12,"reply":258,"thread":2}],
+    "format":1,"readers":3,"versions":1,"width":0}"""
+# A write and its release, each alone; an optimistic read that a write overlaps; and what fails then: a validation, a
+# conversion, and each of the three that ask for a stamp.
+TRIED = """{"entries":[
+    {"call":["try_write"],"first":0,"last":1,"reply":384,"thread":0},
+    {"call":["unlock",384],"first":2,"last":3,"reply":"done","thread":0},
+    {"call":["optimistic"],"first":4,"last":9,"reply":512,"thread":0},
+    {"call":["try_write"],"first":5,"last":8,"reply":640,"thread":1},
+    {"call":["validate",512],"first":10,"last":11,"reply":"no","thread":0},
+    {"call":["to_read",512],"first":12,"last":13,"reply":0,"thread":0},
+    {"call":["try_read"],"first":14,"last":15,"reply":0,"thread":0},
+    {"call":["try_write"],"first":16,"last":17,"reply":0,"thread":0},
+    {"call":["optimistic"],"first":18,"last":19,"reply":0,"thread":0},
+    {"call":["is_read_locked"],"first":20,"last":21,"reply":"no","thread":0}],
+    "format":1,"readers":1,"versions":9,"width":0}"""
+
+STUCK = SEEN.replace('"reply":0', '"reply":768')
+STUCK_NOTE = "entry 2 of thread 1: optimistic answered 768; possible: 256, 0, 512"
+# Each answer: what is given, the number behind `--most` if there is one, and what is written, said, and the status.
+ANSWERS = [
+    ("an explained history", SEEN, None, FOUND, "", 0),
+    ("a stuck one, with all possible replies", STUCK, None, "stuck 2", STUCK_NOTE, 1),
+    ("an undecided one", SEEN, 1, "undecided 2", "", 1),
+    ("one that no order explains", UNEXPLAINED, 2, "undecided 0",
+     "no order explains the history; from which return on is undecided", 1),
+    ("calls of a thread that overlap", SEEN.replace('"thread":1', '"thread":0'), None, "bad 2 overlap", "", 1),
+    ("a call that ends before it begins", SEEN.replace('"first":3', '"first":6'), None, "bad 0 interval", "", 1),
+    ("an entry that is none", SEEN.replace('"first":1,', ""), None, "", "not a history: entry 2", 1),
+    ("no input", "", None, "", "no input", 1),
+    ("a blank", " ", None, "", "not json", 1),
+]
+# What the calls of a history tried, and its number of calls.
+TOLD = [
+    (SEEN, 3, "3 of 3 calls overlapped another; failed: attempts 1, validations 0, conversions 0"),
+    (TRIED, 10, "2 of 10 calls overlapped another; failed: attempts 3, validations 1, conversions 1"),
+]
+WRONG = TRIED.replace("640", "768")
+WRONG_NOTE = "entry 3 of thread 1: try_write answered 768; possible: 640"
+# The forms of the command line, with what is asked for: a judgement, what was tried, and the most configurations.
+FORMS = [
+    ("", False, False, None), ("--judge", True, False, None), ("--told", False, True, None),
+    ("--judge --told", True, True, None), ("--most 0", False, False, 0),
+    ("--most 18446744073709551615", False, False, 2**64 - 1), ("--judge --most 5", True, False, 5),
+    ("--most 5 --judge", True, False, 5), ("--most 5 --told", False, True, 5),
+    ("--judge --told --most 5", True, True, 5), ("--most 5 --judge --told", True, True, 5),
+]
+# Other words are no form.
+BAD = [
+    "--most 18446744073709551616", "--most +1", "--most", "--more 1", "--help --judge", "--told --judge",
+    "--judge --judge", "--judge --most -1", "--judge --most", "--judge --most 1 --told", "--most 1 --most 1",
+    "--judge --told --most 1 --told",
+]
+
+
+def expect(program, words, text, written, said, status):
+    """The program writes this line and says that one, if they are not empty, and ends so."""
+    run = subprocess.run([program, *words], input=text.encode(), capture_output=True, timeout=60)
+    found = (run.stdout.decode(), run.stderr.decode(), run.returncode)
+    wanted = (written + "\n" * bool(written), f"stamped_explain: {said}\n" * bool(said), status)
+    if found != wanted:
+        sys.exit(f"{words} {text[:300]}\ngives {found}\nand not {wanted}")
+
+
+def try_answers(program):
+    """A judgement takes the place of the history alone."""
+    for _, text, most, written, said, status in ANSWERS:
+        words = [] if most is None else ["--most", str(most)]
+        expect(program, words, text, written, said, status)
+        expect(program, ["--judge", *words], text, "ok 3" if written == FOUND else written, said, status)
+    print(f"answers: {2 * len(ANSWERS)} as they are to be")
+
+
+def try_told(program):
+    """What the calls tried is told beside a history that is explained, and of a stuck one what was possible."""
+    for text, count, tried in TOLD:
+        expect(program, ["--judge", "--told"], text, f"ok {count}", tried, 0)
+    expect(program, ["--judge", "--told"], WRONG, "stuck 3", WRONG_NOTE, 1)
+    print(f"what was tried: {len(TOLD) + 1} as they are to be")
+
+
+def try_forms(program):
+    """Five configurations are enough for these calls, and none is not."""
+    for words, is_judged, is_told, most in FORMS:
+        written, said, status = "ok 3" if is_judged else FOUND, TOLD[0][2] if is_told else "", 0
+        if most == 0:
+            written, status = "undecided 2", 1
+        expect(program, words.split(), SEEN, written, said, status)
+    for words in BAD:
+        expect(program, words.split(), SEEN, "", "bad command line", 2)
+    print(f"command lines: {len(FORMS) + len(BAD)} as they are to be")
+
+
+def main():
+    program = sys.argv[1]
+    try_answers(program)
+    try_told(program)
+    try_forms(program)
+
+
+main()
