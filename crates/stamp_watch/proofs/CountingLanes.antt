@@ -1,6 +1,7 @@
 -- How many lanes are in a set.
 use Rattle.std.specs.Prelude.{◌↔◌, IsTrue}
-use Rattle.std.proofs.Common.{Bool, false, ℕ, zero, suc, ◌≡◌, ◌≢◌, ◌⊎◌, ◌+◌, ◌<◌, ◌≤◌, refl, sym, ◌∙◌, subst, inl, inr, arith}
+use Rattle.std.proofs.Common.{Bool, false, ℕ, zero, suc, ◌≡◌, ◌≢◌, ◌⊎◌, ◌+◌, ◌<◌, ◌≤◌, refl, sym, ◌∙◌, subst, inl}
+use Rattle.std.proofs.Common.{inr, arith}
 use Rattle.std.proofs.lemmas.Bool.{cases_eq, false≢true}
 use Rattle.std.proofs.lemmas.Nat.Bits.{bit_at-lt}
 use Rattle.std.specs.Int.{bit_at}
@@ -49,7 +50,8 @@ lanes_in_more a b k less sets free = lanes_below_more 64 a b k less sets free
 pub lanes_in_less : (a b k : ℕ) → k < 64 → SetsBit a b k 0 → bit_at a k ≡ 1 → lanes_in b < lanes_in a
 lanes_in_less a b k less sets taken =
     let more : lanes_in a ≡ lanes_in b + 1 =
-    lanes_in_more b a k less (record { here = taken; others = λ other apart. sym (sets.others other apart) }) sets.here in
+    lanes_in_more b a k less (record { here = taken; others = λ other apart. sym (sets.others other apart) })
+    sets.here in
     omega (arith, more)
 
 -- a bit that is not set is 0

@@ -79,13 +79,15 @@ module _ (t u : ℕ) where
       ((x : ℕ) → b x ≡ a (exchanged t u x)) → IsBusy (a t) → IsBusy (a u) → EndsNever t events → EndsNever u events →
       Survives limits events s a → Survives limits events s b
   exchanged_goes_on limits events s a b is busy_t busy_u never_t never_u at_end = at_end
-  exchanged_goes_on limits events s a b is busy_t busy_u never_t never_u (takes_effect {next = next} {after = after} v c
+  exchanged_goes_on limits events s a b is busy_t busy_u never_t never_u
+      (takes_effect {next = next} {after = after} v c
       r asks step sets rest) = takes_effect (exchanged t u v) c r
       (is (exchanged t u v) ∙ ap a (twice v) ∙ asks) step (set_there v (Gets r) a b after is sets)
       (exchanged_goes_on limits events next after (λ (x : ℕ). after (exchanged t u x)) (λ x. refl)
       (still_busy a after v t (Gets r) sets tt busy_t) (still_busy a after v u (Gets r) sets tt busy_u) never_t never_u
       rest)
-  exchanged_goes_on limits events s a b is busy_t busy_u never_t never_u (begins {events = more} {after = after} v c idle
+  exchanged_goes_on limits events s a b is busy_t busy_u never_t never_u
+      (begins {events = more} {after = after} v c idle
       sets rest) = begins v c (is v ∙ ap a (elsewhere v not_t not_u) ∙ idle)
       (set_here v (Asks c) a b after is not_t not_u sets)
       (exchanged_goes_on limits more s after (λ (x : ℕ). after (exchanged t u x)) (λ x. refl)
@@ -97,7 +99,8 @@ module _ (t u : ℕ) where
 
       not_u : v ≢ u
       not_u = not_idle a v u idle busy_u
-  exchanged_goes_on limits events s a b is busy_t busy_u never_t never_u (returns {events = more} {after = after} v r gets
+  exchanged_goes_on limits events s a b is busy_t busy_u never_t never_u
+      (returns {events = more} {after = after} v r gets
       sets rest) = returns v r (is v ∙ ap a (elsewhere v not_t not_u) ∙ gets)
       (set_here v Idle a b after is not_t not_u sets)
       (exchanged_goes_on limits more s after (λ (x : ℕ). after (exchanged t u x)) (λ x. refl)

@@ -328,7 +328,8 @@ module _ (limits : Bounds) (table : List (Option OpenCall)) (p : Position) where
       below : (way : GivesWay table p.in_effect lane) → GoesBefore way.first_lane lane way.first way.begun →
           rank_of way.first_lane way.first.ends < n
       below way (inl ahead) =
-          let first : rank_of way.first_lane way.first.ends ≡ ahead.place = ap (rank_of way.first_lane) ahead.first_is in
+          let first : rank_of way.first_lane way.first.ends ≡ ahead.place =
+          ap (rank_of way.first_lane) ahead.first_is in
           let other : rank_of lane o.ends ≡ ahead.later =
           ap (λ (x : OpenCall). rank_of lane x.ends) (one_open table lane o way.begun is way.is_open) ∙
           ap (rank_of lane) ahead.other_is in

@@ -67,7 +67,8 @@ module _ (past : List Event) (busy : ℕ) (lanes : AreBusyLanes past busy) where
   comes_back (Withdraws lane) may is = (is, (lanes.same lane is).0 may)
 
 iff_same : (a b : Bool) (x y : ℕ) → a ≡ b → x ≡ y → (b ≡ true) ↔ (y ≡ 1) → (a ≡ true) ↔ (x ≡ 1)
-iff_same a b x y first second iff = ((λ is. second ∙ iff.0 (sym first ∙ is)), (λ one. first ∙ iff.1 (sym second ∙ one)))
+iff_same a b x y first second iff =
+    ((λ is. second ∙ iff.0 (sym first ∙ is)), (λ one. first ∙ iff.1 (sym second ∙ one)))
 
 iff_true : (a : Bool) (x : ℕ) → a ≡ true → x ≡ 1 → (a ≡ true) ↔ (x ≡ 1)
 iff_true a x first second = ((λ _. second), (λ _. first))

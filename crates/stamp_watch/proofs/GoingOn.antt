@@ -10,12 +10,12 @@ use Rattle.stamp_watch.specs.declared.course.Course.{Course}
 use Rattle.stamp_watch.specs.declared.online.Judge.{Judge}
 use Rattle.stamp_watch.specs.declared.verdict.Verdict.{Verdict}
 use Rattle.stamp_watch.specs.declared.watch.Watch.{Watch}
-use Rattle.stamp_watch.specs.Judge.{HasRoomForOne, IsJudge, IsUnderWay}
+use Rattle.stamp_watch.specs.Judge.{HasRoomForOne, IsJudge, IsJudgeOfSome, IsUnderWay}
 use Rattle.stamp_watch.specs.Verdict.{AreOfLock}
 use Rattle.stamp_watch.specs.Judging.{AreBusyLanes, IsFound}
 use Rattle.stamp_watch.specs.inner.Judging.{MayComeIn, SetsBusy}
 use Rattle.stamp_watch.specs.Course.{HasRoom, IsCourse, IsNear, IsRunOn, IsSmall}
-use Rattle.stamp_watch.specs.inner.Course.{HasGoneOn, IsOneLonger, IsRest, broken_off}
+use Rattle.stamp_watch.specs.inner.Course.{HasGoneOn, IsOneLonger, IsOnCourse, IsRest, broken_off}
 use Rattle.stamp_watch.proofs.Forming.{busy_lanes_then, form_first, of_lock_on}
 use Rattle.stamp_watch.proofs.Running.{broken_found, found_later}
 use Rattle.stamp_watch.proofs.SameRuns.{room_still}
@@ -81,6 +81,17 @@ module _ (limits : Bounds) (most ahead : ℕ) (run : List Event) (judge : Judge)
 
   pub way_of : judge.found ≡ None → IsUnderWay limits ahead run judge
   way_of none = subst (λ (o : Option Verdict). IsState limits most ahead run judge o) none is.state
+
+-- the course of a judge that has found nothing
+module _ (judge : Judge) (some : IsJudgeOfSome judge) (none : judge.found ≡ None) where
+  some_way : IsUnderWay some.limits some.ahead some.run judge
+  some_way = way_of some.limits some.most some.ahead some.run judge some.judge_of none
+
+  pub course_on : IsOnCourse judge.course
+  course_on = record { limits = some.limits; run = some.run; course_of = some_way.course_of }
+
+  pub course_room : HasRoom judge.course
+  course_room = some_way.room
 
 module _ (limits : Bounds) (most ahead : ℕ) (run : List Event) (e : Event) (old : Judge)
     (is : IsJudge limits most ahead run old) where

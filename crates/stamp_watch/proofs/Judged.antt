@@ -19,7 +19,7 @@ use Rattle.stamp_watch.specs.Verdict.{AreOfLock, AreTooMany, IsVerdict}
 use Rattle.stamp_watch.specs.Watch.{IsCopy, IsUntold, IsWatching}
 use Rattle.stamp_watch.specs.Judging.{IsJudging, IsFound}
 use Rattle.stamp_watch.specs.inner.Judging.{IsStep, IsInFormUpTo, IsBetween, IsOutcome}
-use Rattle.stamp_watch.specs.inner.Judging.{IsBase, IsStuckBehind, IsStuckFrom}
+use Rattle.stamp_watch.specs.inner.Judging.{IsBase, IsStuckBehind}
 use Rattle.stamp_watch.specs.declared.judge.Outcome.{Outcome}
 use Rattle.stamp_watch.specs.declared.judge.Outcome.TheVariants.{Unexplained, TooMany}
 use Rattle.stamp_watch.specs.declared.judge.Outcome.TheVariants as judged

@@ -1,12 +1,10 @@
 -- What comes as was told, where all that comes is known.
-use Rattle.std.proofs.Common.{ℕ, zero, suc, ◌≡◌, ◌≢◌, ◌⊎◌, ◌+◌, ◌<◌, ◌≤◌, ◌==◌, Bool, true, false, List, [], ◌∷◌, ◌++◌}
+use Rattle.std.proofs.Common.{ℕ, ◌≡◌, ◌≢◌, ◌⊎◌, ◌+◌, ◌<◌, ◌≤◌, ◌==◌, Bool, true, false, List, [], ◌∷◌, ◌++◌}
 use Rattle.std.proofs.Common.{length, Option, Some, None, refl, sym, ◌∙◌, ap, subst, inl, inr, arith, append_assoc}
 use Rattle.std.proofs.Common.{eq-eqb, ne_eqb}
 use Rattle.std.specs.Prelude.{slice_set, not, ◌&&◌, ◌||◌}
-use Rattle.std.specs.List.{All}
 use Rattle.std.specs.Option.{is_some}
 use Rattle.std.proofs.lemmas.Bool.{cases_eq, false≢true}
-use Rattle.std.proofs.lemmas.List.Elements.{All-head, All-tail}
 use Rattle.std.proofs.lemmas.Option.{none-some, same_Some}
 use Rattle.stamp_core.specs.Limits.{Bounds}
 use Rattle.stamp_core.specs.LockDecision.{reply_as}
@@ -23,21 +21,20 @@ use Rattle.stamp_watch.specs.declared.position.Position.{Position}
 use Rattle.stamp_watch.specs.declared.progress.Progress.{Progress}
 use Rattle.stamp_watch.specs.declared.progress.Progress.TheVariants.{Going, Dead, TooMany, Refused}
 use Rattle.stamp_watch.specs.declared.watch.Watch.{Watch}
-use Rattle.stamp_watch.specs.Ahead.{Tells, IsWithdrawn, EndsNever, ReturnsSooner}
+use Rattle.stamp_watch.specs.Ahead.{Tells, ReturnsSooner}
 use Rattle.stamp_watch.specs.Ahead.Tells.{tells_next, past_beginning, past_return, past_withdrawal}
 use Rattle.stamp_watch.specs.Ahead.IsWithdrawn.{withdrawn_next, withdrawn_past_beginning, withdrawn_past_return}
 use Rattle.stamp_watch.specs.Ahead.IsWithdrawn.{withdrawn_past_withdrawal}
 use Rattle.stamp_watch.specs.Ahead.EndsNever.{never_more, not_beginning, not_returning, not_withdrawing}
 use Rattle.stamp_watch.specs.Ahead.ReturnsSooner.{sooner_next, sooner_past_beginning, sooner_past_return}
 use Rattle.stamp_watch.specs.Ahead.ReturnsSooner.{sooner_past_withdrawal}
-use Rattle.stamp_watch.specs.AsObserved as observed
 use Rattle.stamp_watch.specs.AsObserved.{ending_of}
 use Rattle.stamp_watch.specs.AsObserved.Ending.{StaysOpen, EndsBy, EndsWithdrawn}
-use Rattle.stamp_watch.specs.Foretold.{open_at, EndsSo, HasEachOpen, ReturnsBefore, ComesAsTold}
+use Rattle.stamp_watch.specs.Foretold.{open_at, EndsSo, HasEachOpen, ComesAsTold}
 use Rattle.stamp_watch.specs.Form.{is_busy_then, is_busy_after, MayCome}
 use Rattle.stamp_watch.specs.Run.{AreExplained}
 use Rattle.stamp_watch.specs.Run.Survives.{at_end}
-use Rattle.stamp_watch.specs.Verdict.{AreOfLock, IsOfLock, AreTooMany}
+use Rattle.stamp_watch.specs.Verdict.{AreOfLock}
 use Rattle.stamp_watch.specs.Watch.{AreKept, IsCopy, IsWatching, IsUntold, IsInForm, IsProgress, IsTaken}
 use Rattle.stamp_watch.specs.Watch.{BeginsTold, ReturnsTold, WithdrawsTold}
 use Rattle.stamp_watch.specs.Judging.{ends_as, IsFollowed, IsJudging}
@@ -47,7 +44,7 @@ use Rattle.stamp_watch.proofs.Forming.{next_comes, next_of_lock}
 use Rattle.stamp_watch.proofs.Numbered.{return_ends, return_spares, withdrawal_ends, withdrawal_spares, one_return}
 use Rattle.stamp_watch.proofs.Numbered.{open_or_ended, withdrawn_or_ended, ended_by_return, ended_past_withdrawal}
 use Rattle.stamp_watch.proofs.Numbered.{ending_last}
-use Rattle.stamp_watch.proofs.Tables.{open_at_within, open_at_set_none, open_at_set_here, open_at_set_other}
+use Rattle.stamp_watch.proofs.Tables.{open_at_set_here, open_at_set_other}
 
 withdrawn_or_open : EndsWithdrawn ≡ StaysOpen → ⊥
 withdrawn_or_open same = cc
@@ -338,7 +335,8 @@ followed_returns n past ahead lane reply old new long told f =
     (let same : new.last ≡ told.was.place = told.last in omega (arith, same, at))
   where
     at : told.was.place ≡ n
-    at = ap (λ (q : Returned). q.last) (one_return (sym (told_return told.was.begun.ends told.was.told told.was.place lane
+    at = ap (λ (q : Returned). q.last) (one_return
+        (sym (told_return told.was.begun.ends told.was.told told.was.place lane
         n (event.Returns lane reply ∷ ahead) told.was.ends (f.told lane told.was.begun told.was.is_open)) ∙
         return_ends lane lane n reply ahead refl))
 

@@ -7,7 +7,8 @@ use Rattle.std.specs.List.{All, Contains}
 use Rattle.std.proofs.lemmas.Bool.{cases_eq}
 use Rattle.std.proofs.lemmas.List.{take-append-drop, length-set, get_or-set_same, get_or-set_other, get_or_default}
 use Rattle.std.proofs.lemmas.List.Elements.{Contains-push, Contains-push_cases, Contains-append_left}
-use Rattle.std.proofs.lemmas.List.Elements.{Contains-append_right, Contains-append_cases, All-contains, All-nil, All-head}
+use Rattle.std.proofs.lemmas.List.Elements.{Contains-append_right, Contains-append_cases, All-contains, All-nil}
+use Rattle.std.proofs.lemmas.List.Elements.{All-head}
 use Rattle.std.proofs.lemmas.List.Elements.{All-weaker, All-contains_itself, Contains-get_or}
 use Rattle.stamp_core.specs.Limits.{Bounds}
 use Rattle.stamp_core.specs.Word.{Represents, IsAdmitted, word_at}
@@ -349,7 +350,8 @@ module _ (limits : Bounds) (table : List (Option OpenCall)) (lane : ℕ) where
       none : (xs : List Position) → All (λ (p : Position). depth ≤ lanes_in p.in_effect) xs → xs ≡ []
       none [] all = refl
       none (x ∷ xs) all =
-          let high : depth ≤ lanes_in x.in_effect = All-head (λ (p : Position). depth ≤ lanes_in p.in_effect) x xs all in
+          let high : depth ≤ lanes_in x.in_effect =
+          All-head (λ (p : Position). depth ≤ lanes_in p.in_effect) x xs all in
           let low : lanes_in x.in_effect ≤ 64 = lanes_in_le x.in_effect in
           absurd (omega (arith, high, low, deep))
 

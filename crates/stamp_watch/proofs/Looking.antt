@@ -5,8 +5,6 @@ use Rattle.std.proofs.Common.{arith, add-zero}
 use Rattle.std.specs.Prelude.{take, drop}
 use Rattle.std.proofs.lemmas.List.{take_all, take-append-drop, take-append-le, drop-drop, length-append, length-drop}
 use Rattle.std.proofs.lemmas.List.{drop-append-le, length-take-le}
-use Rattle.stamp_core.specs.declared.call.Call.{Call}
-use Rattle.stamp_core.specs.declared.reply.Reply.{Reply}
 use Rattle.stamp_watch.specs.declared.event.Event.{Event}
 use Rattle.stamp_watch.specs.declared.event.Event.TheVariants.{Begins, Returns, Withdraws}
 use Rattle.stamp_watch.specs.declared.ending.Ending.{Ending}

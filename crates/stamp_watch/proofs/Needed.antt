@@ -70,7 +70,8 @@ without limits table events s next lanes after u c r asks step none sets never l
       (sets_swapped lanes after (set_of lanes later.lane (Gets later.reply)) later.after u later.lane (Gets r)
       (Gets later.reply) (λ e. apart (sym e)) sets (sets_of lanes later.lane (Gets later.reply)) later.sets) never
       later.survives;
-  needed = subst (λ (x : List LockEvent). IsFree table later.lane ⊎ (appended_by (transition limits x later.call) ≢ []))
+  needed = subst (λ (x : List LockEvent). IsFree table later.lane ⊎
+      (appended_by (transition limits x later.call) ≢ []))
       same later.needed;
 }
   where

@@ -1,15 +1,14 @@
 -- A run that is judged while it goes on.
 use Rattle.std.proofs.Common.{ℕ, ◌≡◌, ◌≢◌, ◌⊎◌, ◌+◌, ◌-◌, ◌<◌, ◌≤◌, Bool, true, false, List, [], ◌∷◌, ◌++◌, length}
-use Rattle.std.proofs.Common.{get_or, Option, Some, None, refl, sym, ◌∙◌, ap, subst, inl, inr, arith, append_assoc}
-use Rattle.std.proofs.Common.{append-nil, add-zero, add_assoc, eq-eqb, ne_eqb}
+use Rattle.std.proofs.Common.{get_or, Option, Some, refl, sym, ◌∙◌, ap, subst, inl, inr, arith, append_assoc}
+use Rattle.std.proofs.Common.{append-nil, add_assoc, eq-eqb, ne_eqb}
 use Rattle.std.specs.Prelude.{take, drop, not, ◌&&◌, ◌||◌}
 use Rattle.std.specs.Option.{is_some}
 use Rattle.std.proofs.lemmas.Bool.{cases_eq, false≢true}
-use Rattle.std.proofs.lemmas.List.{take-append-drop, take-append-le, drop-append-le, length-append, length-drop}
+use Rattle.std.proofs.lemmas.List.{take-append-drop, take-append-le, take_rest, drop-append-le, length-append}
+use Rattle.std.proofs.lemmas.List.{length-drop}
 use Rattle.std.proofs.Math.Seq.{take-add, take-append_seam}
 use Rattle.stamp_core.specs.Limits.{Bounds}
-use Rattle.stamp_core.specs.declared.call.Call.{Call}
-use Rattle.stamp_core.specs.declared.reply.Reply.{Reply}
 use Rattle.stamp_watch.specs.declared.event.Event.{Event}
 use Rattle.stamp_watch.specs.declared.event.Event.TheVariants.{Begins, Returns, Withdraws}
 use Rattle.stamp_watch.specs.declared.ending.Ending.{Ending}
@@ -30,6 +29,7 @@ use Rattle.stamp_watch.specs.Judging.{AreBusyLanes}
 use Rattle.stamp_watch.specs.inner.Judging.{IsStuckBehind, IsStuckFrom, MayComeIn}
 use Rattle.stamp_watch.specs.Course.{AreEnded, IsRunOn, IsStanding}
 use Rattle.stamp_watch.specs.inner.Course.{IsKnown, IsRest, broken_off}
+use Rattle.stamp_watch.specs.declared.judge.Outcome.{Outcome}
 use Rattle.stamp_watch.specs.declared.judge.Outcome.TheVariants as judged
 use Rattle.stamp_watch.specs.declared.verdict.Verdict.{Verdict}
 use Rattle.stamp_watch.specs.declared.verdict.Verdict.TheVariants as verdict
@@ -331,6 +331,25 @@ module _ (limits : Bounds) (run : List Event) (first seen : ℕ) (events : List 
   pub rest_within : (k : ℕ) → k < length (drop seen events) → seen + k < length events
   rest_within k less = let rest : length (drop seen events) ≡ length events - seen = length-drop seen events in
       let within : seen ≤ length events = is.within in omega (arith, less, rest, within)
+
+  -- a copy of the watch judges the events that were not seen, as they are read from a slice
+  module _ (slice : List Event) (same : slice ≡ events) where
+    rest_read : take (length slice - seen) (drop seen slice) ≡ drop seen events
+    rest_read = take_rest slice seen ∙ ap (drop seen) same
+
+    pub rest_judged : (copy : Watch) → IsCopy watch copy →
+        IsJudging limits (first + seen) (is.past ++ take seen events) (take (length slice - seen) (drop seen slice))
+        copy
+    rest_judged copy copied =
+        subst (λ (future : List Event). IsJudging limits (first + seen) (is.past ++ take seen events) future copy)
+        (sym rest_read) (judging_copied limits (first + seen) (is.past ++ take seen events) (drop seen events) watch
+        copy copied is.now.judging)
+
+    pub rest_outcome : (most : ℕ) (outcome : Outcome) →
+        IsOutcome limits (is.past ++ take seen events) (take (length slice - seen) (drop seen slice)) most outcome →
+        IsOutcome limits (is.past ++ take seen events) (drop seen events) most outcome
+    rest_outcome most outcome found =
+        subst (λ (xs : List Event). IsOutcome limits (is.past ++ take seen events) xs most outcome) rest_read found
 
   module _ (most : ℕ) (ahead : Option ℕ) where
     pub rest_explained : IsOutcome limits (is.past ++ take seen events) (drop seen events) most judged.Explained →

@@ -1,6 +1,7 @@
 -- What is kept, one event on.
 use Rattle.std.proofs.Common.{ℕ, ◌≡◌, ◌≢◌, ◌⊎◌, ◌+◌, ◌<◌, ◌≤◌, List, [], ◌∷◌, ◌++◌, length, get_or, set}
-use Rattle.std.proofs.Common.{Bool, false, Option, Some, None, refl, sym, ◌∙◌, ap, subst, inl, inr, arith, append_assoc}
+use Rattle.std.proofs.Common.{Bool, false, Option, Some, None, refl, sym, ◌∙◌, ap, subst, inl, inr, arith}
+use Rattle.std.proofs.Common.{append_assoc}
 use Rattle.std.specs.Prelude.{slice_set, replicate}
 use Rattle.std.specs.Int.{bit_at}
 use Rattle.std.specs.Option.{is_some}
@@ -78,7 +79,8 @@ kept_first limits table p kept idle one is = record {
           (sym (ap (λ (t : List (Option OpenCall)). open_at t lane) idle ∙ open_at_idle 64 lane)) refl;
     }
 
-pub untold_first : (table : List (Option OpenCall)) → table ≡ replicate 64 None → (lane : ℕ) → open_at table lane ≡ None
+pub untold_first : (table : List (Option OpenCall)) → table ≡ replicate 64 None → (lane : ℕ) →
+    open_at table lane ≡ None
 untold_first table idle lane = ap (λ (t : List (Option OpenCall)). open_at t lane) idle ∙ open_at_idle 64 lane
 
 -- the lanes with an open call
@@ -158,7 +160,8 @@ all_begun limits begun lane n old now all so_far = record {
 }
 
 -- what is kept once a call has begun
-module _ (limits : Bounds) (table : List (Option OpenCall)) (lane : ℕ) (begun : OpenCall) (within : lane < length table)
+module _ (limits : Bounds) (table : List (Option OpenCall)) (lane : ℕ) (begun : OpenCall)
+    (within : lane < length table)
     (idle : open_at table lane ≡ None) (p q : Position) (begins : BeginsIn limits begun lane p q) where
   here : open_at (slice_set table lane (Some begun)) lane ≡ Some begun
   here = open_at_set_here table lane (Some begun) within
@@ -216,7 +219,8 @@ kept_begun limits past table last lane kept new begun below idle are old = recor
   whole = λ future told explained. on future told (old.whole (event.Begins lane (call_as begun.asks) ∷ future)
       (told_begins table (slice_set table lane (Some begun)) last lane (call_as begun.asks) future idle
       (beside_set table lane (Some begun)) told)
-      (subst (AreExplained limits) (append_assoc past (event.Begins lane (call_as begun.asks) ∷ []) future) explained));
+      (subst (AreExplained limits) (append_assoc past (event.Begins lane (call_as begun.asks) ∷ []) future)
+      explained));
 }
   where
     within : lane < length table
@@ -399,7 +403,8 @@ begun_read past old lane call begun table new watching below idle same put are =
     subst (λ (x : Call). AreKept old.limits (past ++ event.Begins lane x ∷ []) table old.last new) same
     (subst (λ (t : List (Option OpenCall)).
     AreKept old.limits (past ++ event.Begins lane (call_as begun.asks) ∷ []) t old.last new) (sym put)
-    (kept_begun old.limits past old.table.items old.last lane old.positions.items new begun below idle are watching.kept))
+    (kept_begun old.limits past old.table.items old.last lane old.positions.items new begun below idle are
+    watching.kept))
 
 pub withdrawn_read : (past : List Event) (old : Watch) (lane : ℕ) (o : OpenCall) (table : List (Option OpenCall)) →
     IsWatching past old → open_at old.table.items lane ≡ Some o → o.ends ≡ Withdraws →
@@ -416,7 +421,8 @@ pub returned_read : (past : List Event) (old : Watch) (lane : ℕ) (o : OpenCall
     slice ≡ old.table.items → kept ≡ old.positions.items → table ≡ slice_set old.table.items lane None →
     IsUnderWay old.limits slice lane kept done [] 0 →
     AreKept old.limits (past ++ event.Returns lane reply ∷ []) table place done
-returned_read past old lane o told place reply slice table kept done watching is_open ends same due read also put under =
+returned_read past old lane o told place reply slice table kept done watching is_open ends same due read also put
+    under =
     subst (λ (t : List (Option OpenCall)). AreKept old.limits (past ++ event.Returns lane reply ∷ []) t place done)
     (sym put)
     (kept_returned old.limits past old.table.items old.last lane old.positions.items done o told place reply is_open

@@ -72,7 +72,8 @@ pub answer_left : (limits : Bounds) (word : ℕ) (o : OpenCall) (reply : Reply) 
 answer_left limits word o reply answers not = record {
   after = λ s represents. record {
     unwanted = λ other replies may.
-        let same : reply ≡ other = subst (λ (t : Option Transition). Replies t other) (answers s represents) replies in (
+        let same : reply ≡ other =
+        subst (λ (t : Option Transition). Replies t other) (answers s represents) replies in (
           never_from_no_return o.ends reply not (subst (λ (r : Reply). MayGet o.ends r) (sym same) may),
           ap appended_by (answers s represents),
         );

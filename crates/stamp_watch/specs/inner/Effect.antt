@@ -27,7 +27,8 @@ pub record TakesEffectTo (limits : Bounds) (begun : OpenCall) (s : List LockEven
   pub reply : Reply
   pub may : MayGet begun.ends reply
   pub replies : Replies (transition limits s (call_as begun.asks)) reply
-  pub represents : Represents limits (word_at limits next) (s ++ appended_by (transition limits s (call_as begun.asks)))
+  pub represents : Represents limits (word_at limits next)
+      (s ++ appended_by (transition limits s (call_as begun.asks)))
 
 -- it gives no such reply; or it never ends, and would change nothing
 pub record IsUnwanted (limits : Bounds) (begun : OpenCall) (s : List LockEvent) : Type 0 where

@@ -7,7 +7,6 @@ use Rattle.stamp_core.specs.Call.{is_lock_call}
 use Rattle.stamp_watch.specs.declared.event.Event.{Event}
 use Rattle.stamp_watch.specs.declared.event.Event.TheVariants as event
 use Rattle.stamp_watch.specs.declared.ending.Ending.{Ending}
-use Rattle.stamp_watch.specs.declared.ending.Ending.TheVariants.{Returns, Withdraws}
 use Rattle.stamp_watch.specs.declared.judge.Outcome.{Outcome}
 use Rattle.stamp_watch.specs.declared.judge.Outcome.TheVariants.{Explained, Unexplained, TooMany}
 use Rattle.stamp_watch.specs.declared.progress.Progress.{Progress}

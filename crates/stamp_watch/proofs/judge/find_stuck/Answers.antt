@@ -1,4 +1,4 @@
-use Rattle.std.proofs.Common.{◌+◌, ◌-◌, ◌/◌, ◌<◌, ◌≤◌, arith, length, refl}
+use Rattle.std.proofs.Common.{◌+◌, ◌-◌, ◌/◌, arith, length, refl}
 use Rattle.stamp_watch.proofs.Judged.{searching_first, searching_higher, searching_lower, search_too_many, search_ends}
 use Rattle.stamp_watch.proofs.Judged.{from_base}
 use Rattle.stamp_watch.proofs.judge.find_stuck.Goals as goal

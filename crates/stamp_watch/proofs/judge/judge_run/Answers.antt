@@ -1,4 +1,4 @@
-use Rattle.std.proofs.Common.{List, None, []}
+use Rattle.std.proofs.Common.{None, []}
 use Rattle.std.specs.Prelude.{take}
 use Rattle.std.proofs.lemmas.Result.{IfOk-weaker}
 use Rattle.stamp_watch.proofs.Judged.{broken_at, explained_whole, found_in_whole, undecided_at, base_first}

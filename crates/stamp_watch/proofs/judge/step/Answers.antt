@@ -1,4 +1,3 @@
-use Rattle.std.proofs.Common.{◌∙◌, ◌∷◌, ◌+◌, List}
 use Rattle.std.proofs.lemmas.Result.{IfOk-weaker}
 use Rattle.stamp_watch.proofs.Judged.{both_ok}
 use Rattle.stamp_watch.proofs.Judging.{step_begins, step_returns, step_withdraws}

@@ -15,5 +15,6 @@ returns c = (
   λ found. absurd (false≢true found),
   λ has. absurd (All-contains (λ (q : Position). q ≢ c.args.position.now) c.args.list.now c.args.position.now
       (All-same (λ (q : Position). q ≢ c.args.position.now) c.args.list.now _
-      (sym (take_all c.loop-other.other-index c.args.list.now c.loop-other-test.false)) c.loop-other.invariant) has refl),
+      (sym (take_all c.loop-other.other-index c.args.list.now c.loop-other-test.false)) c.loop-other.invariant) has
+      refl),
 )

@@ -15,7 +15,8 @@ loop-position-init c = looks_none c.args.limits c.args.table.now c.args.lane c.a
     c.args.next.now.items
 
 pub look-requires-clause-admitted : goal.look-requires-clause-admitted
-look-requires-clause-admitted c = All-get_or (λ (p : Position). IsAdmitted c.args.limits (word_at c.args.limits p.word))
+look-requires-clause-admitted c = All-get_or
+    (λ (p : Position). IsAdmitted c.args.limits (word_at c.args.limits p.word))
     c.args.layer.now c.loop-position.position-index (record { word = 0; in_effect = 0 }) c.loop-position-test.true
     c.requires.admitted
 

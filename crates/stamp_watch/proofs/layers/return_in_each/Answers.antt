@@ -27,7 +27,8 @@ loop-position-preserved c = returned_more c.args.lane c.loop-position.position-i
 pub returns : goal.returns
 returns c =
     let long : length c.loop-position.position-items ≡ c.args.positions.now.len =
-    c.loop-position.auto.position-items ∙ ap (λ (xs : List Position). length xs) c.deref_mut-position-items.ensures.value ∙
+    c.loop-position.auto.position-items ∙
+    ap (λ (xs : List Position). length xs) c.deref_mut-position-items.ensures.value ∙
     sym c.args.positions.now.ok.0 in
     subst (λ (ys : List Position). AreReturned c.args.lane c.args.positions.now.items ys)
     (sym (take_at c.loop-position.position-items

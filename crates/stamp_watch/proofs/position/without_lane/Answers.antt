@@ -1,4 +1,5 @@
-use Rattle.std.proofs.Common.{w64, ℕ, ◌≡◌, ◌≢◌, ◌⊎◌, ◌<◌, ◌≤◌, ◌*◌, ◌^◌, ◌%◌, sym, ◌∙◌, ap, inl, inr, min, bit_and, arith}
+use Rattle.std.proofs.Common.{w64, ℕ, ◌≡◌, ◌≢◌, ◌⊎◌, ◌<◌, ◌≤◌, ◌*◌, ◌^◌, ◌%◌, sym, ◌∙◌, ap, inl, inr, min, bit_and}
+use Rattle.std.proofs.Common.{arith}
 use Rattle.std.specs.Int.{bit_at, bit_not}
 use Rattle.std.proofs.lemmas.Bool.{cases_lt}
 use Rattle.std.proofs.lemmas.Nat.Bits.{bit_at_and, bit_at_above, bit_at_clear_same, bit_at_clear_other}

@@ -27,12 +27,14 @@ loop-position-preserved c = so_far_more c.args.limits c.args.begun.now c.args.la
 pub returns : goal.returns
 returns c =
     let long : length c.loop-position.position-items ≡ c.args.positions.now.len =
-    c.loop-position.auto.position-items ∙ ap (λ (xs : List Position). length xs) c.deref_mut-position-items.ensures.value ∙
+    c.loop-position.auto.position-items ∙
+    ap (λ (xs : List Position). length xs) c.deref_mut-position-items.ensures.value ∙
     sym c.args.positions.now.ok.0 in
     subst (λ (ys : List Position). AreBegun c.args.limits c.args.begun.now c.args.lane c.args.positions.now.items ys)
     (sym (take_at c.loop-position.position-items
     (drop (length c.loop-position.position-items) c.args.positions.now.items) c.args.positions.now.len long))
-    (subst (λ (xs : List Position). AreBegun c.args.limits c.args.begun.now c.args.lane xs c.loop-position.position-items)
+    (subst (λ (xs : List Position). AreBegun c.args.limits c.args.begun.now c.args.lane xs
+    c.loop-position.position-items)
     c.deref_mut-position-items.ensures.value
     (all_begun c.args.limits c.args.begun.now c.args.lane c.loop-position.position-index
     c.deref_mut-position-items.result.now c.loop-position.position-items

@@ -1,4 +1,4 @@
-use Rattle.std.proofs.Common.{List, ◌≡◌, ◌+◌, ◌≤◌, ℕ, length, arith, subst, sym}
+use Rattle.std.proofs.Common.{List, ◌≡◌, ◌+◌, ℕ, arith, subst, sym}
 use Rattle.std.specs.Prelude.{drop}
 use Rattle.std.specs.List.{All}
 use Rattle.std.proofs.lemmas.List.{take_rest}

@@ -1,9 +1,14 @@
-use Rattle.std.proofs.Common.{◌+◌, ◌-◌, ◌<◌, ◌≤◌, length, arith}
-use Rattle.stamp_watch.specs.declared.course.Course.{Course}
-use Rattle.stamp_watch.specs.inner.Course.{IsSameRun, unseen}
+use Rattle.std.proofs.Common.{arith, refl}
+use Rattle.stamp_watch.specs.inner.Course.{IsSameRun}
 use Rattle.stamp_watch.proofs.SameRuns.{same_run_on, on_course_still, room_still}
 use Rattle.stamp_watch.proofs.course.Course.go_on.Goals as goal
 use Rattle.stamp_watch.proofs.course.Course.go_on.Goals.{In_ok-let_go, In_ok-onward}
+
+pub unseen-init : goal.unseen-init
+unseen-init c = record {
+  same = record { long = refl; courses = λ limits run is. is };
+  small = λ small. small;
+}
 
 pub let_go-requires-clause-on : goal.let_go-requires-clause-on
 let_go-requires-clause-on c = on_course_still c.args.self.now c.unseen.self c.unseen.invariant.same c.requires.on
@@ -36,23 +41,28 @@ step_on-requires-clause-more c = omega (
 pub unseen-preserved : goal.unseen-preserved
 unseen-preserved c = record {
   same = same_run_on c.args.self.now c.let_go.new.self c.step_on.new.self
-      (let_go_here (goal.at.unseen-preserved c).In_ok-let_go) c.in-Steps.ensures.onward.same;
+      (let_go_here (goal.at.unseen-preserved c).In_ok-let_go) (rw c.in-Steps.is at c.in_ok-onward.ensures.onward).same;
   small = λ small. c.in_ok-onward.ensures.small (c.in_ok-let_go.ensures.small c.args.ahead
       (c.unseen.invariant.small small));
 }
 
 pub unseen-smaller : goal.unseen-smaller
-unseen-smaller c = omega (arith, c.in-Steps.ensures.onward.fewer, c.in_ok-let_go.ensures.go.as_many)
+unseen-smaller c = omega (
+  arith,
+  (rw c.in-Steps.is at c.in_ok-onward.ensures.onward).fewer,
+  c.in_ok-let_go.ensures.go.as_many,
+)
 
 pub returns-in-Waits-clause-found : goal.returns-in-Waits-clause-found
 returns-in-Waits-clause-found c = record {
   same = same_run_on c.args.self.now c.let_go.new.self c.step_on.new.self
-      (let_go_here (goal.at.returns-in-Waits-clause-found c).In_ok-let_go) c.in-Waits.ensures.onward.same;
-  near = c.in-Waits.ensures.onward.near;
+      (let_go_here (goal.at.returns-in-Waits-clause-found c).In_ok-let_go)
+      (rw c.in-Waits.is at c.in_ok-onward.ensures.onward).same;
+  near = (rw c.in-Waits.is at c.in_ok-onward.ensures.onward).near;
 }
 
 pub returns-in-Finds-clause-found : goal.returns-in-Finds-clause-found
-returns-in-Finds-clause-found c limits run is = c.in-Finds.ensures.onward limits run
+returns-in-Finds-clause-found c limits run is = (rw c.in-Finds.is at c.in_ok-onward.ensures.onward) limits run
     ((let_go_here (goal.at.returns-in-Finds-clause-found c).In_ok-let_go).courses limits run is)
 
 pub returns-in-Waits-clause-small : goal.returns-in-Waits-clause-small

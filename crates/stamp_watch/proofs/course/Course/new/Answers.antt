@@ -1,4 +1,4 @@
-use Rattle.std.proofs.Common.{◌≡◌, ◌+◌, ◌-◌, ◌≤◌, length, ap, arith}
+use Rattle.std.proofs.Common.{◌≡◌, length, ap, arith}
 use Rattle.std.specs.Prelude.{drop, []}
 use Rattle.stamp_watch.proofs.LettingGo.{spare_here}
 use Rattle.stamp_watch.proofs.Looking.{looked_none}

@@ -1,38 +1,38 @@
-use Rattle.std.proofs.Common.{List, ◌≡◌, ◌+◌, ◌-◌, ◌<◌, ◌++◌, ◌∙◌, length, None, arith, sym, subst, ap}
+use Rattle.std.proofs.Common.{List, ◌+◌, ◌<◌, ◌++◌, length, None, arith, sym, subst}
 use Rattle.std.specs.Prelude.{take, drop}
-use Rattle.std.proofs.lemmas.List.{take_rest}
 use Rattle.std.proofs.lemmas.Result.{IfOk-weaker}
 use Rattle.stamp_core.specs.Limits.{Bounds}
 use Rattle.stamp_watch.specs.declared.event.Event.{Event}
-use Rattle.stamp_watch.specs.Judging.{IsJudging}
 use Rattle.stamp_watch.specs.inner.Judging.{IsOutcome}
 use Rattle.stamp_watch.specs.Course.{IsCourse}
-use Rattle.stamp_watch.proofs.Judging.{judging_copied}
 use Rattle.stamp_watch.proofs.Running.{rest_explained, rest_stuck, rest_undecided, rest_within, rest_found, run_finds}
-use Rattle.stamp_watch.proofs.Running.{run_stuck_from}
+use Rattle.stamp_watch.proofs.Running.{run_stuck_from, rest_judged, rest_outcome}
 use Rattle.stamp_watch.proofs.course.Course.rest.Goals as goal
 use Rattle.stamp_watch.proofs.course.Course.rest.Goals.{In_ok-outcome}
 
--- the events that were not seen
-unseen : (c : In_ok-outcome) → take (length c.as_slice-events.result.now - c.args.self.now.seen)
-    (drop c.args.self.now.seen c.as_slice-events.result.now) ≡ drop c.args.self.now.seen c.args.self.now.events.items
-unseen c = take_rest c.as_slice-events.result.now c.args.self.now.seen ∙
-    ap (drop c.args.self.now.seen) c.as_slice-events.ensures.value
+pub judge_rest-requires-clause-judging : goal.judge_rest-requires-clause-judging
+judge_rest-requires-clause-judging c =
+    let on = c.requires.on in
+    record {
+      limits = on.limits;
+      past = on.course_of.on.past ++ take c.args.self.now.seen c.args.self.now.events.items;
+      judging = rest_judged on.limits on.run c.args.self.now.first c.args.self.now.seen c.args.self.now.events.items
+          c.args.self.now.base c.args.self.now.watch on.course_of.on c.as_slice-events.result.now
+          c.as_slice-events.ensures.value c.in_ok-start.start c.in_ok-start.ensures;
+    }
 
+-- what is found of the events that were not seen
 outcome_here : (c : In_ok-outcome) (limits : Bounds) (run : List Event) (is : IsCourse limits run c.args.self.now) →
     IsOutcome limits (is.on.past ++ take c.args.self.now.seen c.args.self.now.events.items)
     (drop c.args.self.now.seen c.args.self.now.events.items) c.args.most
     c.in_ok-outcome.outcome
-outcome_here c limits run is = subst (λ (xs : List Event). IsOutcome limits
-    (is.on.past ++ take c.args.self.now.seen c.args.self.now.events.items) xs c.args.most c.in_ok-outcome.outcome)
-    (unseen c)
+outcome_here c limits run is = rest_outcome limits run c.args.self.now.first c.args.self.now.seen
+    c.args.self.now.events.items c.args.self.now.base c.args.self.now.watch is.on c.as_slice-events.result.now
+    c.as_slice-events.ensures.value c.args.most c.in_ok-outcome.outcome
     (c.in_ok-outcome.ensures limits (is.on.past ++ take c.args.self.now.seen c.args.self.now.events.items)
-    (subst (λ (xs : List Event). IsJudging limits (c.args.self.now.first + c.args.self.now.seen)
-    (is.on.past ++ take c.args.self.now.seen c.args.self.now.events.items) xs c.in_ok-start.start) (sym (unseen c))
-    (judging_copied limits (c.args.self.now.first + c.args.self.now.seen)
-    (is.on.past ++ take c.args.self.now.seen c.args.self.now.events.items)
-    (drop c.args.self.now.seen c.args.self.now.events.items) c.args.self.now.watch c.in_ok-start.start
-    c.in_ok-start.ensures is.on.now.judging)))
+    (rest_judged limits run c.args.self.now.first c.args.self.now.seen c.args.self.now.events.items
+    c.args.self.now.base c.args.self.now.watch is.on c.as_slice-events.result.now c.as_slice-events.ensures.value
+    c.in_ok-start.start c.in_ok-start.ensures))
 
 pub overflow_add-explained : goal.overflow_add-explained
 overflow_add-explained c =

@@ -1,13 +1,20 @@
-use Rattle.std.proofs.Common.{List, ◌≡◌, ◌+◌, ◌<◌, ◌++◌, length, Some, arith, refl}
+use Rattle.std.proofs.Common.{List, ◌+◌, ◌++◌, Some, arith, refl}
 use Rattle.std.specs.Prelude.{take, drop}
 use Rattle.stamp_core.specs.Limits.{Bounds}
 use Rattle.stamp_watch.specs.declared.event.Event.{Event}
 use Rattle.stamp_watch.specs.Course.{IsCourse}
 use Rattle.stamp_watch.specs.inner.Judging.{IsStep}
+use Rattle.stamp_watch.proofs.Judged.{never_refused}
 use Rattle.stamp_watch.proofs.Looking.{looked_none}
 use Rattle.stamp_watch.proofs.Running.{run_here, run_steps, run_dead, run_too_many, run_stuck_from, run_finds}
 use Rattle.stamp_watch.proofs.course.Course.see.Goals as goal
 use Rattle.stamp_watch.proofs.course.Course.see.Goals.{In_ok-progress}
+
+pub step-requires : goal.step-requires
+step-requires c = record {
+  past = c.requires.on.course_of.on.past ++ take c.args.self.now.seen c.args.self.now.events.items;
+  watching = c.requires.on.course_of.on.now.judging.watching;
+}
 
 -- what the answer means
 step_here : (c : In_ok-progress) (limits : Bounds) (run : List Event) (is : IsCourse limits run c.args.self.now) →
@@ -39,6 +46,14 @@ returns-in-Going-clause-onward c ahead =
       };
       fewer = omega (arith, c.requires.front.less);
     }
+
+pub unreachable-requires : goal.unreachable-requires
+unreachable-requires c =
+    let at = (goal.at.unreachable-requires c).In_ok-progress in
+    let on = c.requires.on in
+    never_refused on.limits c.args.self.now.first on.course_of.on.past c.args.self.now.events.items c.args.most
+    c.args.self.now.seen c.args.event.now c.requires.front.less c.requires.front.read c.step.new.watch
+    c.in_ok-progress.progress (step_here at on.limits on.run on.course_of) c.in-Refused.is
 
 pub find_stuck-requires-clause-stuck : goal.find_stuck-requires-clause-stuck
 find_stuck-requires-clause-stuck c =

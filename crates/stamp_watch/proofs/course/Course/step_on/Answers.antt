@@ -1,5 +1,6 @@
 use Rattle.std.proofs.Common.{List, ◌≡◌, ◌+◌, ◌-◌, ◌≤◌, length, length-drop, get_or, arith, refl, subst}
 use Rattle.std.specs.Prelude.{drop}
+use Rattle.std.proofs.lemmas.Result.{IfOk-weaker}
 use Rattle.stamp_watch.specs.declared.event.Event.{Event}
 use Rattle.stamp_watch.proofs.Looking.{looked_all}
 use Rattle.stamp_watch.proofs.TooFar.{run_too_far}
@@ -20,6 +21,17 @@ see-requires-clause-front c = record {
       get_or xs c.args.self.now.seen c.index-events-self.result) c.as_slice-events.ensures.value
       c.index-events-self.is;
 }
+
+pub see-requires-clause-known : goal.see-requires-clause-known
+see-requires-clause-known c = c.is_known.ensures.known c.if-is_known.true
+
+pub returns-then-is_known-clause-onward : goal.returns-then-is_known-clause-onward
+returns-then-is_known-clause-onward c =
+    IfOk-weaker c.see.result _ _ (λ onward is. is c.args.ahead) c.see.ensures.onward
+
+pub returns-then-is_known-clause-small : goal.returns-then-is_known-clause-small
+returns-then-is_known-clause-small c =
+    IfOk-weaker c.see.result _ _ (λ onward is. is c.args.ahead) c.see.ensures.small
 
 pub returns-then-self-ahead-clause-onward : goal.returns-then-self-ahead-clause-onward
 returns-then-self-ahead-clause-onward c = record {

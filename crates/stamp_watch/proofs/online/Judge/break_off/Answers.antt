@@ -1,8 +1,17 @@
 use Rattle.std.proofs.Common.{[], ◌∷◌, ◌++◌, Some, refl, sym, subst}
 use Rattle.stamp_watch.specs.declared.verdict.Verdict.{Verdict}
 use Rattle.stamp_watch.specs.Judging.{IsFound}
-use Rattle.stamp_watch.proofs.GoingOn.{found_broken, judge_broken}
+use Rattle.stamp_watch.proofs.GoingOn.{course_on, course_room, found_broken, judge_broken}
 use Rattle.stamp_watch.proofs.online.Judge.break_off.Goals as goal
+
+pub rest-requires-clause-on : goal.rest-requires-clause-on
+rest-requires-clause-on c = course_on c.args.self.now c.requires.some c.requires.none
+
+pub rest-requires-clause-room : goal.rest-requires-clause-room
+rest-requires-clause-room c = course_room c.args.self.now c.requires.some c.requires.none
+
+pub count-requires : goal.count-requires
+count-requires c = course_room c.args.self.now c.requires.some c.requires.none
 
 pub returns-clause-found : goal.returns-clause-found
 returns-clause-found c limits most ahead run is =

@@ -1,9 +1,15 @@
 use Rattle.std.proofs.Common.{ℕ, Some, subst}
 use Rattle.std.proofs.lemmas.Result.{IfOk-weaker}
 use Rattle.stamp_watch.specs.inner.Course.{IsRest}
-use Rattle.stamp_watch.proofs.GoingOn.{found_of, way_of}
+use Rattle.stamp_watch.proofs.GoingOn.{course_on, course_room, found_of, way_of}
 use Rattle.stamp_watch.proofs.Running.{found_now, rest_now}
 use Rattle.stamp_watch.proofs.online.Judge.finish.Goals as goal
+
+pub rest-requires-clause-on : goal.rest-requires-clause-on
+rest-requires-clause-on c = course_on c.args.self.now c.requires c.in-None.is
+
+pub rest-requires-clause-room : goal.rest-requires-clause-room
+rest-requires-clause-room c = course_room c.args.self.now c.requires c.in-None.is
 
 pub returns-in-Some : goal.returns-in-Some
 returns-in-Some c limits most ahead run is = found_now limits run most (Some ahead) c.in-Some.verdict

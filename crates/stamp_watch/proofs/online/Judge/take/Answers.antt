@@ -13,6 +13,10 @@ go_on-requires-clause-on c =
           c.args.busy c.requires.may c.requires.busy c.add.new.self c.in_ok-add.ensures.course;
     }
 
+pub go_on-requires-clause-room : goal.go_on-requires-clause-room
+go_on-requires-clause-room c =
+    one_longer_room c.args.self.now c.add.new.self c.requires.room c.in_ok-add.ensures.longer
+
 pub returns-clause-found : goal.returns-clause-found
 returns-clause-found c limits most ahead run is = found_then limits most ahead run c.args.event.now c.args.self.now is
     c.requires.none

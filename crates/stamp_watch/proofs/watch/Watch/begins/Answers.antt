@@ -16,14 +16,15 @@ returns-clause-progress c past most watching = answered past (Begins c.args.lane
     (answer_read c.begin_in_each.new.positions.items c.as_slice-2.result.now c.answer.result
     c.as_slice-2.ensures.value c.answer.ensures)
     (record {
-      kept = begun_read past c.args.self.now c.args.lane c.args.call.now (record { asks = c.in-Some.asks; ends = c.args.ends })
+      kept = begun_read past c.args.self.now c.args.lane c.args.call.now
+          (record { asks = c.in-Some.asks; ends = c.args.ends })
           c.put.new.table.items c.begin_in_each.new.positions.items watching (omega arith)
           (idle_read c.args.self.now.table.items c.as_slice.result.now c.args.lane c.open_in.result c.is_some.result
-          c.as_slice.ensures.value c.open_in.ensures c.is_some.ensures c.if-is_some.false) c.in-Some.ensures c.put.ensures
-          c.begin_in_each.ensures;
+          c.as_slice.ensures.value c.open_in.ensures c.is_some.ensures c.if-is_some.false) c.in-Some.ensures
+          c.put.ensures c.begin_in_each.ensures;
       busy = busy_begun c.args.self.now.table.items c.put.new.table.items c.args.lane c.args.self.now.busy
-          c.with_lane-self.result watching.busy (Some (record { asks = c.in-Some.asks; ends = c.args.ends })) c.put.ensures
-          c.with_lane-self.ensures;
+          c.with_lane-self.result watching.busy (Some (record { asks = c.in-Some.asks; ends = c.args.ends }))
+          c.put.ensures c.with_lane-self.ensures;
     })
 
 pub returns-clause-watched : goal.returns-clause-watched

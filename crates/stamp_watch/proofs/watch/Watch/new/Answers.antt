@@ -5,8 +5,8 @@ use Rattle.stamp_watch.proofs.watch.Watch.new.Goals as goal
 
 pub returns-clause-watching : goal.returns-clause-watching
 returns-clause-watching c = record {
-  kept = kept_first c.args.limits c.in_ok-table.table.items c.opening.result c.push.new.self.items c.in_ok-table.ensures
-      (c.in_ok-push.ensures.items ∙
+  kept = kept_first c.args.limits c.in_ok-table.table.items c.opening.result c.push.new.self.items
+      c.in_ok-table.ensures (c.in_ok-push.ensures.items ∙
       ap (λ (xs : List Position). xs ++ c.opening.result ∷ []) c.new-positions.ensures.items) c.opening.ensures;
   busy = busy_first c.in_ok-table.table.items c.in_ok-table.ensures;
 }

@@ -1,7 +1,8 @@
 use Rattle.std.proofs.Common.{refl, sym, ◌∙◌, Bool, subst}
 use Rattle.stamp_watch.specs.declared.event.Event.TheVariants as event
 use Rattle.stamp_watch.specs.inner.Layer.{IsAfterReturn}
-use Rattle.stamp_watch.proofs.Stepping.{answered, answer_read, busy_ended, returned_read, too_many_read, open_read, still_watched}
+use Rattle.stamp_watch.proofs.Stepping.{answered, answer_read, busy_ended, returned_read, too_many_read, open_read}
+use Rattle.stamp_watch.proofs.Stepping.{still_watched}
 use Rattle.stamp_watch.proofs.watch.Watch.returns.Goals as goal
 
 pub returns-then-not-returned-clause-progress : goal.returns-then-not-returned-clause-progress
@@ -61,4 +62,5 @@ returns-clause-told c taken = record {
 
 pub returns-clause-watched : goal.returns-clause-watched
 returns-clause-watched c = still_watched c.requires.past (event.Returns c.args.lane c.args.reply.now) c.args.most
-    c.args.self.now _ c.answer.result (returns-clause-progress c c.requires.past c.requires.watching) c.requires.watching
+    c.args.self.now _ c.answer.result (returns-clause-progress c c.requires.past c.requires.watching)
+    c.requires.watching
