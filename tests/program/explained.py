@@ -101,11 +101,11 @@ def try_told(program):
 
 
 def try_forms(program):
-    """Five configurations are enough for these calls, and none is not."""
+    """Five configurations are enough for these calls. With none the first return is undecided, that of entry 1."""
     for words, is_judged, is_told, most in FORMS:
         written, said, status = "ok 3" if is_judged else FOUND, TOLD[0][2] if is_told else "", 0
         if most == 0:
-            written, status = "undecided 2", 1
+            written, status = "undecided 1", 1
         expect(program, words.split(), SEEN, written, said, status)
     for words in BAD:
         expect(program, words.split(), SEEN, "", "bad command line", 2)

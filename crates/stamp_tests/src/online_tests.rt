@@ -169,14 +169,15 @@ fn a_call_that_is_open_for_too_long_ends_the_judging(rt: HostRuntime) -> Result<
         Event::Begins(1, Call::ReadCount),
         Event::Returns(0, Reply::Stamp(257)),
     ];
+    let events = &open[..];
     let too_far = Verdict::Undecided(2, Why::TooFar);
     let mut shorter = judge(&rt, 100, 3)?;
-    assert!(rt; pushed(&mut shorter, &open[..5])? == None);
+    assert!(rt; pushed(&mut shorter, &events[..5])? == None);
     assert!(rt; shorter.finish()? == Verdict::Explained);
-    assert!(rt; pushed(&mut shorter, &open[5..])? == Some(too_far));
+    assert!(rt; pushed(&mut shorter, &events[5..])? == Some(too_far));
     assert!(rt; shorter.finish()? == too_far);
     let mut longer = judge(&rt, 100, 4)?;
-    assert!(rt; pushed(&mut longer, &open)? == None);
+    assert!(rt; pushed(&mut longer, events)? == None);
     assert!(rt; longer.finish()? == Verdict::Explained);
     Ok(())
 }
