@@ -1,6 +1,6 @@
 use crate::answer::VerdictAndNote;
 use crate::faults::{ExplainFault, fault_line};
-use crate::orders::{ExplainOrder, Explaining, Form, MOST_CONFIGURATIONS, Told, order_of};
+use crate::orders::{ExplainOrder, Explaining, Form, MOST_CONFIGURATIONS, Shown, Told, order_of};
 use crate::serving::serve_explanation;
 use stamp_cli::{CommandFault, ReadSource, ServeFault, Verdict, WriteSink};
 use stamp_history::{Field, ReadError};
@@ -15,6 +15,7 @@ fn plain(most: u64) -> Explaining {
     Explaining {
         form: Form::History,
         told: Told::Nothing,
+        shown: Shown::Entry,
         most,
     }
 }
@@ -23,6 +24,7 @@ fn plain(most: u64) -> Explaining {
 const JUDGED: Explaining = Explaining {
     form: Form::Judgement,
     told: Told::Trials,
+    shown: Shown::Entry,
     most: MOST_CONFIGURATIONS,
 };
 
@@ -184,6 +186,38 @@ fn what_the_calls_tried_is_told_beside_a_history_that_is_explained(
     Ok(())
 }
 
+/// The calls of `SEEN` up to the wrong reply of the optimistic read, each of which matters.
+const SMALL: &str =
+    "{\"entries\":[{\"call\":[\"try_write\"],\"first\":0,\"last\":2,\"reply\":384,\"thread\":0},{\"call\":[\"unlock\",384],\"first\":3,\"thread\":0},{\"call\":[\"optimistic\"],\"first\":1,\"last\":4,\"reply\":768,\"thread\":1}],\"format\":1,\"readers\":1,\"versions\":1,\"width\":0}\n";
+
+/// Those of `TRIED` up to a wrong reply of the second write, without the read, which doesn't matter.
+const SMALLER: &str =
+    "{\"entries\":[{\"call\":[\"try_write\"],\"first\":0,\"last\":1,\"reply\":384,\"thread\":0},{\"call\":[\"unlock\",384],\"first\":2,\"last\":3,\"reply\":\"done\",\"thread\":0},{\"call\":[\"try_write\"],\"first\":5,\"last\":8,\"reply\":768,\"thread\":1}],\"format\":1,\"readers\":1,\"versions\":9,\"width\":0}\n";
+
+#[test]
+fn a_small_history_takes_the_place_of_the_entry_alone(rt: HostRuntime) -> Result<(), Fail> {
+    let asked = Explaining {
+        shown: Shown::Small,
+        ..plain(MOST_CONFIGURATIONS)
+    };
+    let (line, _, _) = told(rt.alloc(), asked, SEEN)?;
+    assert!(rt; line.as_str() == FOUND);
+    for (input, old, small) in [
+        (SEEN, "\"reply\":0", SMALL),
+        (TRIED, "\"reply\":640", SMALLER),
+    ] {
+        let stuck = input.replace(rt.alloc(), old, "\"reply\":768")?;
+        let (line, answered, note) = told(rt.alloc(), asked, &stuck)?;
+        let (_, plain_answered, plain_note) = told(rt.alloc(), plain(MOST_CONFIGURATIONS), &stuck)?;
+        assert!(rt; line.as_str() == small);
+        assert!(rt; answered == plain_answered, "{small}");
+        assert!(rt; note.as_deref() == plain_note.as_deref(), "{small}");
+        let (again, _, _) = told(rt.alloc(), plain(MOST_CONFIGURATIONS), small)?;
+        assert!(rt; again.as_str() == "stuck 2\n", "{small}");
+    }
+    Ok(())
+}
+
 #[test]
 fn no_input_is_told_as_such(rt: HostRuntime) -> Result<(), Fail> {
     let (line, answered, _) = told(rt.alloc(), JUDGED, "")?;
@@ -218,46 +252,59 @@ fn each_fault_has_its_line(rt: HostRuntime) -> Result<(), Fail> {
     Ok(())
 }
 
-fn asks(form: Form, told: Told, most: u64) -> Result<ExplainOrder, CommandFault> {
-    Ok(ExplainOrder::Explain(Explaining { form, told, most }))
+fn asks(form: Form, told: Told, shown: Shown, most: u64) -> Result<ExplainOrder, CommandFault> {
+    Ok(ExplainOrder::Explain(Explaining {
+        form,
+        told,
+        shown,
+        most,
+    }))
 }
 
 #[test]
 fn words_and_a_number_are_the_forms_of_the_command_line(rt: HostRuntime) {
-    let default = 4_000_000;
-    let table: [(&[&str], Result<ExplainOrder, CommandFault>); 12] = [
-        (&[], asks(Form::History, Told::Nothing, default)),
+    let (plain, judged, default) = (Form::History, Form::Judgement, 4_000_000);
+    let (nothing, trials) = (Told::Nothing, Told::Trials);
+    let (entry, small) = (Shown::Entry, Shown::Small);
+    let table: [(&[&str], Result<ExplainOrder, CommandFault>); 18] = [
+        (&[], asks(plain, nothing, entry, default)),
         (&["--help"], Ok(ExplainOrder::Help)),
-        (&["--judge"], asks(Form::Judgement, Told::Nothing, default)),
-        (&["--told"], asks(Form::History, Told::Trials, default)),
+        (&["--judge"], asks(judged, nothing, entry, default)),
+        (&["--told"], asks(plain, trials, entry, default)),
+        (&["--small"], asks(plain, nothing, small, default)),
+        (&["--judge", "--told"], asks(judged, trials, entry, default)),
         (
-            &["--judge", "--told"],
-            asks(Form::Judgement, Told::Trials, default),
+            &["--judge", "--small"],
+            asks(judged, nothing, small, default),
         ),
-        (&["--most", "0"], asks(Form::History, Told::Nothing, 0)),
+        (&["--told", "--small"], asks(plain, trials, small, default)),
+        (
+            &["--judge", "--told", "--small"],
+            asks(judged, trials, small, default),
+        ),
+        (&["--most", "0"], asks(plain, nothing, entry, 0)),
         (
             &["--most", "18446744073709551615"],
-            asks(Form::History, Told::Nothing, u64::MAX),
+            asks(plain, nothing, entry, u64::MAX),
         ),
-        (
-            &["--judge", "--most", "5"],
-            asks(Form::Judgement, Told::Nothing, 5),
-        ),
-        (
-            &["--most", "5", "--judge"],
-            asks(Form::Judgement, Told::Nothing, 5),
-        ),
-        (
-            &["--most", "5", "--told"],
-            asks(Form::History, Told::Trials, 5),
-        ),
+        (&["--judge", "--most", "5"], asks(judged, nothing, entry, 5)),
+        (&["--most", "5", "--judge"], asks(judged, nothing, entry, 5)),
+        (&["--most", "5", "--told"], asks(plain, trials, entry, 5)),
         (
             &["--judge", "--told", "--most", "5"],
-            asks(Form::Judgement, Told::Trials, 5),
+            asks(judged, trials, entry, 5),
         ),
         (
             &["--most", "5", "--judge", "--told"],
-            asks(Form::Judgement, Told::Trials, 5),
+            asks(judged, trials, entry, 5),
+        ),
+        (
+            &["--judge", "--told", "--small", "--most", "5"],
+            asks(judged, trials, small, 5),
+        ),
+        (
+            &["--most", "5", "--judge", "--told", "--small"],
+            asks(judged, trials, small, 5),
         ),
     ];
     for (words, order) in table {
@@ -267,7 +314,7 @@ fn words_and_a_number_are_the_forms_of_the_command_line(rt: HostRuntime) {
 
 #[test]
 fn other_words_are_no_form_of_the_command_line(rt: HostRuntime) {
-    let table: [&[&str]; 12] = [
+    let table: [&[&str]; 15] = [
         &["--most", "18446744073709551616"],
         &["--most", "+1"],
         &["--most"],
@@ -280,6 +327,9 @@ fn other_words_are_no_form_of_the_command_line(rt: HostRuntime) {
         &["--judge", "--most", "1", "--told"],
         &["--most", "1", "--most", "1"],
         &["--judge", "--told", "--most", "1", "--told"],
+        &["--small", "--judge"],
+        &["--judge", "--small", "--told"],
+        &["--judge", "--told", "--small", "--most", "1", "--told"],
     ];
     for words in table {
         assert!(rt; order_of(words) == Err(CommandFault::Bad));

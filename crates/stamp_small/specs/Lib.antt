@@ -1,0 +1,3 @@
+pub mod Renumbering
+pub mod Small
+pub mod inner
