@@ -3,7 +3,7 @@ ghost use Rattle.std.specs.Prelude.{◌≡◌, IfOk, IfSome, IsTrue};
 ghost use Rattle.stamp_core.specs.Layout.{units_of};
 ghost use Rattle.stamp_explain.specs.Observed.{IsObserved, observed_as};
 ghost use Rattle.stamp_observed.specs.Suited.{AreSuited};
-ghost use Rattle.stamp_small.specs.inner.Candidate as candidate;
+ghost use Rattle.stamp_small.specs.inner.Candidate.{stand_in, history_of};
 
 use crate::fault::Fault;
 use crate::renumbering::{renumbered_call, renumbered_reply};
@@ -61,7 +61,7 @@ pub(crate) fn history_of_calls(
 
 /// The call that stands for that of the fault.
 fn stand_in(layout: Layout, fault: &Fault, candidate: &Candidate) -> Observation
-    ensures { result ≡ candidate.stand_in (units_of layout) fault.now candidate.now }
+    ensures { result ≡ stand_in (units_of layout) fault.now candidate.now }
 {
     Observation {
         thread: fault.call.thread,
@@ -83,7 +83,7 @@ pub(crate) fn history_of(
 ) -> Result<Option<Observed>, AllocError>
     ensures observed { IfOk result (λ made. IfSome made (λ h. IsObserved h)) }
     ensures same { IfOk result (λ made. IfSome made (λ h. h
-        ≡ candidate.history_of observed.now fault.now candidate.now)) }
+        ≡ history_of observed.now fault.now candidate.now)) }
 {
     let mut calls = candidate.others.to_vec(alloc)?;
     calls.push(stand_in(observed.limits().layout(), fault, candidate))?;

@@ -4,7 +4,7 @@ ghost use Rattle.std.specs.List.{All, Contains};
 ghost use Rattle.stamp_core.specs.Layout.{units_of};
 ghost use Rattle.stamp_explain.specs.Cut.{IsStuck};
 ghost use Rattle.stamp_explain.specs.Observed.{IsObserved, IsReturnAt};
-ghost use Rattle.stamp_small.specs.Renumbering as renumbering;
+ghost use Rattle.stamp_small.specs.Renumbering.{renumbered_reply};
 ghost use Rattle.stamp_small.specs.Small.{ArePossibleToo, HaveSame, IsStuckAs, renumbered_possible};
 ghost use Rattle.stamp_small.specs.inner.Fault.{IsFaultOf, replies_in};
 
@@ -75,7 +75,7 @@ fn are_possible(
     requires observed { IsObserved small.now }
     requires returned { IsReturnAt small.now.entries place }
     ensures { IfOk result (λ found. IsTrue found → ArePossibleToo small.now place
-        (Some (map (renumbering.renumbered_reply (units_of layout) versions) replies.now))) }
+        (Some (map (renumbered_reply (units_of layout) versions) replies.now))) }
 {
     let wanted = renumbered_replies(alloc, layout, versions, replies)?;
     match possible_at(alloc, small, place, most) {

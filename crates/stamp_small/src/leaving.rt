@@ -12,7 +12,7 @@ use stamp_explain::{Observation, Observed};
 use std::alloc::{AllocError, Global};
 
 /// About how many calls are judged at most while some are left out.
-const MOST_JUDGED: usize = 4_000_000;
+const MOST_JUDGED: usize = 1_000_000;
 
 /// How many histories of so many calls are judged at most.
 fn most_tries(calls: usize) -> usize {
@@ -21,6 +21,7 @@ fn most_tries(calls: usize) -> usize {
 
 /// Goes over the parts of a list: first the whole, then its halves, their halves and so on down to single places,
 /// each time from the end on.
+#[derive(Clone, Copy)]
 struct Sweep {
     size: usize,
     end: usize,
@@ -35,7 +36,7 @@ impl Sweep {
     }
 
     /// Where the next part of a list of so many begins and ends.
-    fn next(&mut self, count: usize) -> Option<(usize, usize)> {
+    fn next_part(&mut self, count: usize) -> Option<(usize, usize)> {
         if self.end == 0 {
             if self.size <= 1 {
                 return None;
@@ -137,17 +138,16 @@ pub(crate) fn without_parts(
     alloc: Global,
     observed: &Observed,
     fault: &Fault,
-    found: Found,
+    mut found: Found,
     most: u64,
 ) -> Result<Found, AllocError>
     requires fault { IsFaultOf observed.now most fault.now }
     requires found { IsStuckAs observed.now most fault.now.entry found.small }
     ensures { IfOk result (λ f. IsStuckAs observed.now most fault.now.entry f.small) }
 {
-    let mut found = found;
     let mut sweep = Sweep::over(found.candidate.others.len());
     for _ in 0..most_tries(found.candidate.others.len()) {
-        let Some((from, to)) = sweep.next(found.candidate.others.len()) else {
+        let Some((from, to)) = sweep.next_part(found.candidate.others.len()) else {
             return Ok(found);
         };
         let tried = without_part(alloc, &found.candidate, from, to)?;
@@ -163,14 +163,13 @@ pub(crate) fn without_holds(
     alloc: Global,
     observed: &Observed,
     fault: &Fault,
-    found: Found,
+    mut found: Found,
     most: u64,
 ) -> Result<Found, AllocError>
     requires fault { IsFaultOf observed.now most fault.now }
     requires found { IsStuckAs observed.now most fault.now.entry found.small }
     ensures { IfOk result (λ f. IsStuckAs observed.now most fault.now.entry f.small) }
 {
-    let mut found = found;
     let calls = found.candidate.others.len();
     for place in (0..calls.min(most_tries(calls))).rev() {
         let Some(tried) = without_hold(alloc, &found.candidate, place)? else {

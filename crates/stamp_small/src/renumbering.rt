@@ -1,7 +1,7 @@
 //! Stamps renumbered, as the lock issues them where its first write acquisitions are left out.
 ghost use Rattle.std.specs.Prelude.{◌≡◌, IfOk, map};
 ghost use Rattle.stamp_core.specs.Layout.{units_of};
-ghost use Rattle.stamp_small.specs.Renumbering as renumbering;
+ghost use Rattle.stamp_small.specs.Renumbering.{renumbered_stamp, renumbered_call, renumbered_reply};
 
 use stamp_core::{Call, Layout, Reply};
 use std::alloc::{AllocError, Global};
@@ -19,7 +19,7 @@ fn version_unit(layout: Layout) -> u64
 
 /// The stamp with so many versions less.
 fn renumbered_stamp(layout: Layout, versions: u64, stamp: u64) -> u64
-    ensures { result ≡ renumbering.renumbered_stamp (units_of layout) versions stamp }
+    ensures { result ≡ renumbered_stamp (units_of layout) versions stamp }
 {
     let unit = version_unit(layout);
     if stamp < unit {
@@ -46,7 +46,7 @@ pub(crate) fn stamp_of(call: &Call) -> Option<u64> {
 }
 
 pub(crate) fn renumbered_call(layout: Layout, versions: u64, call: &Call) -> Call
-    ensures { result ≡ renumbering.renumbered_call (units_of layout) versions call.now }
+    ensures { result ≡ renumbered_call (units_of layout) versions call.now }
 {
     match *call {
         Call::Validate(stamp) => Call::Validate(renumbered_stamp(layout, versions, stamp)),
@@ -61,7 +61,7 @@ pub(crate) fn renumbered_call(layout: Layout, versions: u64, call: &Call) -> Cal
 }
 
 pub(crate) fn renumbered_reply(layout: Layout, versions: u64, reply: &Reply) -> Reply
-    ensures { result ≡ renumbering.renumbered_reply (units_of layout) versions reply.now }
+    ensures { result ≡ renumbered_reply (units_of layout) versions reply.now }
 {
     match *reply {
         Reply::Stamp(stamp) => Reply::Stamp(renumbered_stamp(layout, versions, stamp)),
@@ -76,7 +76,7 @@ pub(crate) fn renumbered_replies(
     replies: &[Reply],
 ) -> Result<Vec<Reply>, AllocError>
     ensures { IfOk result (λ made. made.items
-        ≡ map (renumbering.renumbered_reply (units_of layout) versions) replies.now) }
+        ≡ map (renumbered_reply (units_of layout) versions) replies.now) }
 {
     let mut made = Vec::with_capacity(alloc, replies.len())?;
     for reply in replies {

@@ -59,15 +59,15 @@ fn any_window_found(
     let Some(order) = order_of(alloc, observed, fault, cut, most)? else {
         return Ok(None);
     };
-    let order = order.entries();
-    match window_found(alloc, observed, fault, cut, order, OlderStamps::Kept, most)? {
+    let calls = order.entries();
+    match window_found(alloc, observed, fault, cut, calls, OlderStamps::Kept, most)? {
         Some(found) => Ok(Some(found)),
         None => window_found(
             alloc,
             observed,
             fault,
             cut,
-            order,
+            calls,
             OlderStamps::Dropped,
             most,
         ),

@@ -32,11 +32,11 @@ abbrev pub explained_text : Form → Recorded → List ℕ
 explained_text History made = history_text made
 explained_text Judgement made = ok_text (length made.entries)
 
-abbrev pub stuck_text : ℕ → List ℕ
-stuck_text i = codes "stuck " ++ decimal i
+abbrev pub stuck_line : ℕ → List ℕ
+stuck_line i = codes "stuck " ++ decimal i
 
-abbrev pub undecided_text : ℕ → List ℕ
-undecided_text i = codes "undecided " ++ decimal i
+abbrev pub undecided_line : ℕ → List ℕ
+undecided_line i = codes "undecided " ++ decimal i
 
 -- a history that is stuck as this one is at the return of this entry, as its text
 pub record IsTextOfSmall (h : ObservedHistory) (most i : ℕ) (text : List ℕ) : Type 0 where
@@ -46,11 +46,11 @@ pub record IsTextOfSmall (h : ObservedHistory) (most i : ℕ) (text : List ℕ) 
 
 -- such a text, or the entry, where no such history was found
 abbrev pub IsSmallText : ObservedHistory → ℕ → ℕ → List ℕ → Type 0
-IsSmallText h most i text = IsTextOfSmall h most i text ⊎ (text ≡ stuck_text i)
+IsSmallText h most i text = IsTextOfSmall h most i text ⊎ (text ≡ stuck_line i)
 
 -- what is written of a history that is stuck at the return of this entry
 abbrev pub IsStuckText : Shown → ObservedHistory → ℕ → ℕ → List ℕ → Type 0
-IsStuckText Entry h most i text = text ≡ stuck_text i
+IsStuckText Entry h most i text = text ≡ stuck_line i
 IsStuckText Small h most i text = IsSmallText h most i text
 
 -- what is written of what is found
@@ -58,8 +58,8 @@ abbrev pub IsFindingText : ObservedHistory → Explaining → Finding → List �
 IsFindingText h asked (Faulty fault) text = text ≡ bad_text fault
 IsFindingText h asked (Explained made) text = text ≡ explained_text asked.form made
 IsFindingText h asked (Stuck i) text = IsStuckText asked.shown h asked.most i text
-IsFindingText h asked (Unexplained i) text = text ≡ undecided_text i
-IsFindingText h asked (Undecided i) text = text ≡ undecided_text i
+IsFindingText h asked (Unexplained i) text = text ≡ undecided_line i
+IsFindingText h asked (Undecided i) text = text ≡ undecided_line i
 
 abbrev pub finding_verdict : Finding → Verdict
 finding_verdict (Faulty fault) = Bad

@@ -4,7 +4,7 @@ ghost use Rattle.std.specs.Prelude.{◌≡◌, Some, IfOk, IfErr, length};
 ghost use Rattle.stamp_core.specs.Linearized.{IsLinearized};
 ghost use Rattle.stamp_explain.specs.Cut.{IsStuck};
 ghost use Rattle.stamp_explain.specs.Observed.{IsObserved, IsReturnAt};
-ghost use Rattle.stamped_explain.specs.FindingText.{why_text, bad_text, explained_text, stuck_text, finding_verdict};
+ghost use Rattle.stamped_explain.specs.FindingText.{why_text, bad_text, explained_text, stuck_line, finding_verdict};
 ghost use Rattle.stamped_explain.specs.FindingText.{IsSmallText, IsStuckText, IsFindingText};
 ghost use Rattle.stamped_explain.specs.Finding.{IsFinding, IsLinearizedIfMade};
 
@@ -73,7 +73,7 @@ fn text_of_explained(alloc: Global, form: Form, made: &Record) -> Result<Vec<u8>
 
 /// The line of a history that is stuck: the entry at whose return it is.
 fn entry_text(alloc: Global, entry: usize) -> Result<Vec<u8>, ServeFault>
-    ensures text { IfOk result (λ text. text.items ≡ stuck_text entry) }
+    ensures text { IfOk result (λ text. text.items ≡ stuck_line entry) }
     ensures memory { IfErr result (λ e. e ≡ ServeFault.Memory) }
 {
     Ok(format!(in alloc; "stuck {entry}")?.into_bytes())
