@@ -60,11 +60,11 @@ SMALL = (
 )
 # The read doesn't matter; the put does.
 WRONG_GET = (
-    b'{"entries":[{"call":["put",[1]],"first":1,"last":2,"reply":"done","thread":0},%s'
-    b'{"call":["get"],"first":3,"last":5,"reply":[2],"thread":0}],'
+    b'{"entries":[{"call":["put",[1]],"first":0,"last":1,"reply":"done","thread":0},%s'
+    b'{"call":["get"],"first":2,"last":4,"reply":[2],"thread":0}],'
     b'"format":1,"readers":1,"versions":1,"width":1}\n'
 )
-BESIDE = b'{"call":["try_read"],"first":3,"last":4,"reply":257,"thread":1},'
+BESIDE = b'{"call":["try_read"],"first":2,"last":3,"reply":257,"thread":1},'
 WRONG_GET_LINE = b"stamped_explain: entry 2 of thread 0: get answered [2]; possible: [1]\n"
 OVERLAPPING = (OBSERVED % b"384").replace(b'"first":3', b'"first":2')
 FOUND = (

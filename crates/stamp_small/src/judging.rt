@@ -79,7 +79,7 @@ fn are_possible(
 {
     let wanted = renumbered_replies(alloc, layout, versions, replies)?;
     match possible_at(alloc, small, place, most) {
-        Ok(found) => Ok(have_same(&wanted, &found)),
+        Ok(found) => Ok(have_same(wanted.as_slice(), found.as_slice())),
         Err(PossibleError::Undecided) => Ok(false),
         Err(PossibleError::Memory) => Err(AllocError),
     }
@@ -103,7 +103,15 @@ fn has_same_possible(
 {
     match &fault.possible {
         None => Ok(true),
-        Some(replies) => are_possible(alloc, layout, versions, replies, small, place, most),
+        Some(replies) => are_possible(
+            alloc,
+            layout,
+            versions,
+            replies.as_slice(),
+            small,
+            place,
+            most,
+        ),
     }
 }
 

@@ -1,5 +1,5 @@
 //! Calls that don't matter, left out of a small history.
-ghost use Rattle.std.specs.Prelude.{IfOk};
+ghost use Rattle.std.specs.Prelude.{IfOk, IfSome};
 ghost use Rattle.stamp_small.specs.Small.{IsStuckAs};
 ghost use Rattle.stamp_small.specs.inner.Fault.{IsFaultOf};
 
@@ -7,6 +7,7 @@ use crate::candidate::Candidate;
 use crate::fault::Fault;
 use crate::judging::{Found, found_of};
 use crate::renumbering::stamp_of;
+use crate::versions::{last_version, version_asked};
 use stamp_core::Reply;
 use stamp_explain::{Observation, Observed};
 use std::alloc::{AllocError, Global};
@@ -133,6 +134,35 @@ fn without_hold(
     Ok(Some(with_others(candidate, others)))
 }
 
+/// The version that the fault's call asks for by its stamp, if what was found comes to it.
+fn version_kept(observed: &Observed, fault: &Fault, found: &Found) -> u64 {
+    let layout = observed.limits().layout();
+    version_asked(layout, fault, found.candidate.versions).min(last_version(
+        layout,
+        found.candidate.others.as_slice(),
+    ))
+}
+
+/// The candidate with its history, if that is found to be stuck as the run is, and comes to this version: so the
+/// stamp of the fault's call is one of the past, and not of what is to come.
+fn fewer_found(
+    alloc: Global,
+    observed: &Observed,
+    fault: &Fault,
+    candidate: Candidate,
+    version: u64,
+    most: u64,
+) -> Result<Option<Found>, AllocError>
+    requires { IsFaultOf observed.now most fault.now }
+    ensures { IfOk result (λ found. IfSome found (λ f. IsStuckAs observed.now most fault.now.entry f.small)) }
+{
+    let layout = observed.limits().layout();
+    if last_version(layout, candidate.others.as_slice()) < version {
+        return Ok(None);
+    }
+    found_of(alloc, observed, fault, candidate, most)
+}
+
 /// Leaves out parts of what was found, as long as that is stuck as the run is.
 pub(crate) fn without_parts(
     alloc: Global,
@@ -145,13 +175,14 @@ pub(crate) fn without_parts(
     requires found { IsStuckAs observed.now most fault.now.entry found.small }
     ensures { IfOk result (λ f. IsStuckAs observed.now most fault.now.entry f.small) }
 {
+    let version = version_kept(observed, fault, &found);
     let mut sweep = Sweep::over(found.candidate.others.len());
     for _ in 0..most_tries(found.candidate.others.len()) {
         let Some((from, to)) = sweep.next_part(found.candidate.others.len()) else {
             return Ok(found);
         };
         let tried = without_part(alloc, &found.candidate, from, to)?;
-        if let Some(smaller) = found_of(alloc, observed, fault, tried, most)? {
+        if let Some(smaller) = fewer_found(alloc, observed, fault, tried, version, most)? {
             found = smaller;
         }
     }
@@ -170,12 +201,13 @@ pub(crate) fn without_holds(
     requires found { IsStuckAs observed.now most fault.now.entry found.small }
     ensures { IfOk result (λ f. IsStuckAs observed.now most fault.now.entry f.small) }
 {
+    let version = version_kept(observed, fault, &found);
     let calls = found.candidate.others.len();
     for place in (0..calls.min(most_tries(calls))).rev() {
         let Some(tried) = without_hold(alloc, &found.candidate, place)? else {
             continue;
         };
-        if let Some(smaller) = found_of(alloc, observed, fault, tried, most)? {
+        if let Some(smaller) = fewer_found(alloc, observed, fault, tried, version, most)? {
             found = smaller;
         }
     }

@@ -14,6 +14,7 @@ mod leaving;
 mod opening;
 mod renumbering;
 mod small;
+mod versions;
 mod window;
 
 pub use small::small_of;

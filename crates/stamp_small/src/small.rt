@@ -15,7 +15,7 @@ use stamp_explain::Observed;
 use std::alloc::{AllocError, Global};
 
 /// How many calls of an order a window has, one window after the other.
-const WINDOWS: [usize; 7] = [16, 32, 64, 128, 256, 512, 1024];
+const WINDOWS: [usize; 10] = [2, 4, 8, 16, 32, 64, 128, 256, 512, 1024];
 
 /// The first window at the end of an order that is stuck as the run is.
 fn window_found(

@@ -3,8 +3,9 @@
 use crate::candidate::Candidate;
 use crate::fault::Fault;
 use crate::opening::{State, opening_of, state_after};
-use crate::renumbering::{renumbered_call, renumbered_reply, stamp_of};
-use stamp_core::{Entry, Layout, Reply, StampKind, stamp_kind_in};
+use crate::renumbering::{renumbered_call, renumbered_reply};
+use crate::versions::versions_before_fault;
+use stamp_core::{Entry, Layout};
 use stamp_explain::{Observation, Observed, Returned};
 use std::alloc::{AllocError, Global};
 
@@ -18,48 +19,6 @@ pub(crate) enum OlderStamps {
     Kept,
     /// They become 0.
     Dropped,
-}
-
-/// The most versions that can be left out of a run so that this stamp is still one.
-fn versions_before(layout: Layout, stamp: u64) -> u64 {
-    match stamp_kind_in(layout, stamp) {
-        StampKind::Write(version) => version.saturating_sub(1),
-        StampKind::Read(version, _) => version,
-        StampKind::Optimistic(version) => version,
-        StampKind::Neither => u64::MAX,
-    }
-}
-
-/// The same of the stamp that a call is answered, if it is answered one.
-fn versions_before_reply(layout: Layout, reply: &Reply) -> u64 {
-    match *reply {
-        Reply::Stamp(stamp) => versions_before(layout, stamp),
-        _ => u64::MAX,
-    }
-}
-
-/// The same of all replies.
-fn versions_before_all(layout: Layout, replies: &[Reply]) -> u64 {
-    let mut versions = u64::MAX;
-    for reply in replies {
-        versions = versions.min(versions_before_reply(layout, reply));
-    }
-    versions
-}
-
-/// The same of all stamps of the fault's call.
-fn versions_before_fault(layout: Layout, fault: &Fault) -> u64 {
-    let asked = match stamp_of(&fault.call.call) {
-        None => u64::MAX,
-        Some(stamp) => versions_before(layout, stamp),
-    };
-    let possible = match &fault.possible {
-        None => u64::MAX,
-        Some(replies) => versions_before_all(layout, replies),
-    };
-    versions_before_reply(layout, &fault.returned.reply)
-        .min(asked)
-        .min(possible)
 }
 
 /// How many versions are left out before a window that begins in this state; nothing where older stamps would
