@@ -1,10 +1,4 @@
-use Rattle.stamp_core.specs.Limits.{Bounds}
-use Rattle.std.proofs.Common.{subst}
-use Rattle.std.specs.Prelude.{IsTrue}
-use Rattle.stamp_core.specs.Layout.{units_of}
-use Rattle.stamp_core.specs.declared.layout.Layout.{Layout}
-use Rattle.stamp_small.specs.Small.{ArePossibleToo, renumbered_possible}
-use Rattle.stamp_small.specs.inner.Fault.{replies_in}
+use Rattle.std.proofs.Common.{arith}
 use Rattle.stamp_small.proofs.Judged.{stuck_as}
 use Rattle.stamp_small.proofs.judging.found_of.Goals as goal
 
@@ -12,5 +6,6 @@ pub returns-then-branch : goal.returns-then-branch
 returns-then-branch c =
     stuck_as c.args.observed.now c.args.most c.args.fault.now c.args.candidate c.in-Some.small c.len-place.result
     c.requires (rw c.in-Some.is at c.in_ok-small.ensures.observed) (rw c.in-Some.is at c.in_ok-small.ensures.same)
-    c.len-place.ensures (c.in_ok-is_stuck_at.ensures c.if-not-branch.false)
+    (omega (arith, c.len-place.ensures, c.args.candidate.others.ok.0))
+    (c.in_ok-is_stuck_at.ensures c.if-not-branch.false)
     (rw (c.layout-layout.ensures.layout, c.limits.ensures) at (c.in_ok-has_same_possible.ensures c.if-branch.true))
