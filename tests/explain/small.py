@@ -58,7 +58,8 @@ def broken(history, name, reply_of):
     """The history with another reply of the last call of this name among the first nine tenths."""
     entries = json.loads(json.dumps(history["entries"]))
     among = entries[: len(entries) * 9 // 10]
-    wrong = next(entry for entry in reversed(among) if entry["call"][0] == name and entry["reply"] != 0)
+    wrong = next(entry for entry in reversed(among)
+                 if entry["call"][0] == name and entry["reply"] not in (0, reply_of(entry["reply"])))
     wrong["reply"] = reply_of(wrong["reply"])
     return json.dumps({**history, "entries": entries}).encode()
 
@@ -116,7 +117,7 @@ def planted_runs(calls, seed):
 def changed_runs(stamped, calls, seed):
     history = run_of(stamped, random.Random(seed), 4, calls)
     return {
-        "another stamp": [broken(history, "try_read", lambda stamp: stamp + 1)],
+        "another stamp": [broken(history, "try_read", lambda stamp: stamp + 64)],
         "an older stamp": [broken(history, "optimistic", lambda stamp: stamp - VERSION)],
         "a failed release": [broken(history, "unlock_write", lambda _: "mismatch")],
         "a wrong validation": [broken(history, "validate", lambda _: "no")],
