@@ -6,10 +6,10 @@ ghost use Rattle.stamp_observed.specs.Suited.{AreSuited};
 ghost use Rattle.stamp_observed.specs.inner.Candidate.{stand_in, history_of};
 
 use crate::fault::Fault;
+use crate::judging::fault_of;
 use crate::renumbering::{renumbered_call, renumbered_reply};
 use stamp_core::{Layout, MOST_THREADS};
 use stamp_explain::{Observation, Observed, Returned};
-use crate::judging::fault_of;
 use std::alloc::{AllocError, Global};
 
 /// What may be a small history: some calls, and behind them one that stands for that of the fault.
