@@ -1,0 +1,3 @@
+pub mod NoOrder
+pub mod PageText
+pub mod PageAnswers
