@@ -1,3 +1,3 @@
-pub mod NoOrder
+pub mod Until
 pub mod PageText
 pub mod PageAnswers

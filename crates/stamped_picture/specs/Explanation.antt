@@ -3,12 +3,11 @@ use Rattle.std.specs.Prelude.{ℕ, ◌≡◌, Option, None, Some, Vec, MatchOpti
 use Rattle.std.specs.declared.alloc.Global.{Global}
 use Rattle.stamp_core.specs.Record.{Recorded}
 use Rattle.stamp_core.specs.declared.reply.Reply.{Reply}
-use Rattle.stamp_explain.specs.Answer.{IsRefusal, IsUndecided, IsUnexplained}
+use Rattle.stamp_explain.specs.Answer.{IsUndecided, IsUnexplained}
 use Rattle.stamp_explain.specs.Cut.{IsStuck}
 use Rattle.stamp_explain.specs.Observed.{ObservedHistory, IsObserved}
 use Rattle.stamp_explain.specs.Points.{HasPoints}
 use Rattle.stamp_explain.specs.Possible.{AreAllPossible, IsSeenUntil, IsUndecidedAtAny}
-use Rattle.stamp_explain.specs.declared.explaining.ExplainError.{ExplainError}
 use Rattle.stamp_observed.specs.ObservedFault.{IsFirstFault}
 use Rattle.stamped_picture.specs.declared.explanation.StuckReturn.{StuckReturn}
 use Rattle.stamped_picture.specs.declared.explanation.Explanation.{Explanation}
@@ -24,18 +23,18 @@ abbrev pub first_of : Option (Vec Reply Global) → Option Reply
 first_of None = None
 first_of (Some replies) = slice_get replies.items 0
 
--- why no order is told of a history: it has none, or the search gives up
-pub record HasNoOrder (h : ObservedHistory) (most : ℕ) : Type 0 where
-  pub refused : ExplainError
-  pub is : IsRefusal h most refused
+-- no order is told, since the search of one gives up
+pub record GivesNoOrder (h : ObservedHistory) (most : ℕ) : Type 0 where
+  pub entry : ℕ
+  pub is : IsUndecided h most entry
 
 -- this recorded history explains what is seen when the call of this entry has returned, with this reply or with
--- none; or none is told
+-- none; or the search of that gives up
 pub record IsOrderUntil (h : ObservedHistory) (most i : ℕ) (reply : Option Reply) (found : Option Recorded) :
     Type 0 where
   pub seen : ObservedHistory
   pub is_seen : IsSeenUntil h i reply seen
-  pub is : MatchOption found (HasNoOrder seen most) (λ (order : Recorded). HasPoints seen order)
+  pub is : MatchOption found (GivesNoOrder seen most) (λ (order : Recorded). HasPoints seen order)
 
 -- the history is stuck at this return, with all replies that were possible, and what explains it up to there with the
 -- first of them

@@ -5,6 +5,7 @@ ghost use Rattle.stamp_explain.specs.Cut.{IsStuck};
 ghost use Rattle.stamp_explain.specs.Observed.{IsObserved, IsReturnAt};
 ghost use Rattle.stamp_observed.specs.Suited.{AreSuited};
 ghost use Rattle.stamped_picture.specs.Explanation.{ArePossibleAt, IsExplanation, IsOrderUntil, IsStuckReturn, first_of};
+ghost use Rattle.stamped_picture.specs.inner.Explanation.{IsExplainedUntil};
 
 use stamp_core::{Record, Reply};
 use stamp_explain::{ExplainError, Observed, PossibleError, explain, possible_at, seen_until};
@@ -66,7 +67,8 @@ fn first_of(possible: &Option<Vec<Reply>>) -> Option<Reply>
     }
 }
 
-/// What explains the history up to the return of this entry, with this reply of it or with none.
+/// What explains the history up to the return of this entry, with this reply of it or with none;
+/// nothing where the search gives up.
 fn order_until(
     alloc: Global,
     observed: &Observed,
@@ -76,15 +78,16 @@ fn order_until(
 ) -> Result<Option<Record>, AllocError>
     requires observed { IsObserved observed.now }
     requires returned { IsReturnAt observed.now.entries entry }
+    requires explained { IsExplainedUntil observed.now entry reply }
     ensures { IfOk result (λ found. IsOrderUntil observed.now most entry reply found) }
 {
     let seen = seen_until(alloc, observed, entry, reply)?;
     match explain(alloc, &seen, most) {
         Ok(order) => Ok(Some(order)),
-        Err(ExplainError::Memory) => Err(AllocError),
-        Err(ExplainError::Stuck(_) | ExplainError::Unexplained(_) | ExplainError::Undecided(_)) => {
-            Ok(None)
-        }
+        Err(refused) => match refused {
+            ExplainError::Memory => Err(AllocError),
+            _ => Ok(None),
+        },
     }
 }
 

@@ -2,7 +2,6 @@ use Rattle.std.proofs.Common.{◌≡◌, sym, ◌∙◌, ap}
 use Rattle.stamp_history.specs.History.{recorded_of}
 use Rattle.stamp_observed.specs.ObservedReading.{observed_of}
 use Rattle.stamped_picture.proofs.PageAnswers.{IsNoRecord, memory_is_inner, observed_answer, recorded_answer}
-use Rattle.stamped_picture.proofs.PageAnswers.{refused_answer, unread_answer}
 use Rattle.stamped_picture.proofs.page.page_on.Goals as goal
 use Rattle.stamped_picture.proofs.page.page_on.Goals.{In-Err}
 
@@ -24,7 +23,7 @@ returns-in-Ok-clause-inner c = memory_is_inner c.recorded_page.result c.recorded
 pub returns-clause-answer : goal.returns-clause-answer
 returns-clause-answer c = observed_answer c.args.most c.args.head.now c.args.tail.now c.args.input.now
     c.in-Err.error c.in_ok-observed.observed c.observed_page.result (no_record (goal.at.returns-clause-answer c).In-Err)
-    (sym c.is_at_first_entry.ensures ∙ c.if-is_at_first_entry.true)
+    (sym c.is_at_first_entry.ensures ∙ c.if-not-is_at_first_entry.false)
     (ap observed_of (sym c.in_ok-input.ensures.ok.0) ∙ c.in_ok-observed.ensures.read) c.observed_page.ensures.page
     c.observed_page.ensures.memory
 
