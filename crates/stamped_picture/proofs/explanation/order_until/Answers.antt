@@ -13,10 +13,10 @@ returns-in-Ok c = record {
   is = c.in-Ok.ensures;
 }
 
-pub returns-in_default : goal.returns-in_default
-returns-in_default c = record {
+pub returns : goal.returns
+returns c = record {
   seen = c.in_ok-seen.seen;
   is_seen = c.in_ok-seen.ensures.seen;
-  is = gives_no_order c.in-Err.refused (explained (goal.at.returns-in_default c).In_ok-seen) c.in_default.not-Memory
+  is = gives_no_order c.in-Err.refused (explained (goal.at.returns c).In_ok-seen) c.in_default.not-Memory
       c.in-Err.ensures;
 }
