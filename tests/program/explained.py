@@ -66,6 +66,9 @@ FORMS = [
     ("--most 5 --judge", True, False, 5), ("--most 5 --told", False, True, 5),
     ("--judge --told --most 5", True, True, 5), ("--most 5 --judge --told", True, True, 5),
 ]
+# What the program tells of itself: each of its options, and how many configurations it looks at without `--most`.
+HELPED = ["stamped_explain [--judge] [--told] [--most N]", "4000000", "--judge  ", "--told  ",
+          "stamped_explain --help\n"]
 # Other words are no form.
 BAD = [
     "--most 18446744073709551616", "--most +1", "--most", "--more 1", "--help --judge", "--told --judge",
@@ -107,9 +110,12 @@ def try_forms(program):
         if most == 0:
             written, status = "undecided 1", 1
         expect(program, words.split(), SEEN, written, said, status)
+    helped = subprocess.run([program, "--help"], input=SEEN.encode(), capture_output=True, timeout=60)
+    if helped.returncode or helped.stderr or not all(it.encode() in helped.stdout for it in HELPED):
+        sys.exit(f"--help gives {helped}")
     for words in BAD:
         expect(program, words.split(), SEEN, "", "bad command line", 2)
-    print(f"command lines: {len(FORMS) + len(BAD)} as they are to be")
+    print(f"command lines: {len(FORMS) + 1 + len(BAD)} as they are to be")
 
 
 def main():
