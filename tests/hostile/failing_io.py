@@ -42,6 +42,7 @@ EXPLAIN_TABLE = [
     (["--most", "9"], OBSERVED, FOUND, 0, b""),
     ([], UNSEEN, b"bad 0 interval", 1, b""),
     ([], STUCK, b"stuck 0", 1, STUCK_LINE),
+    (["--small"], STUCK, STUCK, 1, STUCK_LINE),
     (["--judge"], OBSERVED, b"ok 1", 0, b""),
     (["--judge", "--told"], OBSERVED, b"ok 1", 0, TRIED_LINE),
 ]

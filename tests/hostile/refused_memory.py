@@ -54,6 +54,18 @@ OBSERVED = (
     b'"format":1,"readers":1,"versions":1,"width":0}'
 )
 STUCK_LINE = b"stamped_explain: entry 1 of thread 0: try_write answered 385; possible: 384\n"
+SMALL = (
+    b'{"entries":[{"call":["try_write"],"first":0,"last":2,"reply":385,"thread":0}],'
+    b'"format":1,"readers":1,"versions":1,"width":0}\n'
+)
+# The read doesn't matter; the put does.
+WRONG_GET = (
+    b'{"entries":[{"call":["put",[1]],"first":0,"last":1,"reply":"done","thread":0},%s'
+    b'{"call":["get"],"first":2,"last":4,"reply":[2],"thread":0}],'
+    b'"format":1,"readers":1,"versions":1,"width":1}\n'
+)
+BESIDE = b'{"call":["try_read"],"first":2,"last":3,"reply":257,"thread":1},'
+WRONG_GET_LINE = b"stamped_explain: entry 2 of thread 0: get answered [2]; possible: [1]\n"
 OVERLAPPING = (OBSERVED % b"384").replace(b'"first":3', b'"first":2')
 FOUND = (
     b'{"entries":[{"call":["try_write"],"first":0,"last":191,"point":0,"reply":384,"thread":0},'
@@ -147,6 +159,9 @@ def main():
         ([explain], NO_THREAD, (1, b"", b"stamped_explain: not a history: top\n"), untold),
         ([explain, "--judge"], OBSERVED % b"384", (0, b"ok 2\n", b""), untold),
         ([explain, "--told", "--most", "9"], OBSERVED % b"384", (0, FOUND, TRIED_LINE), [*untold, (0, FOUND, b"")]),
+        ([explain, "--small"], OBSERVED % b"385", (1, SMALL, STUCK_LINE), [*untold, (1, SMALL, b"")]),
+        ([explain, "--judge", "--small"], WRONG_GET % BESIDE, (1, WRONG_GET % b"", WRONG_GET_LINE),
+         [*untold, (1, WRONG_GET % b"", b"")]),
         ([explain, "--judge"], b"", NO_INPUT, untold),
         ([explain, "--help"], b"", drawn(explain, b"", 0, "--help"), untold),
         ([explain, "--most"], b"", bad_line(explain), untold),

@@ -58,22 +58,33 @@ TOLD = [
 ]
 WRONG = TRIED.replace("640", "768")
 WRONG_NOTE = "entry 3 of thread 1: try_write answered 768; possible: 640"
-# The forms of the command line, with what is asked for: a judgement, what was tried, and the most configurations.
-FORMS = [
-    ("", False, False, None), ("--judge", True, False, None), ("--told", False, True, None),
-    ("--judge --told", True, True, None), ("--most 0", False, False, 0),
-    ("--most 18446744073709551615", False, False, 2**64 - 1), ("--judge --most 5", True, False, 5),
-    ("--most 5 --judge", True, False, 5), ("--most 5 --told", False, True, 5),
-    ("--judge --told --most 5", True, True, 5), ("--most 5 --judge --told", True, True, 5),
+# What a stuck history is made: all calls of the one up to the wrong reply, each of which matters; those of the other
+# without the read, which doesn't.
+SMALL = [
+    (STUCK, STUCK_NOTE, '{"entries":[{"call":["try_write"],"first":0,"last":2,"reply":384,"thread":0},'
+     '{"call":["unlock",384],"first":3,"thread":0},'
+     '{"call":["optimistic"],"first":1,"last":4,"reply":768,"thread":1}],'
+     '"format":1,"readers":1,"versions":1,"width":0}'),
+    (WRONG, WRONG_NOTE, '{"entries":[{"call":["try_write"],"first":0,"last":1,"reply":384,"thread":0},'
+     '{"call":["unlock",384],"first":2,"last":3,"reply":"done","thread":0},'
+     '{"call":["try_write"],"first":5,"last":8,"reply":768,"thread":1}],'
+     '"format":1,"readers":1,"versions":9,"width":0}'),
 ]
 # What the program tells of itself: each of its options, and how many configurations it looks at without `--most`.
-HELPED = ["stamped_explain [--judge] [--told] [--most N]", "4000000", "--judge  ", "--told  ",
+HELPED = ["stamped_explain [--judge] [--told] [--small] [--most N]", "4000000", "--judge  ", "--told  ", "--small  ",
           "stamped_explain --help\n"]
+# The words before or behind a number of configurations: whether they ask for a judgement, for what was tried, and for a
+# small history.
+WORDS = {"": (False, False, False), "--judge": (True, False, False), "--told": (False, True, False),
+         "--small": (False, False, True), "--judge --told": (True, True, False), "--judge --small": (True, False, True),
+         "--told --small": (False, True, True), "--judge --told --small": (True, True, True)}
+MOST = ["0", "5", "18446744073709551615"]
 # Other words are no form.
 BAD = [
     "--most 18446744073709551616", "--most +1", "--most", "--more 1", "--help --judge", "--told --judge",
     "--judge --judge", "--judge --most -1", "--judge --most", "--judge --most 1 --told", "--most 1 --most 1",
-    "--judge --told --most 1 --told",
+    "--judge --told --most 1 --told", "--small --judge", "--judge --small --told",
+    "--judge --told --small --most 1 --told",
 ]
 
 
@@ -103,25 +114,36 @@ def try_told(program):
     print(f"what was tried: {len(TOLD) + 1} as they are to be")
 
 
+def try_small(program):
+    """A small history takes the place of the entry alone, and is stuck itself."""
+    for text, note, small in SMALL:
+        expect(program, ["--small"], text, small, note, 1)
+        expect(program, [], small, "stuck 2", note.replace("entry 3", "entry 2"), 1)
+    print(f"small histories: {len(SMALL)} as they are to be")
+
+
 def try_forms(program):
     """Five configurations are enough for these calls. With none the first return is undecided, that of entry 1."""
-    for words, is_judged, is_told, most in FORMS:
-        written, said, status = "ok 3" if is_judged else FOUND, TOLD[0][2] if is_told else "", 0
-        if most == 0:
-            written, status = "undecided 1", 1
-        expect(program, words.split(), SEEN, written, said, status)
+    for words, (is_judged, is_told, is_small) in WORDS.items():
+        found = "ok 3" if is_judged else FOUND, TOLD[0][2] if is_told else "", 0
+        expect(program, words.split(), SEEN, *found)
+        expect(program, words.split(), STUCK, SMALL[0][2] if is_small else "stuck 2", STUCK_NOTE, 1)
+        for most in MOST:
+            for order in [f"{words} --most {most}", f"--most {most} {words}"]:
+                expect(program, order.split(), SEEN, *(("undecided 1", "", 1) if most == "0" else found))
     helped = subprocess.run([program, "--help"], input=SEEN.encode(), capture_output=True, timeout=60)
     if helped.returncode or helped.stderr or not all(it.encode() in helped.stdout for it in HELPED):
         sys.exit(f"--help gives {helped}")
     for words in BAD:
         expect(program, words.split(), SEEN, "", "bad command line", 2)
-    print(f"command lines: {len(FORMS) + 1 + len(BAD)} as they are to be")
+    print(f"command lines: {len(WORDS) * (1 + 2 * len(MOST)) + 1 + len(BAD)} as they are to be")
 
 
 def main():
     program = sys.argv[1]
     try_answers(program)
     try_told(program)
+    try_small(program)
     try_forms(program)
 
 

@@ -5,3 +5,4 @@ pub mod Known
 pub mod OneFault
 pub mod ObservedParts
 pub mod ReadsAgain
+pub mod Judged

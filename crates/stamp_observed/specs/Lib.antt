@@ -5,4 +5,6 @@ pub mod Suited
 pub mod ObservedFault
 pub mod ObservedLaws
 pub mod ObservedText
+pub mod Renumbering
+pub mod Small
 pub mod inner

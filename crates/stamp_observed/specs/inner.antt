@@ -1,3 +1,5 @@
 pub mod ObservedFault
 pub mod Span
 pub mod ProgramValue
+pub mod Fault
+pub mod Candidate

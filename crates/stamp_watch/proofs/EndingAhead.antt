@@ -15,7 +15,7 @@ use Rattle.stamp_watch.specs.declared.ending.Ending.TheVariants.{Returns, Withdr
 use Rattle.stamp_watch.specs.AsObserved.{ending_of}
 use Rattle.stamp_watch.specs.AsObserved.Ending.{EndsBy}
 use Rattle.stamp_watch.specs.Verdict.{IsOfLock, is_lock_reply}
-use Rattle.stamp_watch.specs.Judging.{ends_as}
+use Rattle.stamp_watch.specs.Foretold.{ends_as}
 use Rattle.stamp_watch.specs.inner.Judging.{IsEndBy}
 use Rattle.stamp_watch.proofs.Reading.{drop_read}
 use Rattle.stamp_watch.proofs.Numbered.{return_ends, return_spares, withdrawal_ends, withdrawal_spares}

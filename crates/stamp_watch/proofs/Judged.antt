@@ -1,9 +1,9 @@
 -- What is found of events that are in form, and of a run of which they are the first.
 use Rattle.std.proofs.Common.{ℕ, ◌≡◌, ◌≢◌, ◌+◌, ◌<◌, ◌≤◌, List, [], ◌∷◌, ◌++◌, length, get_or, Option, refl, sym, ◌∙◌}
-use Rattle.std.proofs.Common.{ap}
+use Rattle.std.proofs.Common.{ap, inr, zero-add}
 use Rattle.std.proofs.Common.{subst, arith, add_assoc, add-zero, append_assoc, append-nil}
 use Rattle.std.specs.Prelude.{take, drop, IfOk, Result, Ok, Err}
-use Rattle.std.proofs.lemmas.List.{take_all, take-append-drop, take-append-le, take-take}
+use Rattle.std.proofs.lemmas.List.{take_all, take-append-drop, take-append-le, take-take, drop-drop, drop_at}
 use Rattle.std.proofs.lemmas.List.{length-take-le, length-append}
 use Rattle.std.proofs.Math.Seq.{take-append-add}
 use Rattle.stamp_core.specs.Limits.{Bounds}
@@ -57,7 +57,7 @@ module _ (limits : Bounds) (first : ℕ) (past events : List Event) (most k : �
         is step))
 
     pub unexplained_here : answer ≡ progress.Dead → AreExplained limits (past ++ take k events) →
-        IsOutcome limits past events most (Unexplained k)
+        IsOutcome limits first past events most (Unexplained k)
     unexplained_here is explained = (
       less,
       explained,
@@ -70,12 +70,14 @@ module _ (limits : Bounds) (first : ℕ) (past events : List Event) (most k : �
             IsStep limits (first + k) (past ++ take k events) e (drop (k + 1) events) most watch p) is step
 
     pub too_many_here : answer ≡ progress.TooMany → AreExplained limits (past ++ take k events) →
-        IsOutcome limits past events most (TooMany k)
+        IsOutcome limits first past events most (TooMany k)
     too_many_here is explained = (
       less,
       explained,
-      subst (λ (p : Progress). IsStep limits (first + k) (past ++ take k events) e (drop (k + 1) events) most watch p)
-          is step,
+      subst (λ (future : List Event). AreTooMany limits (first + k) (past ++ take k events) future most)
+          (sym (drop_read events k e less read))
+          (subst (λ (p : Progress).
+          IsStep limits (first + k) (past ++ take k events) e (drop (k + 1) events) most watch p) is step),
     )
 
     pub never_refused : answer ≡ progress.Refused → ⊥
@@ -101,6 +103,11 @@ all_explained limits first past events k watch high judging =
 pub cut_behind : (n k : ℕ) (past events : List Event) → n ≡ length past →
     take (n + k) (past ++ events) ≡ past ++ take k events
 cut_behind n k past events at = ap (λ (m : ℕ). take (m + k) (past ++ events)) at ∙ take-append-add past events k
+
+pub rest_behind : (n k : ℕ) (past events : List Event) → n ≡ length past →
+    drop (n + k) (past ++ events) ≡ drop k events
+rest_behind n k past events at =
+    sym (drop-drop k n (past ++ events)) ∙ ap (drop k) (drop_at past events n (sym at))
 
 pub length_behind : (n : ℕ) (past events : List Event) → n ≡ length past → length (past ++ events) ≡ n + length events
 length_behind n past events at =
@@ -151,19 +158,27 @@ module _ (limits : Bounds) (events : List Event) where
         cut : take (low + 1) (events ++ more) ≡ take (low + 1) events
         cut = take-append-le (low + 1) events more (omega (arith, next, within))
 
-    pub found_within : (low high place : ℕ) → place < high → IsBetween limits events low high →
-        AreTooMany limits (take place events) most → IsFound limits events most ahead (StuckWithin low high)
-    found_within low high place before between many more = record {
+    pub found_within : (low high cut place : ℕ) → low < cut → cut < high → place < cut →
+        IsBetween limits events low high →
+        AreTooMany limits place (take place events) (drop place (take cut events)) most →
+        IsFound limits events most ahead (StuckWithin low high)
+    found_within low high cut place after less before between many more = record {
       whole = subst AreOfLock (sym (take-append-le high events more between.within))
           (of_lock_up_to high events whole);
       explained = subst (AreExplained limits) (sym (take-append-le low events more (omega (arith, apart, within))))
           between.explained;
       stuck = λ explained. between.stuck
           (subst (AreExplained limits) (take-append-le high events more between.within) explained);
+      cut = cut;
+      after = after;
+      within = less;
       place = place;
       before = before;
-      too_many = subst (λ (past : List Event). AreTooMany limits past most)
-          (sym (take-append-le place events more (omega (arith, before, within)))) many;
+      too_many = subst (λ (past : List Event).
+          AreTooMany limits place past (drop place (take cut (events ++ more))) most)
+          (sym (take-append-le place events more (omega (arith, before, less, within))))
+          (subst (λ (future : List Event). AreTooMany limits place (take place events) (drop place future) most)
+          (sym (take-append-le cut events more (omega (arith, less, within)))) many);
     }
       where
         apart : low < high
@@ -216,7 +231,7 @@ module _ (n k : ℕ) (events : List Event) (base : Watch) where
     pub searching_higher : (middle most : ℕ) (start : Watch) (answer : Outcome) → low < middle → middle < high →
         answer ≡ judged.Explained → IsCopy base start →
         ((limits : Bounds) (past : List Event) → IsJudging limits n past (take middle events) start →
-        IsOutcome limits past (take middle events) most answer) → IsSearching n k middle high events base
+        IsOutcome limits n past (take middle events) most answer) → IsSearching n k middle high events base
     searching_higher middle most start answer more less found same is = record {
       after = let after : k ≤ low = searching.after in omega (arith, after, more);
       apart = less;
@@ -224,21 +239,21 @@ module _ (n k : ℕ) (events : List Event) (base : Watch) where
       between = λ limits past from stuck. between_higher limits (past ++ events) (n + low) (n + high) (n + middle)
           (omega (arith, less)) (searching.between limits past from stuck)
           (subst (AreExplained limits) (sym (cut_behind n middle past events from.place))
-          (subst (λ (o : Outcome). IsOutcome limits past (take middle events) most o) found
+          (subst (λ (o : Outcome). IsOutcome limits n past (take middle events) most o) found
           (is limits past (from_base limits past middle start from more less same))));
     }
 
     pub searching_lower : (middle most place : ℕ) (start : Watch) (answer : Outcome) → low < middle → middle < high →
         answer ≡ Unexplained place → IsCopy base start →
         ((limits : Bounds) (past : List Event) → IsJudging limits n past (take middle events) start →
-        IsOutcome limits past (take middle events) most answer) → IsSearching n k low middle events base
+        IsOutcome limits n past (take middle events) most answer) → IsSearching n k low middle events base
     searching_lower middle most place start answer more less found same is = record {
       after = searching.after;
       apart = more;
       within = let within : high ≤ length events = searching.within in omega (arith, within, less);
       between = λ limits past from stuck. between_lower limits (past ++ events) (n + low) (n + high) (n + middle)
           (omega (arith, more)) (omega (arith, less)) (searching.between limits past from stuck)
-          (λ whole. (subst (λ (o : Outcome). IsOutcome limits past (take middle events) most o) found
+          (λ whole. (subst (λ (o : Outcome). IsOutcome limits n past (take middle events) most o) found
           (is limits past (from_base limits past middle start from more less same))).2
           (subst (AreExplained limits) (cut_behind n middle past events from.place) whole));
     }
@@ -247,19 +262,26 @@ module _ (n k : ℕ) (events : List Event) (base : Watch) where
         low < middle → middle < high →
         answer ≡ TooMany place → IsCopy base start →
         ((limits : Bounds) (past : List Event) → IsJudging limits n past (take middle events) start →
-        IsOutcome limits past (take middle events) most answer) → (limits : Bounds) (past : List Event) →
+        IsOutcome limits n past (take middle events) most answer) → (limits : Bounds) (past : List Event) →
         IsBase limits n k past events base → IsStuckBehind limits past events k →
         IsFound limits (past ++ events) most ahead (StuckWithin (n + low) (n + high))
     search_too_many middle most place ahead start answer more less found same is limits past from stuck =
-        found_within limits (past ++ events) most ahead (base_whole limits past from) (n + low) (n + high) (n + place)
-        (omega (arith, below, less)) (searching.between limits past from stuck)
-        (subst (λ (before : List Event). AreTooMany limits before most)
+        found_within limits (past ++ events) most ahead (base_whole limits past from) (n + low) (n + high) (n + middle)
+        (n + place) (omega (arith, more)) (omega (arith, less)) (omega (arith, below))
+        (searching.between limits past from stuck)
+        (subst (λ (before : List Event). AreTooMany limits (n + place) before
+        (drop (n + place) (take (n + middle) (past ++ events))) most)
         (ap (λ (xs : List Event). past ++ xs) (take-take place middle events (omega (arith, below))) ∙
-        sym (cut_behind n place past events from.place)) many.2)
+        sym (cut_behind n place past events from.place))
+        (subst (λ (future : List Event). AreTooMany limits (n + place) (past ++ take place (take middle events)) future
+        most)
+        (sym (ap (drop (n + place)) (cut_behind n middle past events from.place) ∙
+        rest_behind n place past (take middle events) from.place)) many.2))
       where
         many : (place < length (take middle events)) × AreExplained limits (past ++ take place (take middle events)) ×
-            AreTooMany limits (past ++ take place (take middle events)) most
-        many = subst (λ (o : Outcome). IsOutcome limits past (take middle events) most o) found
+            AreTooMany limits (n + place) (past ++ take place (take middle events)) (drop place (take middle events))
+            most
+        many = subst (λ (o : Outcome). IsOutcome limits n past (take middle events) most o) found
             (is limits past (from_base limits past middle start from more less same))
 
         below : place < middle
@@ -278,12 +300,18 @@ module _ (n k : ℕ) (events : List Event) (base : Watch) where
 -- the verdict on a run of which the first events are in form
 pub undecided_at : (limits : Bounds) (events : List Event) (most many k : ℕ) (ahead : Option ℕ) →
     IsInFormUpTo events many →
-    IsOutcome limits [] (take many events) most (TooMany k) →
+    IsOutcome limits 0 [] (take many events) most (TooMany k) →
     IsVerdict limits events most ahead (Undecided k cause.TooMany)
 undecided_at limits events most many k ahead form outcome = (
   subst AreOfLock cut (of_lock_up_to k (take many events) form.whole),
   subst (AreExplained limits) cut outcome.1,
-  subst (λ (past : List Event). AreTooMany limits past most) cut outcome.2,
+  record {
+    known = many;
+    far = record { whole = form.whole; far = inr form.broken };
+    too_many = subst (λ (past : List Event). AreTooMany limits k past (drop k (take many events)) most) cut
+        (subst (λ (n : ℕ). AreTooMany limits n (take k (take many events)) (drop k (take many events)) most)
+        (zero-add k) outcome.2);
+  },
 )
   where
     cut : take k (take many events) ≡ take k events
@@ -330,9 +358,9 @@ pub judging_from_first : (limits : Bounds) (events : List Event) (base start : W
 judging_from_first limits events base start watching untold same whole =
     judging_copied limits 0 [] events base start same (judging_first limits events base watching untold whole)
 
-pub stuck_behind : (limits : Bounds) (past events : List Event) (most k : ℕ) →
-    IsOutcome limits past events most (Unexplained k) → IsStuckBehind limits past events k
-stuck_behind limits past events most k outcome = record { explained = outcome.1; stuck = outcome.2 }
+pub stuck_behind : (limits : Bounds) (n : ℕ) (past events : List Event) (most k : ℕ) →
+    IsOutcome limits n past events most (Unexplained k) → IsStuckBehind limits past events k
+stuck_behind limits n past events most k outcome = record { explained = outcome.1; stuck = outcome.2 }
 
 -- of what is there, both hold
 pub both_ok : {X E : Type 0} (r : Result X E) (P Q : X → Type 0) → IfOk r P → IfOk r Q →

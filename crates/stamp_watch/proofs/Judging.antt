@@ -30,14 +30,14 @@ use Rattle.stamp_watch.specs.Ahead.ReturnsSooner.{sooner_next, sooner_past_begin
 use Rattle.stamp_watch.specs.Ahead.ReturnsSooner.{sooner_past_withdrawal}
 use Rattle.stamp_watch.specs.AsObserved.{ending_of}
 use Rattle.stamp_watch.specs.AsObserved.Ending.{StaysOpen, EndsBy, EndsWithdrawn}
-use Rattle.stamp_watch.specs.Foretold.{open_at, EndsSo, HasEachOpen, ComesAsTold}
+use Rattle.stamp_watch.specs.Foretold.{open_at, ends_as, EndsSo, HasEachOpen, ComesAsTold}
 use Rattle.stamp_watch.specs.Form.{is_busy_then, is_busy_after, MayCome}
 use Rattle.stamp_watch.specs.Run.{AreExplained}
 use Rattle.stamp_watch.specs.Run.Survives.{at_end}
 use Rattle.stamp_watch.specs.Verdict.{AreOfLock}
 use Rattle.stamp_watch.specs.Watch.{AreKept, IsCopy, IsWatching, IsUntold, IsInForm, IsProgress, IsTaken}
 use Rattle.stamp_watch.specs.Watch.{BeginsTold, ReturnsTold, WithdrawsTold}
-use Rattle.stamp_watch.specs.Judging.{ends_as, IsFollowed, IsJudging}
+use Rattle.stamp_watch.specs.Judging.{IsFollowed, IsJudging}
 use Rattle.stamp_watch.specs.inner.Judging.{IsEndTold, IsStep}
 use Rattle.stamp_watch.proofs.Form.{busy_after_one}
 use Rattle.stamp_watch.proofs.Forming.{next_comes, next_of_lock}
@@ -369,6 +369,7 @@ stepped limits n past e ahead most old new TooMany is same follows judging = rec
   watch = old;
   limits_are = judging.limits_are;
   watching = judging.watching;
+  told = judging.followed.told;
   more = is.0;
 }
 stepped limits n past e ahead most old new Refused is same follows judging =

@@ -12,7 +12,7 @@ use Rattle.stamp_watch.specs.declared.ending.Ending.TheVariants.{Never}
 use Rattle.stamp_watch.specs.Ahead.{EndsNever}
 use Rattle.stamp_watch.specs.Ahead.EndsNever.{never_more}
 use Rattle.stamp_watch.specs.AsObserved.{ending_of}
-use Rattle.stamp_watch.specs.Judging.{ends_as}
+use Rattle.stamp_watch.specs.Foretold.{ends_as}
 use Rattle.stamp_watch.specs.Course.{LeavesOpen, IsLooked}
 use Rattle.stamp_watch.specs.inner.Judging.{IsEndTold}
 use Rattle.stamp_watch.specs.inner.Course.{IsUnknown}

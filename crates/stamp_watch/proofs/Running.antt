@@ -6,7 +6,7 @@ use Rattle.std.specs.Prelude.{take, drop, not, ◌&&◌, ◌||◌}
 use Rattle.std.specs.Option.{is_some}
 use Rattle.std.proofs.lemmas.Bool.{cases_eq, false≢true}
 use Rattle.std.proofs.lemmas.List.{take-append-drop, take-append-le, take_rest, drop-append-le, length-append}
-use Rattle.std.proofs.lemmas.List.{length-drop}
+use Rattle.std.proofs.lemmas.List.{length-drop, drop-drop}
 use Rattle.std.proofs.Math.Seq.{take-add, take-append_seam}
 use Rattle.stamp_core.specs.Limits.{Bounds}
 use Rattle.stamp_watch.specs.declared.event.Event.{Event}
@@ -17,18 +17,18 @@ use Rattle.stamp_watch.specs.declared.open_call.OpenCall.{OpenCall}
 use Rattle.stamp_watch.specs.declared.progress.Progress.{Progress}
 use Rattle.stamp_watch.specs.declared.progress.Progress.TheVariants as progress
 use Rattle.stamp_watch.specs.declared.watch.Watch.{Watch}
-use Rattle.stamp_watch.specs.AsObserved.{ending_of}
+use Rattle.stamp_watch.specs.AsObserved.{AreEnded, ending_of}
 use Rattle.stamp_watch.specs.AsObserved.Ending.{StaysOpen}
-use Rattle.stamp_watch.specs.Foretold.{open_at}
+use Rattle.stamp_watch.specs.Foretold.{open_at, ends_as}
 use Rattle.stamp_watch.specs.Form.{is_busy_then, is_busy_after}
 use Rattle.stamp_watch.specs.Run.{AreExplained}
-use Rattle.stamp_watch.specs.Verdict.{AreOfLock, AreTooMany, IsVerdict}
-use Rattle.stamp_watch.specs.Judging.{ends_as, IsFound, IsJudging}
+use Rattle.stamp_watch.specs.Verdict.{AreOfLock, AreTooMany, IsFarEnough, IsVerdict}
+use Rattle.stamp_watch.specs.Judging.{IsFound, IsJudging}
 use Rattle.stamp_watch.specs.inner.Judging.{IsBase, IsEndTold, IsOutcome, IsStep}
 use Rattle.stamp_watch.specs.Judging.{AreBusyLanes}
 use Rattle.stamp_watch.specs.inner.Judging.{IsStuckBehind, IsStuckFrom, MayComeIn}
-use Rattle.stamp_watch.specs.Course.{AreEnded, IsRunOn, IsStanding}
-use Rattle.stamp_watch.specs.inner.Course.{IsKnown, IsRest, broken_off}
+use Rattle.stamp_watch.specs.Course.{IsRunOn, IsStanding}
+use Rattle.stamp_watch.specs.inner.Course.{IsKnown, IsOver, IsRest, broken_off}
 use Rattle.stamp_watch.specs.declared.judge.Outcome.{Outcome}
 use Rattle.stamp_watch.specs.declared.judge.Outcome.TheVariants as judged
 use Rattle.stamp_watch.specs.declared.verdict.Verdict.{Verdict}
@@ -36,7 +36,8 @@ use Rattle.stamp_watch.specs.declared.verdict.Verdict.TheVariants as verdict
 use Rattle.stamp_watch.specs.declared.verdict.Why.TheVariants as cause
 use Rattle.stamp_watch.proofs.Form.{busy_after_one}
 use Rattle.stamp_watch.proofs.Forming.{form_first, of_lock_not, of_lock_up_to}
-use Rattle.stamp_watch.proofs.Judged.{cut_behind, judging_here, judging_more, past_on, unexplained_here, too_many_here}
+use Rattle.stamp_watch.proofs.Judged.{cut_behind, rest_behind, judging_here, judging_more, past_on, unexplained_here}
+use Rattle.stamp_watch.proofs.Judged.{too_many_here}
 use Rattle.stamp_watch.proofs.Judging.{judging_first, judging_copied}
 use Rattle.stamp_watch.proofs.Reading.{drop_read}
 use Rattle.stamp_watch.specs.Watch.{IsCopy, IsUntold, IsWatching}
@@ -264,14 +265,44 @@ module _ (limits : Bounds) (run : List Event) (first seen : ℕ) (events : List 
   part_of_lock k = subst AreOfLock (cut_behind (length is.past) k is.past events refl)
       (of_lock_up_to (length is.past + k) (is.past ++ events) is.whole)
 
-  pub run_undecided : (most k : ℕ) (ahead : Option ℕ) → k ≤ length events →
+  rest_run : (k : ℕ) (later : List Event) → drop (first + k) (take (length run) (run ++ later)) ≡ drop k events
+  rest_run k later = ap (drop (first + k)) (take-append_seam run later ∙ is.run_is) ∙
+      rest_behind first k is.past events is.place
+
+  run_of_lock : (later : List Event) → AreOfLock (take (length run) (run ++ later))
+  run_of_lock later = subst AreOfLock (sym (take-append_seam run later ∙ is.run_is)) is.whole
+
+  -- the whole run is known, and each call ends in it that was open behind what was seen
+  ended_far : (later : List Event) → IsFarEnough (run ++ later) (first + seen) (length run)
+  ended_far later = record {
+    whole = run_of_lock later;
+    far = inl (subst (λ (xs : List Event).
+        AreEnded (first + seen) xs (drop (first + seen) (take (length run) (run ++ later))))
+        (sym (cut_run seen later is.within))
+        (subst (λ (xs : List Event). AreEnded (first + seen) (is.past ++ take seen events) xs)
+        (sym (rest_run seen later)) is.now.ended));
+  }
+
+  over_far : (k : ℕ) (later : List Event) → IsOver run later → IsFarEnough (run ++ later) k (length run)
+  over_far k later over = record { whole = run_of_lock later; far = inr over }
+
+  run_undecided : (most k : ℕ) (ahead : Option ℕ) (later : List Event) → k ≤ length events →
+      IsFarEnough (run ++ later) (first + k) (length run) →
       AreExplained limits (is.past ++ take k events) →
-      AreTooMany limits (is.past ++ take k events) most →
-      IsFound limits run most ahead (verdict.Undecided (first + k) cause.TooMany)
-  run_undecided most k ahead within explained many more = (
-    subst AreOfLock (sym (cut_run k more within)) (part_of_lock k),
-    subst (AreExplained limits) (sym (cut_run k more within)) explained,
-    subst (λ (xs : List Event). AreTooMany limits xs most) (sym (cut_run k more within)) many,
+      AreTooMany limits (first + k) (is.past ++ take k events) (drop k events) most →
+      IsVerdict limits (run ++ later) most ahead (verdict.Undecided (first + k) cause.TooMany)
+  run_undecided most k ahead later within far explained many = (
+    subst AreOfLock (sym (cut_run k later within)) (part_of_lock k),
+    subst (AreExplained limits) (sym (cut_run k later within)) explained,
+    record {
+      known = length run;
+      far = far;
+      too_many = subst (λ (xs : List Event).
+          AreTooMany limits (first + k) xs (drop (first + k) (take (length run) (run ++ later))) most)
+          (sym (cut_run k later within))
+          (subst (λ (xs : List Event). AreTooMany limits (first + k) (is.past ++ take k events) xs most)
+          (sym (rest_run k later)) many);
+    },
   )
 
   -- one event is seen
@@ -314,8 +345,8 @@ module _ (limits : Bounds) (run : List Event) (first seen : ℕ) (events : List 
     pub run_too_many : (ahead : Option ℕ) (new : Watch) (answer : Progress) → answer ≡ progress.TooMany →
         IsStep limits (first + seen) (is.past ++ take seen events) e (drop (seen + 1) events) most new answer →
         IsFound limits run most ahead (verdict.Undecided (first + seen) cause.TooMany)
-    run_too_many ahead new answer many step = run_undecided most seen ahead is.within is.now.judging.explained
-        (too_many_here limits first is.past events most seen e less read new answer step many
+    run_too_many ahead new answer many step more = run_undecided most seen ahead more is.within (ended_far more)
+        is.now.judging.explained (too_many_here limits first is.past events most seen e less read new answer step many
         is.now.judging.explained).2
 
   -- the run ends here
@@ -346,13 +377,15 @@ module _ (limits : Bounds) (run : List Event) (first seen : ℕ) (events : List 
         copy copied is.now.judging)
 
     pub rest_outcome : (most : ℕ) (outcome : Outcome) →
-        IsOutcome limits (is.past ++ take seen events) (take (length slice - seen) (drop seen slice)) most outcome →
-        IsOutcome limits (is.past ++ take seen events) (drop seen events) most outcome
-    rest_outcome most outcome found =
-        subst (λ (xs : List Event). IsOutcome limits (is.past ++ take seen events) xs most outcome) rest_read found
+        IsOutcome limits (first + seen) (is.past ++ take seen events) (take (length slice - seen) (drop seen slice))
+        most outcome →
+        IsOutcome limits (first + seen) (is.past ++ take seen events) (drop seen events) most outcome
+    rest_outcome most outcome found = subst (λ (xs : List Event).
+        IsOutcome limits (first + seen) (is.past ++ take seen events) xs most outcome) rest_read found
 
   module _ (most : ℕ) (ahead : Option ℕ) where
-    pub rest_explained : IsOutcome limits (is.past ++ take seen events) (drop seen events) most judged.Explained →
+    pub rest_explained :
+        IsOutcome limits (first + seen) (is.past ++ take seen events) (drop seen events) most judged.Explained →
         IsRest limits run most ahead verdict.Explained
     rest_explained explained = (
       subst AreOfLock (sym is.run_is) is.whole,
@@ -360,7 +393,7 @@ module _ (limits : Bounds) (run : List Event) (first seen : ℕ) (events : List 
     )
 
     pub rest_stuck : (k : ℕ) →
-        IsOutcome limits (is.past ++ take seen events) (drop seen events) most (judged.Unexplained k) →
+        IsOutcome limits (first + seen) (is.past ++ take seen events) (drop seen events) most (judged.Unexplained k) →
         IsStuckBehind limits is.past events (seen + k)
     rest_stuck k outcome = record {
       explained = subst (AreExplained limits) (seen_and_some k) outcome.1;
@@ -368,15 +401,21 @@ module _ (limits : Bounds) (run : List Event) (first seen : ℕ) (events : List 
     }
 
     pub rest_undecided : (k : ℕ) →
-        IsOutcome limits (is.past ++ take seen events) (drop seen events) most (judged.TooMany k) →
+        IsOutcome limits (first + seen) (is.past ++ take seen events) (drop seen events) most (judged.TooMany k) →
         IsRest limits run most ahead (verdict.Undecided (first + seen + k) cause.TooMany)
-    rest_undecided k outcome = subst (λ (n : ℕ). IsFound limits run most ahead (verdict.Undecided n cause.TooMany))
-        (sym (add_assoc first seen k)) (run_undecided most (seen + k) ahead
-        (let less : k < length (drop seen events) = outcome.0 in
-        let rest : length (drop seen events) ≡ length events - seen = length-drop seen events in
-        let within : seen ≤ length events = is.within in omega (arith, less, rest, within))
-        (subst (AreExplained limits) (seen_and_some k) outcome.1)
-        (subst (λ (xs : List Event). AreTooMany limits xs most) (seen_and_some k) outcome.2))
+    rest_undecided k outcome later over =
+        subst (λ (n : ℕ). IsVerdict limits (run ++ later) most ahead (verdict.Undecided n cause.TooMany))
+        (sym (add_assoc first seen k)) (run_undecided most (seen + k) ahead later
+        (let below : seen + k < length events = rest_within k outcome.0 in omega (arith, below))
+        (over_far (first + (seen + k)) later over) (subst (AreExplained limits) (seen_and_some k) outcome.1) many)
+      where
+        many : AreTooMany limits (first + (seen + k)) (is.past ++ take (seen + k) events) (drop (seen + k) events) most
+        many =
+            subst (λ (n : ℕ). AreTooMany limits n (is.past ++ take (seen + k) events) (drop (seen + k) events) most)
+            (add_assoc first seen k)
+            (subst (λ (xs : List Event). AreTooMany limits (first + seen + k) xs (drop (seen + k) events) most)
+            (seen_and_some k) (subst (λ (xs : List Event). AreTooMany limits (first + seen + k)
+            ((is.past ++ take seen events) ++ take k (drop seen events)) xs most) (drop-drop k seen events) outcome.2))
 
 -- what is found, whatever comes later
 pub found_now : (limits : Bounds) (run : List Event) (most : ℕ) (ahead : Option ℕ) (v : Verdict) →
@@ -397,8 +436,14 @@ pub rest_found : (limits : Bounds) (run : List Event) (most : ℕ) (ahead : Opti
 rest_found limits run most ahead verdict.Explained found = found_now limits run most ahead verdict.Explained found
 rest_found limits run most ahead (verdict.Stuck k) found = found
 rest_found limits run most ahead (verdict.StuckWithin k m) found = found
-rest_found limits run most ahead (verdict.Undecided k why) found = found
+rest_found limits run most ahead (verdict.Undecided k cause.TooMany) found = λ later over. found later
+rest_found limits run most ahead (verdict.Undecided k cause.TooFar) found = found
 rest_found limits run most ahead (verdict.Broken k) found = found
+
+-- no event comes
+over_here : (run : List Event) → IsOver run []
+over_here run less whole =
+    let same : length (run ++ []) ≡ length run = ap length (append-nil run) in omega (arith, less, same)
 
 pub rest_now : (limits : Bounds) (run : List Event) (most : ℕ) (ahead : Option ℕ) (v : Verdict) →
     IsRest limits run most ahead v →
@@ -407,8 +452,11 @@ rest_now limits run most ahead verdict.Explained rest = rest
 rest_now limits run most ahead (verdict.Stuck k) rest = found_now limits run most ahead (verdict.Stuck k) rest
 rest_now limits run most ahead (verdict.StuckWithin k m) rest =
     found_now limits run most ahead (verdict.StuckWithin k m) rest
-rest_now limits run most ahead (verdict.Undecided k why) rest =
-    found_now limits run most ahead (verdict.Undecided k why) rest
+rest_now limits run most ahead (verdict.Undecided k cause.TooMany) rest =
+    subst (λ (xs : List Event). IsVerdict limits xs most ahead (verdict.Undecided k cause.TooMany)) (append-nil run)
+    (rest [] (over_here run))
+rest_now limits run most ahead (verdict.Undecided k cause.TooFar) rest =
+    found_now limits run most ahead (verdict.Undecided k cause.TooFar) rest
 rest_now limits run most ahead (verdict.Broken k) rest = found_now limits run most ahead (verdict.Broken k) rest
 
 -- an event that may not come there
@@ -426,6 +474,10 @@ module _ (limits : Bounds) (run : List Event) (most : ℕ) (ahead : Option ℕ) 
       long = let whole : length (run ++ e ∷ []) ≡ length run + length (e ∷ []) = length-append run (e ∷ []) in
           omega (arith, whole, at)
 
+  it_follows : (more : List Event) → take (length run + 1) (run ++ e ∷ more) ≡ run ++ e ∷ []
+  it_follows more = ap (λ (n : ℕ). take (n + 1) (run ++ e ∷ more)) (sym at) ∙
+      ap (take (place + 1)) (sym (append_assoc run (e ∷ []) more)) ∙ cut_behind_it more
+
   pub broken_found : (v : Verdict) → IsRest limits run most ahead v →
       IsFound limits (run ++ e ∷ []) most ahead (broken_off v place)
   broken_found verdict.Explained rest more = (
@@ -438,6 +490,10 @@ module _ (limits : Bounds) (run : List Event) (most : ℕ) (ahead : Option ℕ) 
   broken_found (verdict.Stuck k) rest more = found_later limits run most ahead (verdict.Stuck k) e rest more
   broken_found (verdict.StuckWithin k m) rest more = found_later limits run most ahead (verdict.StuckWithin k m) e
       rest more
-  broken_found (verdict.Undecided k why) rest more = found_later limits run most ahead (verdict.Undecided k why) e
-      rest more
+  broken_found (verdict.Undecided k cause.TooMany) rest more =
+      subst (λ (xs : List Event). IsVerdict limits xs most ahead (verdict.Undecided k cause.TooMany))
+      (sym (append_assoc run (e ∷ []) more)) (rest (e ∷ more)
+      (λ less whole. of_lock_not run busy e lanes not_there (subst AreOfLock (it_follows more) whole)))
+  broken_found (verdict.Undecided k cause.TooFar) rest more = found_later limits run most ahead
+      (verdict.Undecided k cause.TooFar) e rest more
   broken_found (verdict.Broken k) rest more = found_later limits run most ahead (verdict.Broken k) e rest more

@@ -14,7 +14,8 @@ use Rattle.stamp_watch.specs.declared.verdict.Why.TheVariants as cause
 use Rattle.stamp_watch.specs.declared.watch.Watch.{Watch}
 use Rattle.stamp_watch.specs.Ahead.{EndsNever}
 use Rattle.stamp_watch.specs.Ahead.EndsNever.{never_more, not_beginning, not_returning, not_withdrawing}
-use Rattle.stamp_watch.specs.Judging.{ends_as, IsFound}
+use Rattle.stamp_watch.specs.Foretold.{ends_as}
+use Rattle.stamp_watch.specs.Judging.{IsFound}
 use Rattle.stamp_watch.specs.Course.{IsRunOn}
 use Rattle.stamp_watch.specs.Run.{AreExplained}
 use Rattle.stamp_watch.specs.Verdict.{AreOfLock, IsOpenFor}

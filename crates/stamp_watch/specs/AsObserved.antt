@@ -1,5 +1,5 @@
 -- A run as an observed history: its positions are the numbers of the events.
-use Rattle.std.specs.Prelude.{ℕ, ◌≡◌, ◌+◌, ◌==◌, true, List, [], ◌∷◌, take, drop, Some, None, if◌then◌else◌}
+use Rattle.std.specs.Prelude.{ℕ, ◌≡◌, ◌≢◌, ◌+◌, ◌==◌, true, List, [], ◌∷◌, take, drop, Some, None, if◌then◌else◌}
 use Rattle.stamp_core.specs.Limits.{Bounds}
 use Rattle.stamp_core.specs.declared.call.Call.{Call}
 use Rattle.stamp_explain.specs.declared.observed.Observation.{Observation}
@@ -25,6 +25,10 @@ ending_of lane n (Returns other reply ∷ events) =
     if other == lane then EndsBy (record { last = n; reply = reply }) else ending_of lane (n + 1) events
 ending_of lane n (Withdraws other ∷ events) =
     if other == lane then EndsWithdrawn else ending_of lane (n + 1) events
+
+-- the open calls of a run end among the events that come; the first of these has this number
+pub record AreEnded (n : ℕ) (past future : List Event) : Type 0 where
+  pub ends : (lane : ℕ) → is_busy_after past lane ≡ true → ending_of lane n future ≢ StaysOpen
 
 -- the entry of the call that begins in this lane at this event, before others; one that is withdrawn has none
 abbrev pub with_entry : ℕ → Call → ℕ → Ending → List Observation → List Observation

@@ -1,20 +1,14 @@
 -- What is kept of a run while it is judged, event by event.
-use Rattle.std.specs.Prelude.{ℕ, ◌≡◌, ◌≢◌, ◌+◌, ◌^◌, ◌<◌, ◌≤◌, ◌++◌, true, List, [], ◌∷◌, length, take, drop}
+use Rattle.std.specs.Prelude.{ℕ, ◌≡◌, ◌+◌, ◌^◌, ◌<◌, ◌≤◌, ◌++◌, List, [], ◌∷◌, length, take, drop}
 use Rattle.stamp_core.specs.Limits.{Bounds}
 use Rattle.stamp_watch.specs.declared.event.Event.{Event}
 use Rattle.stamp_watch.specs.declared.event.Event.TheVariants.{Begins, Returns, Withdraws}
 use Rattle.stamp_watch.specs.declared.course.Course.{Course}
 use Rattle.stamp_watch.specs.declared.watch.Watch.{Watch}
 use Rattle.stamp_watch.specs.Ahead.{EndsNever}
-use Rattle.stamp_watch.specs.AsObserved.{ending_of}
-use Rattle.stamp_watch.specs.AsObserved.Ending.{StaysOpen}
-use Rattle.stamp_watch.specs.Form.{is_busy_after}
+use Rattle.stamp_watch.specs.AsObserved.{AreEnded}
 use Rattle.stamp_watch.specs.Verdict.{AreOfLock}
 use Rattle.stamp_watch.specs.Judging.{IsJudging}
-
--- the open calls of a run end among the events that come; the first of these has this number
-pub record AreEnded (n : ℕ) (past future : List Event) : Type 0 where
-  pub ends : (lane : ℕ) → is_busy_after past lane ≡ true → ending_of lane n future ≢ StaysOpen
 
 -- a watch judges a run, whatever comes behind these events
 pub record IsStanding (limits : Bounds) (n : ℕ) (past future : List Event) (watch : Watch) : Type 0 where

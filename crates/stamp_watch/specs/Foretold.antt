@@ -9,6 +9,8 @@ use Rattle.stamp_watch.specs.declared.ending.Ending.{Ending}
 use Rattle.stamp_watch.specs.declared.ending.Ending.TheVariants.{Returns, Withdraws, Never}
 use Rattle.stamp_watch.specs.declared.open_call.OpenCall.{OpenCall}
 use Rattle.stamp_watch.specs.Ahead.{Tells, IsWithdrawn, EndsNever, ReturnsSooner}
+use Rattle.stamp_watch.specs.AsObserved as observed
+use Rattle.stamp_watch.specs.AsObserved.Ending.{StaysOpen, EndsBy, EndsWithdrawn}
 
 -- the open call of a lane, if it has one
 abbrev pub open_in : Option (Option OpenCall) → Option OpenCall
@@ -21,6 +23,12 @@ open_at table lane = open_in (slice_get table lane)
 -- the lanes of this number are all that have an open call, or more
 pub record HasEachOpen (table : List (Option OpenCall)) (lanes : ℕ) : Type 0 where
   pub each : (lane : ℕ) (begun : OpenCall) → open_at table lane ≡ Some begun → bit_at lanes lane ≡ 1
+
+-- the end of a call as its entry tells it
+abbrev pub ends_as : Ending → observed.Ending
+ends_as (Returns told place) = EndsBy (record { last = place; reply = reply_as told })
+ends_as Withdraws = EndsWithdrawn
+ends_as Never = StaysOpen
 
 -- the next end of this lane's call is this one
 abbrev pub EndsSo : ℕ → Ending → List Event → Type 0

@@ -3,17 +3,12 @@ use Rattle.std.specs.Prelude.{ℕ, ◌≡◌, ◌<◌, ◌≤◌, ◌↔◌, ◌
 use Rattle.std.specs.Int.{bit_at}
 use Rattle.std.specs.Option.{is_some}
 use Rattle.stamp_core.specs.Limits.{Bounds}
-use Rattle.stamp_core.specs.LockDecision.{reply_as}
 use Rattle.stamp_watch.specs.declared.event.Event.{Event}
-use Rattle.stamp_watch.specs.declared.ending.Ending.{Ending}
-use Rattle.stamp_watch.specs.declared.ending.Ending.TheVariants.{Returns, Withdraws, Never}
 use Rattle.stamp_watch.specs.declared.open_call.OpenCall.{OpenCall}
 use Rattle.stamp_watch.specs.declared.verdict.Verdict.{Verdict}
 use Rattle.stamp_watch.specs.declared.watch.Watch.{Watch}
-use Rattle.stamp_watch.specs.AsObserved as observed
 use Rattle.stamp_watch.specs.AsObserved.{ending_of}
-use Rattle.stamp_watch.specs.AsObserved.Ending.{StaysOpen, EndsBy, EndsWithdrawn}
-use Rattle.stamp_watch.specs.Foretold.{open_at}
+use Rattle.stamp_watch.specs.Foretold.{open_at, ends_as}
 use Rattle.stamp_watch.specs.Form.{is_busy_after}
 use Rattle.stamp_watch.specs.Run.{AreExplained}
 use Rattle.stamp_watch.specs.Verdict.{AreOfLock, IsVerdict}
@@ -22,12 +17,6 @@ use Rattle.stamp_watch.specs.Watch.{IsWatching}
 -- the lanes of this number are those with an open call
 pub record AreBusyLanes (past : List Event) (busy : ℕ) : Type 0 where
   pub same : (lane : ℕ) → lane < 64 → (is_busy_after past lane ≡ true) ↔ (bit_at busy lane ≡ 1)
-
--- the end of a call as its entry tells it
-abbrev pub ends_as : Ending → observed.Ending
-ends_as (Returns told place) = EndsBy (record { last = place; reply = reply_as told })
-ends_as Withdraws = EndsWithdrawn
-ends_as Never = StaysOpen
 
 -- the whole run is in form, and what comes is as was told of each open call; the first event of it has this number
 pub record IsFollowed (n : ℕ) (past future : List Event) (watch : Watch) : Type 0 where

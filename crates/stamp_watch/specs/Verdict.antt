@@ -1,5 +1,5 @@
 -- What is found of a run that is judged from its events.
-use Rattle.std.specs.Prelude.{ℕ, ◌≡◌, ◌+◌, ◌<◌, ◌≤◌, Bool, true, false, List, ◌∷◌, length, take, drop}
+use Rattle.std.specs.Prelude.{ℕ, ◌≡◌, ◌⊎◌, ◌+◌, ◌<◌, ◌≤◌, Bool, true, false, List, ◌∷◌, length, take, drop}
 use Rattle.std.specs.Prelude.{Option, Some, None}
 use Rattle.std.specs.List.{All}
 use Rattle.stamp_core.specs.Limits.{Bounds}
@@ -8,11 +8,14 @@ use Rattle.stamp_core.specs.declared.reply.Reply.{Reply}
 use Rattle.stamp_core.specs.declared.reply.Reply.TheVariants.{Content}
 use Rattle.stamp_watch.specs.declared.event.Event.{Event}
 use Rattle.stamp_watch.specs.declared.event.Event.TheVariants.{Begins, Returns, Withdraws}
+use Rattle.stamp_watch.specs.declared.open_call.OpenCall.{OpenCall}
 use Rattle.stamp_watch.specs.declared.verdict.Verdict.{Verdict}
 use Rattle.stamp_watch.specs.declared.verdict.Verdict.TheVariants.{Explained, Stuck, StuckWithin, Undecided, Broken}
 use Rattle.stamp_watch.specs.declared.verdict.Why.TheVariants.{TooMany, TooFar}
 use Rattle.stamp_watch.specs.declared.watch.Watch.{Watch}
 use Rattle.stamp_watch.specs.Ahead.{EndsNever}
+use Rattle.stamp_watch.specs.AsObserved.{AreEnded, ending_of}
+use Rattle.stamp_watch.specs.Foretold.{ends_as, open_at}
 use Rattle.stamp_watch.specs.Form.{AreInForm}
 use Rattle.stamp_watch.specs.Run.{AreExplained, AreStuckAt}
 use Rattle.stamp_watch.specs.Watch.{IsWatching, MoreArePossible}
@@ -38,21 +41,43 @@ pub record AreBrokenAt (events : List Event) (k : ℕ) : Type 0 where
   pub whole : AreOfLock (take k events)
   pub broken : ¬ AreOfLock (take (k + 1) events)
 
--- after these events a watch has more than so many different configurations
-pub record AreTooMany (limits : Bounds) (past : List Event) (most : ℕ) : Type 0 where
+-- after some events more than so many different configurations are possible for a watch that is told of each open call
+-- how it ends among those that come; the first of these has this number
+pub record AreTooMany (limits : Bounds) (n : ℕ) (past future : List Event) (most : ℕ) : Type 0 where
   pub watch : Watch
   pub limits_are : watch.limits ≡ limits
   pub watching : IsWatching past watch
+  pub told : (lane : ℕ) (begun : OpenCall) → open_at watch.table.items lane ≡ Some begun →
+      ends_as begun.ends ≡ ending_of lane n future
   pub more : MoreArePossible past most watch
 
--- the run is stuck between two events, and there are too many configurations before some event
+-- no more than so many of the events are in form
+abbrev pub NoMoreAreOfLock : List Event → ℕ → Type 0
+NoMoreAreOfLock events m = m < length events → ¬ AreOfLock (take (m + 1) events)
+
+-- among the first m events each call ends that is open after k, or those m are all that are in form
+pub record IsFarEnough (events : List Event) (k m : ℕ) : Type 0 where
+  pub whole : AreOfLock (take m events)
+  pub far : AreEnded k (take k events) (drop k (take m events)) ⊎ NoMoreAreOfLock events m
+
+-- after k events there are too many configurations, though it is told how the calls end
+pub record IsTooManyAt (limits : Bounds) (events : List Event) (most k : ℕ) : Type 0 where
+  pub known : ℕ
+  pub far : IsFarEnough events k known
+  pub too_many : AreTooMany limits k (take k events) (drop k (take known events)) most
+
+-- the run is stuck between two events. Of the run that ends at a place between them there are too many configurations
+-- before some event
 pub record IsStuckWithin (limits : Bounds) (events : List Event) (most k m : ℕ) : Type 0 where
   pub whole : AreOfLock (take m events)
   pub explained : AreExplained limits (take k events)
   pub stuck : ¬ AreExplained limits (take m events)
+  pub cut : ℕ
+  pub after : k < cut
+  pub within : cut < m
   pub place : ℕ
-  pub before : place < m
-  pub too_many : AreTooMany limits (take place events) most
+  pub before : place < cut
+  pub too_many : AreTooMany limits place (take place events) (drop place (take cut events)) most
 
 -- the event begins a call, and none of so many events behind it ends that
 pub record IsOpenFor (events : List Event) (k ahead : ℕ) : Type 0 where
@@ -74,7 +99,7 @@ IsVerdict limits events most ahead Explained = AreOfLock events × AreExplained 
 IsVerdict limits events most ahead (Stuck k) = AreOfLock (take (k + 1) events) × AreStuckAt limits events k
 IsVerdict limits events most ahead (StuckWithin k m) = IsStuckWithin limits events most k m
 IsVerdict limits events most ahead (Undecided k TooMany) =
-    AreOfLock (take k events) × AreExplained limits (take k events) × AreTooMany limits (take k events) most
+    AreOfLock (take k events) × AreExplained limits (take k events) × IsTooManyAt limits events most k
 IsVerdict limits events most ahead (Undecided k TooFar) =
     AreOfLock (take k events) × AreExplained limits (take k events) × IsTooFar events k ahead
 IsVerdict limits events most ahead (Broken k) = AreBrokenAt events k × AreExplained limits (take k events)

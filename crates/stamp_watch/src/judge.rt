@@ -72,7 +72,8 @@ pub(crate) fn judge_rest(
     requires room { first + length events.now < 2 ^ 64 }
     requires judging { IsJudgingOn first events.now start }
     ensures { IfOk result (λ outcome. (limits : Bounds) (past : List Event)
-        → IsJudging limits first past events.now start → IsOutcome limits past events.now most outcome) }
+        → IsJudging limits first past events.now start
+        → IsOutcome limits first past events.now most outcome) }
 {
     let mut watch = start;
     for (k, event) in events.iter().enumerate() {

@@ -14,7 +14,7 @@ use Rattle.stamped_explain.specs.declared.faults.ExplainFault.{ExplainFault}
 use Rattle.stamped_explain.specs.declared.faults.ExplainFault.TheVariants.{Serve, NoInput}
 use Rattle.stamped_explain.specs.declared.finding.Finding.{Finding}
 use Rattle.stamped_explain.specs.Finding.{IsFinding}
-use Rattle.stamped_explain.specs.FindingText.{finding_text, finding_verdict}
+use Rattle.stamped_explain.specs.FindingText.{IsFindingText, finding_verdict}
 use Rattle.stamped_explain.specs.Note.{IsNote}
 use Rattle.stamped_explain.specs.declared.answer.LineAndNote as made
 use Rattle.stamped_explain.specs.declared.answer.VerdictAndNote.{VerdictAndNote}
@@ -34,11 +34,11 @@ line_with_feed answer = with_line_feed answer.line
 abbrev pub AreVerdictAndNoteOf : LineAndNoteView → VerdictAndNote → Type 0
 AreVerdictAndNoteOf answer told = (told.verdict ≡ answer.line.verdict) × (told.note ≡ answer.note)
 
--- this is found of an observed history, the line says it, and this is the note
+-- this is found of an observed history, it is written so, and this is the note
 pub record SaysWhatIsFound (h : ObservedHistory) (asked : Explaining) (answer : LineAndNoteView) : Type 0 where
   pub found : Finding
   pub is : IsFinding h asked.most found
-  pub says : answer.line.text ≡ finding_text asked.form found
+  pub says : IsFindingText h asked found answer.line.text
   pub verdict : answer.line.verdict ≡ finding_verdict found
   pub note : IsNote h asked found answer.note
 

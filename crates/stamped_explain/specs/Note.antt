@@ -10,18 +10,13 @@ use Rattle.stamp_core.specs.Record.{Recorded}
 use Rattle.stamp_core.specs.Texts.{call_text, reply_text}
 use Rattle.stamp_explain.specs.declared.observed.Observation.{Observation}
 use Rattle.stamp_explain.specs.Observed.{ObservedHistory, IsReturnAt}
-use Rattle.stamp_explain.specs.Possible.{AreAllPossible, IsUndecidedAtAny}
+use Rattle.stamp_observed.specs.Small.{ArePossibleAt}
 use Rattle.stamped_explain.specs.declared.finding.Finding.{Finding}
 use Rattle.stamped_explain.specs.declared.finding.Finding.TheVariants.{Explained, Stuck, Unexplained}
 use Rattle.stamped_explain.specs.declared.orders.Explaining.{Explaining}
 use Rattle.stamped_explain.specs.declared.orders.Told as orders
 use Rattle.stamped_explain.specs.declared.orders.Told.TheVariants.{Nothing, Trials}
 use Rattle.stamped_explain.specs.Trials.{trials_text}
-
--- all the replies that the call of this entry could have had; or that is undecided
-abbrev pub ArePossibleAt : ObservedHistory → ℕ → ℕ → Option (List Reply) → Type 0
-ArePossibleAt h most i None = IsUndecidedAtAny h i most
-ArePossibleAt h most i (Some replies) = AreAllPossible h i replies
 
 abbrev pub others_text : List Reply → List ℕ
 others_text replies = flat_map (λ (r : Reply). codes ", " ++ reply_text r) replies

@@ -10,23 +10,41 @@ use Rattle.stamped_explain.specs.declared.orders.Form.{Form}
 use Rattle.stamped_explain.specs.declared.orders.Form.TheVariants.{History, Judgement}
 use Rattle.stamped_explain.specs.declared.orders.Told.{Told}
 use Rattle.stamped_explain.specs.declared.orders.Told.TheVariants.{Nothing, Trials}
+use Rattle.stamped_explain.specs.declared.orders.Shown.{Shown}
+use Rattle.stamped_explain.specs.declared.orders.Shown.TheVariants.{Entry, Small}
 use Rattle.stamped_explain.specs.declared.orders.ExplainOrder.{ExplainOrder}
 use Rattle.stamped_explain.specs.declared.orders.ExplainOrder.TheVariants.{Help, Explain}
 
-abbrev pub asked : Form → Told → ℕ → ExplainOrder
-asked form told most = Explain (record { form = form; told = told; most = most })
+abbrev pub asked : Form → Told → Shown → ℕ → ExplainOrder
+asked form told shown most = Explain (record { form = form; told = told; shown = shown; most = most })
 
--- --judge, and --told
+abbrev pub no_word : ℕ → ExplainOrder
+no_word most = asked History Nothing Entry most
+
+-- --judge, --told, and --small
 abbrev pub one_word : List ℕ → ℕ → Option ExplainOrder
 one_word word most =
-    if bytes_eq word (codes "--judge") then Some (asked Judgement Nothing most)
-    else if bytes_eq word (codes "--told") then Some (asked History Trials most)
+    if bytes_eq word (codes "--judge") then Some (asked Judgement Nothing Entry most)
+    else if bytes_eq word (codes "--told") then Some (asked History Trials Entry most)
+    else if bytes_eq word (codes "--small") then Some (asked History Nothing Small most)
     else None
 
--- --judge --told
+-- two of them, in this order
 abbrev pub two_words : List ℕ → List ℕ → ℕ → Option ExplainOrder
-two_words judge told most =
-    if bytes_eq judge (codes "--judge") && bytes_eq told (codes "--told") then Some (asked Judgement Trials most)
+two_words first second most =
+    if bytes_eq first (codes "--judge") && bytes_eq second (codes "--told") then
+    Some (asked Judgement Trials Entry most)
+    else if bytes_eq first (codes "--judge") && bytes_eq second (codes "--small") then
+    Some (asked Judgement Nothing Small most)
+    else if bytes_eq first (codes "--told") && bytes_eq second (codes "--small") then
+    Some (asked History Trials Small most)
+    else None
+
+-- all three
+abbrev pub three_words : List ℕ → List ℕ → List ℕ → ℕ → Option ExplainOrder
+three_words judge told small most =
+    if bytes_eq judge (codes "--judge") && bytes_eq told (codes "--told") && bytes_eq small (codes "--small") then
+    Some (asked Judgement Trials Small most)
     else None
 
 abbrev pub one_arg : List ℕ → Option ExplainOrder
@@ -34,15 +52,15 @@ one_arg arg = if bytes_eq arg (codes "--help") then Some Help else one_word arg 
 
 abbrev pub two_args : List ℕ → List ℕ → Option ExplainOrder
 two_args first second =
-    if bytes_eq first (codes "--most") then option_map (asked History Nothing) (number_in second)
+    if bytes_eq first (codes "--most") then option_map no_word (number_in second)
     else two_words first second 4000000
 
--- --most N before one word, or behind it
+-- --most N before one word, or behind it; or three words
 abbrev pub three_args : List ℕ → List ℕ → List ℕ → Option ExplainOrder
 three_args first second third =
     if bytes_eq first (codes "--most") then option_and_then (one_word third) (number_in second)
     else if bytes_eq second (codes "--most") then option_and_then (one_word first) (number_in third)
-    else None
+    else three_words first second third 4000000
 
 -- --most N before two words, or behind them
 abbrev pub four_args : List ℕ → List ℕ → List ℕ → List ℕ → Option ExplainOrder
@@ -51,14 +69,22 @@ four_args first second third fourth =
     else if bytes_eq third (codes "--most") then option_and_then (two_words first second) (number_in fourth)
     else None
 
--- the forms of the command line: --help; or none, one or both of --judge and --told, in this order, and before
+-- --most N before three words, or behind them
+abbrev pub five_args : List ℕ → List ℕ → List ℕ → List ℕ → List ℕ → Option ExplainOrder
+five_args first second third fourth fifth =
+    if bytes_eq first (codes "--most") then option_and_then (three_words third fourth fifth) (number_in second)
+    else if bytes_eq fourth (codes "--most") then option_and_then (three_words first second third) (number_in fifth)
+    else None
+
+-- the forms of the command line: --help; or none or more of --judge, --told and --small, in this order, and before
 -- them or behind --most N
 abbrev pub form_of : List (List ℕ) → Option ExplainOrder
-form_of [] = Some (asked History Nothing 4000000)
+form_of [] = Some (no_word 4000000)
 form_of (arg ∷ []) = one_arg arg
 form_of (first ∷ second ∷ []) = two_args first second
 form_of (first ∷ second ∷ third ∷ []) = three_args first second third
 form_of (first ∷ second ∷ third ∷ fourth ∷ []) = four_args first second third fourth
+form_of (first ∷ second ∷ third ∷ fourth ∷ fifth ∷ []) = five_args first second third fourth fifth
 form_of _ = None
 
 -- what arguments ask for

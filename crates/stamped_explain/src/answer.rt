@@ -52,7 +52,7 @@ fn line_and_note_on(
 {
     let observed = read_observed(alloc, within(input)?)?;
     let finding = finding_of(alloc, &observed, asked.most)?;
-    let line = line_of_finding(alloc, asked.form, &finding)?;
+    let line = line_of_finding(alloc, asked, &observed, &finding)?;
     let note = note_of(alloc, &observed, &finding, asked);
     Ok(LineAndNote { line, note })
 }

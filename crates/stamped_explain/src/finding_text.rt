@@ -2,16 +2,20 @@
 
 ghost use Rattle.std.specs.Prelude.{◌≡◌, Some, IfOk, IfErr, length};
 ghost use Rattle.stamp_core.specs.Linearized.{IsLinearized};
-ghost use Rattle.stamped_explain.specs.FindingText.{why_text, bad_text, explained_text, finding_text, finding_verdict};
-ghost use Rattle.stamped_explain.specs.Finding.{IsLinearizedIfMade};
+ghost use Rattle.stamp_explain.specs.Cut.{IsStuck};
+ghost use Rattle.stamp_explain.specs.Observed.{IsObserved, IsReturnAt};
+ghost use Rattle.stamped_explain.specs.FindingText.{why_text, bad_text, explained_text, stuck_line, finding_verdict};
+ghost use Rattle.stamped_explain.specs.FindingText.{IsSmallText, IsStuckText, IsFindingText};
+ghost use Rattle.stamped_explain.specs.Finding.{IsFinding, IsLinearizedIfMade};
 
 use crate::finding::Finding;
-use crate::orders::Form;
+use crate::orders::{Explaining, Form, Shown};
 use stamp_check::check;
 use stamp_cli::{Line, ServeFault, accepted, rejected};
 use stamp_core::Record;
+use stamp_explain::Observed;
 use stamp_history::write_history;
-use stamp_observed::{ObservedFault, ObservedWhy};
+use stamp_observed::{ObservedFault, ObservedWhy, small_of, write_observed};
 use std::alloc::Global;
 use std::fmt;
 
@@ -66,21 +70,71 @@ fn text_of_explained(alloc: Global, form: Form, made: &Record) -> Result<Vec<u8>
     }
 }
 
+/// The line of a history that is stuck: the entry at whose return it is.
+fn entry_text(alloc: Global, entry: usize) -> Result<Vec<u8>, ServeFault>
+    ensures text { IfOk result (λ text. text.items ≡ stuck_line entry) }
+    ensures memory { IfErr result (λ e. e ≡ ServeFault.Memory) }
+{
+    Ok(format!(in alloc; "stuck {entry}")?.into_bytes())
+}
+
+/// The text of a history that is stuck at the return of this entry: a small history that is stuck so, or the
+/// line, if no small one is found.
+fn small_text(
+    alloc: Global,
+    observed: &Observed,
+    entry: usize,
+    most: u64,
+) -> Result<Vec<u8>, ServeFault>
+    requires observed { IsObserved observed.now }
+    requires returned { IsReturnAt observed.now.entries entry }
+    ensures text { IfOk result (λ text. IsSmallText observed.now most entry text.items) }
+    ensures memory { IfErr result (λ e. e ≡ ServeFault.Memory) }
+{
+    let Some(small) = small_of(alloc, observed, entry, most)? else {
+        return entry_text(alloc, entry);
+    };
+    match write_observed(alloc, &small) {
+        Ok(text) => Ok(text),
+        Err(_) => Err(ServeFault::Memory),
+    }
+}
+
+/// The text of a history that is stuck at the return of this entry.
+fn text_of_stuck(
+    alloc: Global,
+    asked: Explaining,
+    observed: &Observed,
+    entry: usize,
+) -> Result<Vec<u8>, ServeFault>
+    requires observed { IsObserved observed.now }
+    requires stuck { IsStuck observed.now entry }
+    ensures text { IfOk result (λ text. IsStuckText asked.shown observed.now asked.most entry text.items) }
+    ensures memory { IfErr result (λ e. e ≡ ServeFault.Memory) }
+{
+    match asked.shown {
+        Shown::Entry => entry_text(alloc, entry),
+        Shown::Small => small_text(alloc, observed, entry, asked.most),
+    }
+}
+
 /// The line of what was found.
 pub(crate) fn line_of_finding(
     alloc: Global,
-    form: Form,
+    asked: Explaining,
+    observed: &Observed,
     finding: &Finding,
 ) -> Result<Line, ServeFault>
-    requires { IsLinearizedIfMade finding.now }
-    ensures text { IfOk result (λ line. line.text.items ≡ finding_text form finding.now) }
+    requires found { IsFinding observed.now asked.most finding.now }
+    requires made { IsLinearizedIfMade finding.now }
+    ensures text { IfOk result (λ line. IsFindingText observed.now asked finding.now line.text.items) }
     ensures verdict { IfOk result (λ line. line.verdict ≡ finding_verdict finding.now) }
     ensures memory { IfErr result (λ e. e ≡ ServeFault.Memory) }
 {
     match finding {
-        Finding::Explained(record) => Ok(accepted(text_of_explained(alloc, form, record)?)),
+        Finding::Explained(record) => Ok(accepted(text_of_explained(alloc, asked.form, record)?)),
         Finding::Faulty(fault) => Ok(rejected(BadText(*fault).to_string(alloc)?.into_bytes())),
-        Finding::Stuck(entry) => Ok(rejected(format!(in alloc; "stuck {entry}")?.into_bytes())),
+        Finding::Stuck(entry) => Ok(rejected(text_of_stuck(alloc, asked, observed, *entry)?)),
         Finding::Unexplained(entry) | Finding::Undecided(entry) => {
             Ok(rejected(format!(in alloc; "undecided {entry}")?.into_bytes()))
         }

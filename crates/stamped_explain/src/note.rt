@@ -4,7 +4,8 @@
 ghost use Rattle.std.specs.Prelude.{◌≡◌, ◌++◌, IfOk, Some, slice_get, string_bytes};
 ghost use Rattle.stamp_explain.specs.Observed.{IsObserved, IsReturnAt};
 ghost use Rattle.stamped_explain.specs.Finding.{IsFinding};
-ghost use Rattle.stamped_explain.specs.Note.{IsNote, IsToldNote, IsStuckNote, ArePossibleAt, answer_text, others_text, entry_text};
+ghost use Rattle.stamp_observed.specs.Small.{ArePossibleAt};
+ghost use Rattle.stamped_explain.specs.Note.{IsNote, IsToldNote, IsStuckNote, answer_text, others_text, entry_text};
 ghost use Rattle.stamped_explain.specs.Note.{replies_text, possible_text, stuck_text, unexplained_text};
 ghost use Rattle.stamped_explain.specs.inner.Note.{replies_in};
 

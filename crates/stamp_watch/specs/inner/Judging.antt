@@ -1,5 +1,5 @@
 -- How a run is judged whose events are all known.
-use Rattle.std.specs.Prelude.{ℕ, ◌≡◌, ◌≢◌, ◌+◌, ◌<◌, ◌≤◌, ◌++◌, List, [], ◌∷◌, length, take}
+use Rattle.std.specs.Prelude.{ℕ, ◌≡◌, ◌≢◌, ◌+◌, ◌<◌, ◌≤◌, ◌++◌, List, [], ◌∷◌, length, take, drop}
 use Rattle.std.specs.Prelude.{Option, Some, None, IsTrue}
 use Rattle.std.specs.Int.{bit_at}
 use Rattle.stamp_core.specs.Limits.{Bounds}
@@ -13,9 +13,10 @@ use Rattle.stamp_watch.specs.declared.progress.Progress.{Progress}
 use Rattle.stamp_watch.specs.declared.progress.Progress.TheVariants as progress
 use Rattle.stamp_watch.specs.declared.watch.Watch.{Watch}
 use Rattle.stamp_watch.specs.AsObserved.{ending_of}
-use Rattle.stamp_watch.specs.Judging.{ends_as, IsJudging}
+use Rattle.stamp_watch.specs.Foretold.{ends_as}
+use Rattle.stamp_watch.specs.Judging.{IsJudging}
 use Rattle.stamp_watch.specs.Run.{AreExplained}
-use Rattle.stamp_watch.specs.Verdict.{AreOfLock, AreTooMany, is_lock_reply}
+use Rattle.stamp_watch.specs.Verdict.{AreOfLock, AreTooMany, NoMoreAreOfLock, is_lock_reply}
 use Rattle.stamp_watch.specs.inner.Lanes.{SetsBit}
 
 abbrev pub IsFreeLane : ℕ → ℕ → Type 0
@@ -45,7 +46,7 @@ IsBusyThen busy e (Some after) = MayComeIn busy e × SetsBusy busy e after
 pub record IsInFormUpTo (events : List Event) (k : ℕ) : Type 0 where
   pub within : k ≤ length events
   pub whole : AreOfLock (take k events)
-  pub broken : k < length events → ¬ AreOfLock (take (k + 1) events)
+  pub broken : NoMoreAreOfLock events k
 
 -- the event with this number ends the call of the lane so; or it does not, and what comes then tells
 abbrev pub IsEndBy : Event → ℕ → ℕ → Option Ending → Type 0
@@ -68,16 +69,17 @@ IsEndTold (event.Withdraws lane) n ahead ends = Unit {0}
 abbrev pub IsStep : Bounds → ℕ → List Event → Event → List Event → ℕ → Watch → Progress → Type 0
 IsStep limits n past e ahead most new progress.Going = IsJudging limits (n + 1) (past ++ e ∷ []) ahead new
 IsStep limits n past e ahead most new progress.Dead = ¬ AreExplained limits (past ++ e ∷ ahead)
-IsStep limits n past e ahead most new progress.TooMany = AreTooMany limits past most
+IsStep limits n past e ahead most new progress.TooMany = AreTooMany limits n past (e ∷ ahead) most
 IsStep limits n past e ahead most new progress.Refused = ⊥
 
--- what is found of events that come behind others
-abbrev pub IsOutcome : Bounds → List Event → List Event → ℕ → Outcome → Type 0
-IsOutcome limits past events most Explained = AreExplained limits (past ++ events)
-IsOutcome limits past events most (Unexplained k) =
+-- what is found of events that come behind others; the first of them has this number
+abbrev pub IsOutcome : Bounds → ℕ → List Event → List Event → ℕ → Outcome → Type 0
+IsOutcome limits n past events most Explained = AreExplained limits (past ++ events)
+IsOutcome limits n past events most (Unexplained k) =
     (k < length events) × AreExplained limits (past ++ take k events) × (¬ AreExplained limits (past ++ events))
-IsOutcome limits past events most (TooMany k) =
-    (k < length events) × AreExplained limits (past ++ take k events) × AreTooMany limits (past ++ take k events) most
+IsOutcome limits n past events most (TooMany k) =
+    (k < length events) × AreExplained limits (past ++ take k events) ×
+    AreTooMany limits (n + k) (past ++ take k events) (drop k events) most
 
 -- a watch from which any more of these events can be judged than so many, as a run that ends there
 pub record IsBase (limits : Bounds) (n least : ℕ) (past events : List Event) (watch : Watch) : Type 0 where

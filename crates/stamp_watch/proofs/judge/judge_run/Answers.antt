@@ -40,7 +40,7 @@ find_stuck-requires-clause-stuck c = record {
   past = [];
   base = base_first c.args.limits c.in-Unexplained.k (take c.in_form-many.result c.args.events.now)
       c.in_ok-base.base c.in_ok-base.ensures.watching c.in_ok-base.ensures.untold c.in_form-many.ensures.whole;
-  stuck = stuck_behind c.args.limits [] (take c.in_form-many.result c.args.events.now) c.args.most c.in-Unexplained.k
+  stuck = stuck_behind c.args.limits 0 [] (take c.in_form-many.result c.args.events.now) c.args.most c.in-Unexplained.k
       (rw c.in-Unexplained.is at (c.in_ok-outcome.ensures c.args.limits []
       (judging_from_first c.args.limits (take c.in_form-many.result c.args.events.now) c.in_ok-base.base
       c.in_ok-start.start c.in_ok-base.ensures.watching c.in_ok-base.ensures.untold c.in_ok-start.ensures
@@ -53,7 +53,7 @@ returns-in-Unexplained c = IfOk-weaker c.find_stuck.result _ _
     (found None c.args.limits []
     (base_first c.args.limits c.in-Unexplained.k (take c.in_form-many.result c.args.events.now)
     c.in_ok-base.base c.in_ok-base.ensures.watching c.in_ok-base.ensures.untold c.in_form-many.ensures.whole)
-    (stuck_behind c.args.limits [] (take c.in_form-many.result c.args.events.now) c.args.most c.in-Unexplained.k
+    (stuck_behind c.args.limits 0 [] (take c.in_form-many.result c.args.events.now) c.args.most c.in-Unexplained.k
     (rw c.in-Unexplained.is at (c.in_ok-outcome.ensures c.args.limits []
     (judging_from_first c.args.limits (take c.in_form-many.result c.args.events.now) c.in_ok-base.base
     c.in_ok-start.start c.in_ok-base.ensures.watching c.in_ok-base.ensures.untold c.in_ok-start.ensures

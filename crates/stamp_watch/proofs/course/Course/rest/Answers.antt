@@ -23,7 +23,8 @@ judge_rest-requires-clause-judging c =
 
 -- what is found of the events that were not seen
 outcome_here : (c : In_ok-outcome) (limits : Bounds) (run : List Event) (is : IsCourse limits run c.args.self.now) →
-    IsOutcome limits (is.on.past ++ take c.args.self.now.seen c.args.self.now.events.items)
+    IsOutcome limits (c.args.self.now.first + c.args.self.now.seen)
+    (is.on.past ++ take c.args.self.now.seen c.args.self.now.events.items)
     (drop c.args.self.now.seen c.args.self.now.events.items) c.args.most
     c.in_ok-outcome.outcome
 outcome_here c limits run is = rest_outcome limits run c.args.self.now.first c.args.self.now.seen

@@ -1,0 +1,47 @@
+-- A candidate whose history is stuck at its last call, with the same possible replies, is stuck as the run is.
+use Rattle.std.proofs.Common.{◌≡◌, ◌++◌, ◌∷◌, [], ℕ, List, Some, length, length-append, arith, refl, ap, ◌∙◌}
+use Rattle.std.specs.Prelude.{slice_get}
+use Rattle.std.proofs.lemmas.Option.{slice_get-get_or}
+use Rattle.std.proofs.Math.Seq.{get_or-append_seam}
+use Rattle.stamp_core.specs.Limits.{units}
+use Rattle.stamp_explain.specs.declared.observed.Observation.{Observation}
+use Rattle.stamp_explain.specs.Cut.{IsStuck}
+use Rattle.stamp_explain.specs.Observed.{ObservedHistory, IsObserved}
+use Rattle.stamp_observed.specs.declared.fault.Fault.{Fault}
+use Rattle.stamp_observed.specs.declared.candidate.Candidate.{Candidate}
+use Rattle.stamp_observed.specs.Small.{ArePossibleToo, IsStuckAs, renumbered_possible}
+use Rattle.stamp_observed.specs.inner.Fault.{IsFaultOf, replies_in}
+use Rattle.stamp_observed.specs.inner.Candidate.{history_of, return_in, stand_in}
+
+last_of : (es : List Observation) (e : Observation) → slice_get (es ++ e ∷ []) (length es) ≡ Some e
+last_of es e =
+    slice_get-get_or (es ++ e ∷ []) (length es) e (omega (arith, length-append es (e ∷ []))) ∙
+    ap Some (get_or-append_seam es e [] e)
+
+pub stuck_as : (h : ObservedHistory) (most : ℕ) (fault : Fault) (c : Candidate) (small : ObservedHistory)
+    (place : ℕ) →
+    IsFaultOf h most fault → IsObserved small → small ≡ history_of h fault c → place ≡ length c.others.items →
+    IsStuck small place →
+    ArePossibleToo small place (renumbered_possible (units h.limits) c.versions (replies_in fault.possible)) →
+    IsStuckAs h most fault.entry small
+stuck_as h most fault c small place is observed same here stuck too = record {
+  observed = observed;
+  limits = ap (λ (g : ObservedHistory). g.limits) same;
+  width = ap (λ (g : ObservedHistory). g.width) same;
+  at = record { entry = fault.call; return = fault.returned; is_entry = is.is_entry; returned = is.returned };
+  place = place;
+  there = record {
+    entry = stand_in (units h.limits) fault c;
+    return = return_in (units h.limits) fault c;
+    is_entry = ap (λ (g : ObservedHistory). slice_get g.entries place) same ∙
+        ap (λ (n : ℕ). slice_get (history_of h fault c).entries n) here ∙
+        last_of c.others.items (stand_in (units h.limits) fault c);
+    returned = refl;
+  };
+  stuck = stuck;
+  versions = c.versions;
+  renumbered = record { thread = refl; call = refl; reply = refl };
+  replies = replies_in fault.possible;
+  possible = is.possible;
+  too = too;
+}

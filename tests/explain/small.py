@@ -1,0 +1,140 @@
+"""Long observed histories that are stuck, and the small ones that `--small` writes for them.
+
+    small.py EXPLAIN STAMPED [CALLS [SEED]]
+
+Run at the top of the repository; it wants cc. Runs of planted.c with 4 threads and at most CALLS calls (20,000 if
+not said) with each planted bug, and runs of `stamped run` with as many calls of a lock and a record, of which a reply
+near the end is changed. A small history has under 60 entries and is stuck at its last one: at the same call, with the
+same reply and the same possible ones, but for the versions of stamps, of which each has as many less."""
+import json
+import os
+import random
+import re
+import subprocess
+import sys
+import tempfile
+
+BUGS = ("upgrade", "version", "validate")
+RUNS = 3
+MOST_ENTRIES = 60
+VERSION = 256
+PATTERNS = [
+    [["try_read"], ["validate", 1], ["unlock_read", 2]],
+    [["try_write"], ["validate", 1], ["unlock_write", 2]],
+    [["try_read"], ["to_write", 1], ["unlock", 1], ["unlock", 3]],
+    [["optimistic"], ["to_read", 1], ["unlock", 1], ["read_count"]],
+]
+
+
+def output_of(words, text=b""):
+    ran = subprocess.run(words, input=text, capture_output=True, timeout=600)
+    return ran.returncode, ran.stdout, ran.stderr.decode()
+
+
+def calls_of(chance, thread, count):
+    """Calls of the lock and of a record of one word."""
+    calls = []
+    while len(calls) < count:
+        if chance.random() < 0.3:
+            calls.append(chance.choice([["get"], ["put", [chance.randrange(9)]]]))
+            continue
+        for name, *before in chance.choice(PATTERNS):
+            calls.append([name, *([thread, len(calls) - b] for b in before)])
+    return calls
+
+
+def run_of(stamped, chance, threads, calls):
+    """An observed history of a right lock and record."""
+    script = {"readers": 127, "versions": 100_000, "width": 1,
+              "steps": [chance.randrange(threads) for _ in range(calls * 4)],
+              "threads": [calls_of(chance, thread, calls // threads) for thread in range(threads)]}
+    history = json.loads(output_of([stamped, "run"], json.dumps(script).encode())[1])
+    for entry in history["entries"]:
+        del entry["point"]
+    return history
+
+
+def broken(history, name, reply_of):
+    """The history with another reply of the last call of this name among the first nine tenths."""
+    entries = json.loads(json.dumps(history["entries"]))
+    among = entries[: len(entries) * 9 // 10]
+    wrong = next(entry for entry in reversed(among)
+                 if entry["call"][0] == name and entry["reply"] not in (0, reply_of(entry["reply"])))
+    wrong["reply"] = reply_of(wrong["reply"])
+    return json.dumps({**history, "entries": entries}).encode()
+
+
+def answer_of(line):
+    """What the line on standard error says of a call: what it answered, and what was possible."""
+    answer, possible = re.fullmatch(r"stamped_explain: entry \d+ of thread (\d+: .* answered .*?); (.*)\n", line).groups()
+    replies = re.findall(r"\[.*?\]|[^ ,][^,]*", possible.removeprefix("possible: "))
+    return answer, set(replies)
+
+
+def numbers_in(answer):
+    return [int(number) for text in [answer[0], *answer[1]] for number in re.findall(r"\d+", text)]
+
+
+def renumbered(text, versions):
+    """The text of a call or a reply of the lock, with its stamps renumbered."""
+    def number(found):
+        stamp = int(found[0])
+        less = versions * VERSION
+        return str(stamp if stamp < VERSION else 0 if stamp - VERSION < less else stamp - less)
+    return re.sub(r"(?<!count )\b\d+", number, text)
+
+
+def are_alike(long, small):
+    """Whether what is said of two calls is the same, with stamps renumbered."""
+    spans = {a - b for a in numbers_in(long) for b in numbers_in(small)} | {0}
+    return any((renumbered(long[0], versions), {renumbered(reply, versions) for reply in long[1]}) == small
+               for versions in (span // VERSION for span in spans if span >= 0 and span % VERSION == 0))
+
+
+def made_small(explain, run, name):
+    """What is said of the small history of a run; nothing where the run is explained."""
+    status, small, told = output_of([explain, "--judge", "--small"], run)
+    if small.startswith(b"ok "):
+        return None
+    entries = json.loads(small)["entries"]
+    _, line, told_again = output_of([explain], small)
+    if status != 1 or line != b"stuck %d\n" % (len(entries) - 1) or len(entries) >= MOST_ENTRIES:
+        sys.exit(f"{name}: status {status}, {len(entries)} entries, {line}: {small[:2000]}")
+    if not are_alike(answer_of(told), answer_of(told_again)):
+        sys.exit(f"{name}: {told} and {told_again}")
+    return f"{len(json.loads(run)['entries'])} calls become {len(entries)}"
+
+
+def planted_runs(calls, seed):
+    with tempfile.TemporaryDirectory() as room:
+        planted = os.path.join(room, "planted")
+        subprocess.run(["cc", "-O2", "-pthread", "-I", "bench/common", "-o", planted, "tests/explain/planted.c"],
+                       check=True)
+        return {bug: [output_of([planted, bug, "4", str(calls), str(seed + 100 * run)])[1] for run in range(RUNS)]
+                for bug in BUGS}
+
+
+def changed_runs(stamped, calls, seed):
+    history = run_of(stamped, random.Random(seed), 4, calls)
+    return {
+        "another stamp": [broken(history, "try_read", lambda stamp: stamp + 64)],
+        "an older stamp": [broken(history, "optimistic", lambda stamp: stamp - VERSION)],
+        "a failed release": [broken(history, "unlock_write", lambda _: "mismatch")],
+        "a wrong validation": [broken(history, "validate", lambda _: "no")],
+        "a wrong count": [broken(history, "read_count", lambda _: {"count": 9})],
+        "a wrong word": [broken(history, "get", lambda words: [words[0] + 1])],
+    }
+
+
+def main():
+    explain, stamped = sys.argv[1:3]
+    calls = int(sys.argv[3]) if len(sys.argv) > 3 else 20_000
+    seed = int(sys.argv[4]) if len(sys.argv) > 4 else 1
+    for name, runs in {**planted_runs(calls, seed), **changed_runs(stamped, calls, seed)}.items():
+        made = [small for small in (made_small(explain, run, name) for run in runs) if small]
+        if not made:
+            sys.exit(f"{name}: no run is stuck")
+        print(f"small: {name}: {'; '.join(made)}")
+
+
+main()
