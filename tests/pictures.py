@@ -8,11 +8,17 @@ class. Of one window the bars and marks stand where it is written here. In chara
 that are written here, each is cut off where it is told, and a cut line says so; words that are no form are
 refused. Those of docs/pictures are made again and compared. With FOLDER all of them are written there: so
 `pictures.py PROGRAM docs/pictures` makes those pages' pictures again (it leaves the others there, which are
-not kept)."""
+not kept).
+
+The data of pages are those that are written here, or that a picture of the order in them says are in order. Where
+there is a Chromium, it draws each page, and shows the verdict that is written here."""
 import json
 import os
+import re
+import shutil
 import subprocess
 import sys
+import tempfile
 import xml.etree.ElementTree as xml
 
 SVG = "{http://www.w3.org/2000/svg}"
@@ -140,8 +146,96 @@ TEXTS = {
         VERDICTS["fault_interval"],
     ],
 }
+# What breaks a rule in a page's data, by the picture's name.
+WRONG = {
+    "torn_get": {"due": [3, 4], "entry": 2, "why": "reply"},
+    "fault_interval": {"due": 258, "entry": 1, "why": "interval"},
+    "fault_order": {"due": 259, "entry": 2, "why": "order"},
+    "fault_overlap": {"due": 258, "entry": 1, "why": "overlap"},
+    "fault_reply": {"due": 640, "entry": 2, "why": "reply"},
+    "fault_wait": {"due": None, "entry": 1, "why": "reply"},
+}
+
+
+def seen(thread, call, first, last=None, reply=None):
+    """An entry of an observed history; without a last position its call is under way."""
+    told = {"call": call, "first": first, "thread": thread}
+    return told if last is None else {**told, "last": last, "reply": reply}
+
+
+HELD = seen(0, ["try_write"], 0, 3, 384)
+TWO_RELEASES = [HELD, seen(0, ["to_read", 384], 6, 8, 513), seen(1, ["to_read", 384], 7, 9, 513)]
+WAITS = [HELD, seen(1, ["write_lock"], 1, 9, 640), seen(0, ["unlock", 384], 10, 12, "done")]
+UNDER_WAY = [seen(0, ["try_write"], 0), seen(1, ["is_write_locked"], 1, 2, "yes"), seen(2, ["read_lock"], 1)]
+# Observed histories, what stands behind them in a page's data, and the verdict that the page shows.
+OBSERVED_PAGES = {
+    "explained": (
+        [seen(1, ["try_read"], 0, 9, 0), seen(0, ["try_write"], 1, 8, 384)],
+        {"order": [entry(0, ["try_write"], 384, 64, 64, 575), entry(1, ["try_read"], 0, 0, 65, 639)]},
+        "2 calls, explained",
+    ),
+    "under_way": (
+        UNDER_WAY,
+        {"order": [entry(0, ["try_write"], 384, 0, 0, 191), entry(1, ["is_write_locked"], "yes", 64, 64, 191)]},
+        "3 calls, explained",
+    ),
+    "stuck": (
+        TWO_RELEASES,
+        {
+            "order": [
+                entry(0, ["try_write"], 384, 0, 0, 255),
+                entry(0, ["to_read", 384], 513, 384, 384, 575),
+                entry(1, ["to_read", 384], 0, 448, 448, 639),
+            ],
+            "possible": [0],
+            "stuck": 2,
+        },
+        "entry 2 of thread 1: to_read 384 = 513; no order explains this return; possible: 0",
+    ),
+    "stuck_under_way": (
+        [*UNDER_WAY, seen(3, ["optimistic"], 3, 6, 768), seen(1, ["read_count"], 9, 10, {"count": 0})],
+        {
+            "order": [
+                entry(0, ["try_write"], 384, 0, 0, 447),
+                entry(1, ["is_write_locked"], "yes", 64, 64, 191),
+                entry(3, ["optimistic"], 0, 192, 192, 447),
+            ],
+            "possible": [0],
+            "stuck": 3,
+        },
+        "entry 3 of thread 3: optimistic = 768; no order explains this return; possible: 0",
+    ),
+    "stuck_waiting": (
+        WAITS,
+        {"order": [entry(0, ["try_write"], 384, 0, 0, 255)], "possible": [], "stuck": 1},
+        "entry 1 of thread 1: write_lock = 640; no order explains this return; "
+        "no reply was possible, it would have waited",
+    ),
+    "not_apart": (
+        [HELD, seen(0, ["unlock", 384], 3, 5, "done")],
+        {"wrong": {"entry": 1, "why": "overlap"}},
+        "entry 1 of thread 0: unlock 384 = done; it overlaps an earlier entry of its thread",
+    ),
+    "over_too_soon": (
+        [seen(0, ["try_write"], 3, 0, 384)],
+        {"wrong": {"entry": 0, "why": "interval"}},
+        "entry 0 of thread 0: try_write = 384; it ended before it began",
+    ),
+}
+# Inputs that are neither, and how a page of them is refused.
+NO_PAGES = [
+    (b"", b"no input"),
+    (b"[", b"not json"),
+    (b"{}", b"not a history: top"),
+    (json.dumps(history([READ, HELD])).encode(), b"not a history: entry 1"),
+    (json.dumps(history([HELD, READ])).encode(), b"not a history: entry 1"),
+    (json.dumps(history([{**READ, "thread": 64}])).encode(), b"over a limit: entry 0"),
+]
 BAD_WORDS = [
     ["--txt"],
+    ["--html", "--html"],
+    ["--html", "--text"],
+    ["--html", "--from", "1", "--to", "2"],
     ["--text", "--text"],
     ["--width", "80"],
     ["--text", "--width"],
@@ -227,6 +321,66 @@ def look_at_text(name, program, told, words, bad):
         sys.exit(f"{name} in characters has {len(whole)} lines")
 
 
+def page_of(name, program, told, status, wanted):
+    """The page of a history, whose data are as wanted."""
+    answer = ended(program, json.dumps(told).encode(), ["--html"])
+    page = answer[1].decode()
+    data = re.search(r'<script type="application/json" id="data">\n(.*?)</script>', page, re.S)
+    if answer[::2] != (status, b"") or json.loads(data[1]) != wanted:
+        sys.exit(f"page of {name}: {answer[::2]}, {data[1]}, and not {wanted}")
+    return page
+
+
+def observed_page(name, program):
+    """The page of an observed history; a picture says of the order in it that it is in order."""
+    entries, found, verdict = OBSERVED_PAGES[name]
+    wanted = {"observed": history(entries), **found}
+    if "order" in found:
+        wanted["order"] = history(found["order"])
+        if ended(program, json.dumps(wanted["order"]).encode(), ["--text"])[0] != 0:
+            sys.exit(f"page of {name}: {found['order']} is not in order")
+    status = 0 if found.keys() == {"order"} else 1
+    return page_of(name, program, history(entries), status, wanted), verdict
+
+
+def recorded_page(name, program):
+    told, _, bad = PICTURES[name]
+    wrong = {"wrong": WRONG[name]} if name in WRONG else {}
+    return page_of(name, program, told, 0 if bad is None else 1, {"recorded": told, **wrong})
+
+
+def show(browser, pages):
+    """A browser draws each page, and shows its verdict."""
+    with tempfile.TemporaryDirectory() as room:
+        for name, (page, verdict) in pages.items():
+            path = os.path.join(room, f"{name}.html")
+            with open(path, "w", encoding="utf-8") as file:
+                file.write(page)
+            words = ["--headless", "--no-sandbox", "--disable-gpu", "--virtual-time-budget=3000", "--dump-dom"]
+            ran = subprocess.run([browser, *words, f"file://{path}"], capture_output=True, timeout=120)
+            if not re.search(rf'<h1 id="verdict"[^>]*>{re.escape(verdict)}</h1>', ran.stdout.decode()):
+                sys.exit(f"page of {name}: it doesn't show {verdict}")
+
+
+def look_at_pages(program):
+    """The pages of all histories, and what has none."""
+    recorded = {name: recorded_page(name, program) for name in PICTURES}
+    pages = {name: observed_page(name, program) for name in OBSERVED_PAGES}
+    pages["schedule"] = recorded["schedule"], "3 calls, in order"
+    pages["torn_get"] = (
+        recorded["torn_get"],
+        "entry 2 of thread 2: get = [1, 4]; the record would have answered otherwise (due here: [3, 4])",
+    )
+    for text, why in NO_PAGES:
+        answer = ended(program, text, ["--html"])
+        if answer != (1, b"", b"stamped_picture: " + why + b"\n"):
+            sys.exit(f"page of {text}: {answer}")
+    browser = shutil.which("chromium")
+    if browser:
+        show(browser, pages)
+    print(f"{len(recorded) + len(OBSERVED_PAGES)} pages, {len(pages) if browser else 'none'} of them drawn by a browser")
+
+
 def main():
     program, *folder = sys.argv[1:]
     program = os.path.abspath(program)
@@ -244,6 +398,7 @@ def main():
                 if file.read() != answer[1]:
                     sys.exit(f"{kept} is another picture than the one that is made now")
         print(f"{name}: {len(drawn)} bars")
+    look_at_pages(program)
     answer = ended(program, json.dumps(TOO_MANY).encode(), [])
     if answer != (1, b"", TOO_MANY_LINE):
         sys.exit(f"2001 entries: {answer}")

@@ -69,10 +69,10 @@ def reads_of(runs, words, text, ample):
     return reads
 
 
-def writes_of(runs, words, text, ample):
-    """Fails each write, one in each run, in both ways; returns how many there were."""
+def writes_of(runs, words, text, ample, step=1):
+    """Fails each write, or of so many one, in a run of its own, in both ways; returns how many there were."""
     line = ample[1]
-    for number in range(1, len(line) + 1):
+    for number in range(1, len(line) + 1, step):
         front = (1, line[: number - 1], fault_line(words, b"write"))
         for way in ["FAIL_WRITE", "FULL_WRITE"]:
             answer, _ = runs.ended(words, text, **{way: number})
@@ -83,12 +83,17 @@ def writes_of(runs, words, text, ample):
 
 
 def pictures_of(runs, picture):
-    """The same of a picture, as SVG and in characters."""
+    """The same of a picture, as SVG and in characters, and of a page, of whose many writes some are failed."""
     for words in [WHOLE, ["--text", *WHOLE]]:
         drawn, _ = runs.ended([picture, *words], OLD)
         reads = reads_of(runs, [picture, *words], OLD, drawn)
         writes = writes_of(runs, [picture, *words], OLD, drawn)
         print(f"{['stamped_picture', *words]}: {reads} reads and {writes} writes failed, one in each run")
+    for text in [OLD, OBSERVED, STUCK]:
+        page, _ = runs.ended([picture, "--html"], text)
+        reads = reads_of(runs, [picture, "--html"], text, page)
+        writes = writes_of(runs, [picture, "--html"], text, page, len(page[1]) // 40)
+        print(f"['stamped_picture', '--html']: {reads} reads and 40 of {writes} writes failed, one in each run")
 
 
 def help_of(runs, program):

@@ -97,6 +97,8 @@ REFUSALS = [
 ]
 MOST = 10_000
 BAD_REPLY = (HISTORY % b"").replace(b'"done"', b'"yes"')
+# What pages are made of, and how that ends: histories in order, bad, explained, stuck, and of no observer.
+PAGES = [(HISTORY % b"", 0), (BAD_REPLY, 1), (OBSERVED % b"384", 0), (OBSERVED % b"385", 1), (OVERLAPPING, 1)]
 
 
 def line_of(program, text):
@@ -169,7 +171,9 @@ def main():
         ([explain, b"\xff"], b"", bad_line(explain), untold),
         ([picture], HISTORY % b"", drawn(picture, HISTORY % b"", 0), undrawn),
         *(([picture, *words], BAD_REPLY, drawn(picture, BAD_REPLY, 1, *words), undrawn) for words in WORDS),
+        *(([picture, "--html"], text, drawn(picture, text, status, "--html"), undrawn) for text, status in PAGES),
         ([picture], NO_THREAD, (1, b"", b"stamped_picture: not a history: top\n"), undrawn),
+        ([picture, "--html"], NO_THREAD, (1, b"", b"stamped_picture: not a history: top\n"), undrawn),
         ([picture], b"[", (1, b"", b"stamped_picture: not json\n"), undrawn),
         ([picture, "--help"], b"", drawn(picture, b"", 0, "--help"), undrawn),
         ([picture, "--from", "2"], b"", bad_line(picture), undrawn),

@@ -53,7 +53,7 @@ impl From<AllocError> for PossibleError {
 }
 
 /// The history with this reply of the call of this entry, which is the one given.
-fn with_reply(
+pub(crate) fn with_reply(
     alloc: Global,
     observed: &Observed,
     entry: usize,

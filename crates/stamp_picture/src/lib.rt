@@ -22,7 +22,7 @@ mod window;
 
 pub use bar::Bar;
 pub use frames::{Class, Frame};
-pub use picture::{Fault, MOST_BARS, Picture, PictureError, picture_of};
+pub use picture::{Fault, MOST_BARS, Picture, PictureError, judged, picture_of};
 pub use rows::text_of;
 pub use sheet::{LabelledBox, Sheet, sheet_of};
 pub use state::{Mode, Moment, State};

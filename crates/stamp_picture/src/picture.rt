@@ -132,8 +132,9 @@ fn track_after(limits: Limits, width: u64, entries: &[Entry]) -> Track
     track
 }
 
-/// The verdict of a check, with what was due at a fault.
-fn judged(history: &Record) -> Result<u64, Fault>
+/// The verdict of a check on a history: how many entries it has, or its first fault, with that
+/// entry's call and what was due to it.
+pub fn judged(history: &Record) -> Result<u64, Fault>
     ensures judged { IsJudged history.now result }
     ensures drawn { drawn_in result ≤ length history.now.entries }
     ensures right { right_in result ≤ drawn_in result }

@@ -1,0 +1,3 @@
+pub mod Until
+pub mod PageText
+pub mod PageAnswers

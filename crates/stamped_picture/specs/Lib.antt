@@ -1,4 +1,7 @@
 pub mod Order
 pub mod FaultText
 pub mod Answer
+pub mod Explanation
+pub mod PageData
+pub mod Page
 pub mod inner

@@ -12,7 +12,7 @@ use Rattle.stamped_picture.specs.declared.orders.PictureFormat.{PictureFormat}
 use Rattle.stamped_picture.specs.declared.orders.PictureFormat.TheVariants.{Svg, Text}
 use Rattle.stamped_picture.specs.declared.orders.PictureOrder.{PictureOrder}
 use Rattle.stamped_picture.specs.declared.orders.PictureCommand.{PictureCommand}
-use Rattle.stamped_picture.specs.declared.orders.PictureCommand.TheVariants.{Help, Draw}
+use Rattle.stamped_picture.specs.declared.orders.PictureCommand.TheVariants.{Help, Draw, Page}
 
 -- a number that is not 0
 abbrev pub width_in : List ℕ → Option ℕ
@@ -72,8 +72,16 @@ abbrev pub asks_for_help : List (List ℕ) → Bool
 asks_for_help (arg ∷ []) = bytes_eq arg (codes "--help")
 asks_for_help _ = false
 
+-- --html alone
+abbrev pub asks_for_page : List (List ℕ) → Bool
+asks_for_page (arg ∷ []) = bytes_eq arg (codes "--html")
+asks_for_page _ = false
+
 abbrev pub command_of : List (List ℕ) → Option PictureCommand
-command_of args = if asks_for_help args then Some Help else option_map Draw (form_of args)
+command_of args =
+    if asks_for_help args then Some Help
+    else if asks_for_page args then Some Page
+    else option_map Draw (form_of args)
 
 -- what arguments ask for
 abbrev pub order_in : List (List ℕ) → Result PictureCommand CommandFault

@@ -1,1 +1,3 @@
 pub mod Answer
+pub mod Explanation
+pub mod Page

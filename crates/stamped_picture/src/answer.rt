@@ -28,7 +28,7 @@ pub(crate) struct Drawing {
     pub(crate) verdict: Verdict,
 }
 
-fn verdict_of(verdict: &Result<u64, Fault>) -> Verdict
+pub(crate) fn verdict_of(verdict: &Result<u64, Fault>) -> Verdict
     ensures { result ≡ verdict_in verdict.now }
 {
     match verdict {

@@ -2,7 +2,7 @@
 
 ghost use Rattle.std.specs.Prelude.{◌≡◌, map, option_and_then, option_map};
 ghost use Rattle.stamped_picture.specs.Order.{width_in, text_format, wide_format, window_of, window_in, both, form_within, form_of};
-ghost use Rattle.stamped_picture.specs.Order.{asks_for_help, command_of, order_in};
+ghost use Rattle.stamped_picture.specs.Order.{asks_for_help, asks_for_page, command_of, order_in};
 
 use stamp_cli::{CommandFault, number_in};
 use stamp_picture::Window;
@@ -32,6 +32,8 @@ pub(crate) enum PictureCommand {
     Help,
     /// To draw a picture.
     Draw(PictureOrder),
+    /// To make a page.
+    Page,
 }
 
 fn width_in(text: &str) -> Option<u64>
@@ -136,11 +138,22 @@ fn asks_for_help(args: &[&str]) -> bool
     }
 }
 
+fn asks_for_page(args: &[&str]) -> bool
+    ensures { result ≡ asks_for_page (map (λ arg. arg.now) args.now) }
+{
+    match args {
+        [arg] => *arg == "--html",
+        _ => false,
+    }
+}
+
 fn command_of(args: &[&str]) -> Option<PictureCommand>
     ensures { result ≡ command_of (map (λ arg. arg.now) args.now) }
 {
     if asks_for_help(args) {
         Some(PictureCommand::Help)
+    } else if asks_for_page(args) {
+        Some(PictureCommand::Page)
     } else {
         Some(PictureCommand::Draw(form_of(args)?))
     }

@@ -6,10 +6,12 @@ ghost use Rattle.stamp_cli.specs.Serving.{HasRead, HasWritten, WritesAnswer, Ref
 ghost use Rattle.stamp_cli.specs.declared.faults.ServeFault.TheVariants.{Memory, ReadFault, WriteFault};
 ghost use Rattle.stamped_picture.specs.declared.faults.PictureFault.TheVariants.{Serve};
 ghost use Rattle.stamped_picture.specs.Answer.{AnswersSource, IsVerdictOf, text_in};
+ghost use Rattle.stamped_picture.specs.Page.{AnswersPageSource};
 
 use crate::answer::drawing_from;
 use crate::faults::PictureFault;
 use crate::orders::PictureOrder;
+use crate::page::page_from;
 use stamp_cli::{Sink, Source, Verdict, write_text};
 use std::alloc::Global;
 
@@ -46,4 +48,41 @@ pub(crate) fn serve<S: Source, K: Sink>(
     let drawing = drawing_from(alloc, order, style, source)?;
     write_text(sink, &drawing.text)?;
     Ok(drawing.verdict)
+}
+
+/// Answers a command that asks for a page: reads all of the source and writes one page, or says why not. A
+/// search gives up once it has looked at more than `most` configurations.
+pub(crate) fn serve_page<S: Source, K: Sink>(
+    alloc: Global,
+    most: u64,
+    head: &str,
+    tail: &str,
+    source: &mut S,
+    sink: &mut K,
+) -> Result<Verdict, PictureFault>
+    // However it ends, there are no more reads than these, and they take no more bytes than these.
+    ensures reads { HasRead (Serve ReadFault) (Serve Memory) (S.left source.old) (S.left source.new)
+        (S.reads source.old) (S.reads source.new) most_reads most_taken result }
+
+    // The page of all that was read is written, and nothing else; the verdict is its.
+    ensures ok { WritesAnswer (AnswersPageSource most head.now tail.now (S.left source.old) (S.left source.new)
+        (taken_since (S.reads source.old) (S.reads source.new))) IsVerdictOf text_in
+        (K.sent sink.old) (K.sent sink.new) (K.writes sink.old) (K.writes sink.new) result }
+
+    // All that was read is refused so.
+    ensures refused { RefusesAsDue (Serve ReadFault) (Serve WriteFault) (Serve Memory)
+        (AnswersPageSource most head.now tail.now (S.left source.old) (S.left source.new)
+        (taken_since (S.reads source.old) (S.reads source.new))) result }
+
+    // A write that failed leaves a front of the page and is the last, and no other refusal writes.
+    ensures writes { HasWritten (Serve WriteFault) (K.sent sink.old) (K.sent sink.new)
+        (K.writes sink.old) (K.writes sink.new) result }
+    ensures front { WritesFront (Serve WriteFault)
+        (AnswersPageSource most head.now tail.now (S.left source.old) (S.left source.new)
+        (taken_since (S.reads source.old) (S.reads source.new))) text_in
+        (K.sent sink.old) (K.sent sink.new) (K.writes sink.old) (K.writes sink.new) result }
+{
+    let page = page_from(alloc, most, head, tail, source)?;
+    write_text(sink, &page.text)?;
+    Ok(page.verdict)
 }
