@@ -10,8 +10,11 @@ refused. Those of docs/pictures are made again and compared. With FOLDER all of 
 `pictures.py PROGRAM docs/pictures` makes those pages' pictures again (it leaves the others there, which are
 not kept).
 
-The data of pages are those that are written here, or that a picture of the order in them says are in order. Where
-there is a Chromium, it draws each page, and shows the verdict that is written here."""
+The data of pages are those that are written here, and a picture of the order in them says that it is in order.
+Where there is a Chromium, it draws each page, and shows the verdict that is written here. There the fault stands in
+the middle; the pointer and the keys find each call's text; bars have the colours of what they are; calls of a thread
+that overlap don't cover one another; and the wheel zooms and moves. It has 20,000 calls at once."""
+import html
 import json
 import os
 import re
@@ -89,6 +92,7 @@ VERDICTS = {
     "fault_wait": "entry 1: the lock would have answered otherwise (it would wait here)",
 }
 TOO_MANY = history([at(n, 0, ["read_count"], {"count": 0}) for n in range(2001)])
+MANY_CALLS = history([at(n, n % 64, ["read_count"], {"count": 0}) for n in range(20000)])
 TOO_MANY_LINE = b"stamped_picture: 2001 entries to draw, over 2000: give --from A --to B\n"
 LEGEND = ", begins  | goes on  * takes effect  ' ends; the faulty entry has ! and X"
 HEADING = "    at  thread: call = reply -> what the lock was then (v: its version)"
@@ -146,10 +150,12 @@ TEXTS = {
         VERDICTS["fault_interval"],
     ],
 }
-# What breaks a rule in a page's data, by the picture's name.
+# What breaks a rule in a page's data, by the picture's name. A page is of the whole history, also where the picture
+# is of a window.
 WRONG = {
     "torn_get": {"due": [3, 4], "entry": 2, "why": "reply"},
-    "fault_interval": {"due": 258, "entry": 1, "why": "interval"},
+    **{name: {"due": 258, "entry": 1, "why": "interval"}
+       for name in ("fault_interval", "window_of_a_point", "window_turned")},
     "fault_order": {"due": 259, "entry": 2, "why": "order"},
     "fault_overlap": {"due": 258, "entry": 1, "why": "overlap"},
     "fault_reply": {"due": 640, "entry": 2, "why": "reply"},
@@ -222,6 +228,86 @@ OBSERVED_PAGES = {
         "entry 0 of thread 0: try_write = 384; it ended before it began",
     ),
 }
+# What a page tells of each call, and the colours that its bar must have; the other ones it mustn't.
+TOLD = {
+    "stuck_under_way": [
+        ("entry 0, thread 0: try_write; under way; assumed to have taken effect, with reply 384; from 0 on; "
+         "takes effect at 0, as number 1 of 3", {"assumed"}),
+        ("entry 1, thread 1: is_write_locked; answered yes; from 1 to 2; "
+         "takes effect at 1, as number 2 of 3", {"call"}),
+        ("entry 2, thread 2: read_lock; under way; took no effect in this explanation; from 1 on", set()),
+        ("entry 3, thread 3: optimistic; answered 768; no order explains this return; possible: 0; "
+         "put in place of its answer here: 0; from 3 to 6; takes effect at 3, as number 3 of 3", {"fault", "assumed"}),
+        ("entry 4, thread 1: read_count; answered count 0; began later: not looked at; from 9 to 10", {"unseen"}),
+    ],
+    "not_apart": [
+        ("entry 0, thread 0: try_write; answered 384; from 0 to 3", {"call"}),
+        ("entry 1, thread 0: unlock 384; answered done; it overlaps an earlier entry of its thread; from 3 to 5",
+         {"fault"}),
+    ],
+    "torn_get": [
+        ("entry 0, thread 0: put [1, 2]; answered done; from 0 to 4; takes effect at 3, as number 1 of 3", {"call"}),
+        ("entry 1, thread 1: put [3, 4]; answered done; from 1 to 7; takes effect at 6, as number 2 of 3", {"call"}),
+        ("entry 2, thread 2: get; answered [1, 4]; the record would have answered otherwise (due here: [3, 4]); "
+         "from 2 to 9; takes effect at 8, as number 3 of 3", {"fault"}),
+    ],
+    "under_way": [
+        ("entry 0, thread 0: try_write; under way; assumed to have taken effect, with reply 384; from 0 on; "
+         "takes effect at 0, as number 1 of 2", {"assumed"}),
+        ("entry 1, thread 1: is_write_locked; answered yes; from 1 to 2; "
+         "takes effect at 1, as number 2 of 2", {"call"}),
+        ("entry 2, thread 2: read_lock; under way; took no effect in this explanation; from 1 on", set()),
+    ],
+}
+# The entries that the keys N and P, and Down and Up, go to from entry 0 on.
+WALKS = {"stuck_under_way": ([1, 3, 1], [1, 2, 1]), "torn_get": ([1, 2, 1], [1, 2, 1])}
+DARK = "--force-dark-mode"
+# Stands behind a page: looks at it by pointer, keys and wheel, and writes down what it finds.
+PROBE = """<script>
+(() => {
+  const canvas = $('view'), box = canvas.getBoundingClientRect(), found = { entries: {}, middle: [] };
+  const style = getComputedStyle(document.documentElement), dots = canvas.width / box.width;
+  const names = new Map(['call', 'fault', 'assumed', 'unseen']
+    .map(it => [style.getPropertyValue('--' + it).trim(), it]));
+  const image = canvas.getContext('2d').getImageData(0, 0, canvas.width, canvas.height);
+  const nameAt = (x, y) => {
+    const at = (Math.round(y * dots) * image.width + Math.round(x * dots)) * 4;
+    return names.get('#' + [...image.data.slice(at, at + 3)].map(it => it.toString(16).padStart(2, '0')).join(''));
+  };
+  const look = (x, y) => {
+    canvas.dispatchEvent(new PointerEvent('pointermove', { clientX: box.left + x, clientY: box.top + y }));
+    return $('tip').style.display === 'block' ? $('tip').textContent : null;
+  };
+  const told = () => $('told').textContent;
+  const press = key => canvas.dispatchEvent(new KeyboardEvent('keydown', { key, bubbles: true, cancelable: true }));
+  const go = entry => { $('entry').value = entry; $('entry').dispatchEvent(new Event('change')); return told(); };
+  const wheel = more => {
+    const at = { clientX: box.left + box.width / 2, clientY: box.top + 60, cancelable: true, ...more };
+    const was = canvas.toDataURL();
+    canvas.dispatchEvent(new WheelEvent('wheel', at));
+    paint();
+    return canvas.toDataURL() !== was;
+  };
+  found.first = told();
+  found.ground = getComputedStyle(document.body).backgroundColor;
+  for (let y = 27; y < box.height; y += 3) {
+    for (let x = 80; x < box.width - 10; x += 4) {
+      const text = look(x, y);
+      if (text) (found.entries[text] ||= []).push([x, nameAt(x, y) || null]);
+    }
+    found.middle.push(look((76 + box.width) / 2, y));
+  }
+  found.middle = [...new Set(found.middle.filter(it => it))];
+  found.told = JSON.parse($('data').textContent)[COUNTED].entries.map((_, entry) => go(entry));
+  const walk = list => { go(0); return list.map(key => { press(key); return told(); }); };
+  found.walks = [walk(['n', 'n', 'p']), walk(['ArrowDown', 'ArrowDown', 'ArrowUp'])];
+  found.moves = [wheel({ deltaY: -300 }), wheel({ deltaY: 200, shiftKey: true })];
+  const note = document.body.appendChild(document.createElement('pre'));
+  note.id = 'found';
+  note.textContent = JSON.stringify(found);
+})();
+</script>
+"""
 # Inputs that are neither, and how a page of them is refused.
 NO_PAGES = [
     (b"", b"no input"),
@@ -328,6 +414,8 @@ def page_of(name, program, told, status, wanted):
     data = re.search(r'<script type="application/json" id="data">\n(.*?)</script>', page, re.S)
     if answer[::2] != (status, b"") or json.loads(data[1]) != wanted:
         sys.exit(f"page of {name}: {answer[::2]}, {data[1]}, and not {wanted}")
+    if re.search(r"\b(src|href)=|\bimport\b|https?:", page):
+        sys.exit(f"page of {name}: it takes something from elsewhere")
     return page
 
 
@@ -345,21 +433,57 @@ def observed_page(name, program):
 
 def recorded_page(name, program):
     told, _, bad = PICTURES[name]
-    wrong = {"wrong": WRONG[name]} if name in WRONG else {}
+    wrong = {} if bad is None else {"wrong": WRONG[name]}
     return page_of(name, program, told, 0 if bad is None else 1, {"recorded": told, **wrong})
 
 
+def shown(browser, page, room, words):
+    """What a browser makes of a page."""
+    path = os.path.join(room, "page.html")
+    with open(path, "w", encoding="utf-8") as file:
+        file.write(page)
+    words = ["--headless", "--no-sandbox", "--disable-gpu", "--virtual-time-budget=3000", "--dump-dom", *words]
+    ran = subprocess.run([browser, *words, f"file://{path}"], capture_output=True, timeout=60)
+    return ran.stdout.decode()
+
+
+def probe(name, browser, page, room, words):
+    """What stands in the middle, what pointer and keys tell of each call, and its colours, are those of TOLD."""
+    probed = page + PROBE.replace("COUNTED", "'observed'" if name in OBSERVED_PAGES else "'recorded'")
+    note = re.search(r'<pre id="found">(.*?)</pre>', shown(browser, probed, room, words), re.S)
+    found = json.loads(html.unescape(note[1])) if note else sys.exit(f"page of {name}: its script stops")
+    texts = [text.replace("; ", "\n").replace("return\npossible", "return; possible") for text, _ in TOLD[name]]
+    if found["told"] != texts:
+        sys.exit(f"page of {name}: it tells {found['told']}, and not {texts}")
+    wanted = {text: colours for text, (_, colours) in zip(texts, TOLD[name])}
+    drawn = {text: {colour for _, colour in points} - {None} for text, points in found["entries"].items()}
+    if drawn != wanted:
+        sys.exit(f"page of {name}: the pointer finds {drawn}, and not {wanted}")
+    for text, points in found["entries"].items():
+        if wanted[text] and not {colour for x, colour in points if x > max(x for x, _ in points) - 20} & wanted[text]:
+            sys.exit(f"page of {name}: where {text} ends it has none of {wanted[text]}")
+    fault = [text for text, colours in wanted.items() if "fault" in colours]
+    if found["first"] != "".join(fault) or not {*fault} <= {*found["middle"]}:
+        sys.exit(f"page of {name}: at first it tells {found['first']}, and in the middle is {found['middle']}")
+    walks = [[texts[entry] for entry in walk] for walk in WALKS.get(name, [])]
+    if walks and found["walks"] != walks:
+        sys.exit(f"page of {name}: the keys go to {found['walks']}, and not {walks}")
+    if found["moves"] != [True, True]:
+        sys.exit(f"page of {name}: the wheel moves {found['moves']}")
+    if any((int(part) < 128) != (DARK in words) for part in re.findall(r"\d+", found["ground"])):
+        sys.exit(f"page of {name}: with {words} the ground is {found['ground']}")
+
+
 def show(browser, pages):
-    """A browser draws each page, and shows its verdict."""
+    """A browser draws each page, and shows its verdict; pages of TOLD also in the dark, and in a narrow window."""
     with tempfile.TemporaryDirectory() as room:
         for name, (page, verdict) in pages.items():
-            path = os.path.join(room, f"{name}.html")
-            with open(path, "w", encoding="utf-8") as file:
-                file.write(page)
-            words = ["--headless", "--no-sandbox", "--disable-gpu", "--virtual-time-budget=3000", "--dump-dom"]
-            ran = subprocess.run([browser, *words, f"file://{path}"], capture_output=True, timeout=120)
-            if not re.search(rf'<h1 id="verdict"[^>]*>{re.escape(verdict)}</h1>', ran.stdout.decode()):
+            heading = rf'<h1 id="verdict"[^>]*>{re.escape(verdict)}</h1>'
+            if not re.search(heading, shown(browser, page, room, [])):
                 sys.exit(f"page of {name}: it doesn't show {verdict}")
+        for name in TOLD:
+            for words in (["--window-size=1200,700"], ["--window-size=500,900"], ["--window-size=1200,700", DARK]):
+                probe(name, browser, pages[name][0], room, words)
 
 
 def look_at_pages(program):
@@ -367,6 +491,8 @@ def look_at_pages(program):
     recorded = {name: recorded_page(name, program) for name in PICTURES}
     pages = {name: observed_page(name, program) for name in OBSERVED_PAGES}
     pages["schedule"] = recorded["schedule"], "3 calls, in order"
+    many = page_of("many_calls", program, MANY_CALLS, 0, {"recorded": MANY_CALLS})
+    pages["many_calls"] = many, "20000 calls, in order"
     pages["torn_get"] = (
         recorded["torn_get"],
         "entry 2 of thread 2: get = [1, 4]; the record would have answered otherwise (due here: [3, 4])",
@@ -378,7 +504,8 @@ def look_at_pages(program):
     browser = shutil.which("chromium")
     if browser:
         show(browser, pages)
-    print(f"{len(recorded) + len(OBSERVED_PAGES)} pages, {len(pages) if browser else 'none'} of them drawn by a browser")
+    count = len(recorded) + len(OBSERVED_PAGES) + 1
+    print(f"{count} pages, {len(pages) if browser else 'none'} of them drawn by a browser")
 
 
 def main():

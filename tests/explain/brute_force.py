@@ -333,4 +333,5 @@ def main():
     print(f"brute_force: {count} small histories judged alike: {dict(sorted(kinds.items()))}")
 
 
-main()
+if __name__ == "__main__":
+    main()

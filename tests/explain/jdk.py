@@ -86,4 +86,5 @@ def main():
     print(f"jdk: {total} calls explained; {len(DIFFERENCES)} differences are stuck")
 
 
-main()
+if __name__ == "__main__":
+    main()

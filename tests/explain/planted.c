@@ -1,15 +1,18 @@
 // A lock that threads share, right or with a planted bug, whose run is observed:
 //
-//     planted right|upgrade|version|validate THREADS CALLS SEED
+//     planted right|upgrade|version|validate THREADS CALLS SEED [FROM]
 //
 // Each thread makes random calls, as the lock's documentation allows them, and keeps them on a tape of its
 // own, each with a ticket taken before it and one taken after it. Now and then a thread pauses until others
 // have made calls, so that the threads meet however the system schedules them. The observed history goes to
-// standard output, as `stamped_explain` reads it. The bugs:
+// standard output, as `stamped_explain` reads it. With FROM a stream goes there, by recorders/c, and the bug
+// begins to show after so many calls; standard error has the number of events before the first wrong one. The
+// bugs:
 //
 //     upgrade     a read mode becomes write mode beside other readers
 //     version     a release of write mode doesn't count
 //     validate    an optimistic read is always valid
+#include "../../recorders/c/observed_lock.h"
 #include "lock.h"
 #include <pthread.h>
 #include <sched.h>
@@ -44,10 +47,14 @@ static int threads;
 static _Atomic uint64_t word = VERSION, tickets;
 static _Atomic int idle; // threads that pause, wait for the lock or have ended
 static pthread_barrier_t start;
+static struct observed run; // where a stream is written
+static int is_streamed;
+static uint64_t from;
+static _Atomic uint64_t first_wrong; // events so far, where the bug showed first
 
 static int has(const char *name) { return strcmp(bug, name) == 0; }
 
-static struct decision decide_planted(uint64_t now, struct call call) {
+static struct decision decide_wrong(uint64_t now, struct call call) {
     struct decision right = decide(limits, now, call);
     if (has("upgrade") && call.kind == TO_WRITE && holds_read(now, call.stamp))
         return gets(observed(now) + WRITER);
@@ -58,6 +65,16 @@ static struct decision decide_planted(uint64_t now, struct call call) {
     if (has("validate") && call.kind == VALIDATE && call.stamp % WRITER == 0)
         return answer(YES);
     return right;
+}
+
+static struct decision decide_planted(uint64_t now, struct call call) {
+    struct decision right = decide(limits, now, call), wrong = decide_wrong(now, call);
+    uint64_t none = 0, events = atomic_load(&run.tickets);
+    if (!is_streamed) return wrong;
+    if (events < 2 * from) return right;
+    if (right.effect != wrong.effect || right.word != wrong.word || right.reply.answer != wrong.reply.answer)
+        atomic_compare_exchange_strong(&first_wrong, &none, events);
+    return wrong;
 }
 
 // Lets another thread run in place of this one.
@@ -80,7 +97,19 @@ static struct reply call_lock(struct call call) {
     }
 }
 
+static struct reply stream(struct tape *tape, struct call call) {
+    int has_stamp = call.kind >= VALIDATE && call.kind <= TO_OPTIMISTIC;
+    int lane = observed_begin(&run, (enum observed_call)call.kind, has_stamp ? call.stamp : 0);
+    struct reply made = call_lock(call);
+    int is_number = made.answer == STAMP || made.answer == COUNT;
+    observed_return(&run, lane, (enum observed_call)call.kind,
+                    is_number ? made.number : made.answer == YES || made.answer == DONE);
+    tape->length++;
+    return made;
+}
+
 static struct reply record(struct tape *tape, enum kind kind, uint64_t stamp) {
+    if (is_streamed) return stream(tape, (struct call){kind, stamp});
     struct entry *entry = &tape->entries[tape->length++];
     entry->call = (struct call){kind, stamp};
     entry->first = atomic_fetch_add(&tickets, 1);
@@ -124,11 +153,12 @@ static void call_held(struct tape *tape) {
 
 // One time in eight, stays where it is until the others have made some calls, or none of them can.
 static void pause_some(struct tape *tape) {
-    uint64_t until = atomic_load(&tickets) + 16;
+    _Atomic uint64_t *taken = is_streamed ? &run.tickets : &tickets;
+    uint64_t until = atomic_load(taken) + 16;
     if (drawn(tape, 8)) return;
     atomic_fetch_add(&idle, 1);
     do sched_yield();
-    while (atomic_load(&tickets) < until && atomic_load(&idle) < threads);
+    while (atomic_load(taken) < until && atomic_load(&idle) < threads);
     atomic_fetch_sub(&idle, 1);
 }
 
@@ -159,20 +189,27 @@ static void print(const struct entry *entry, int thread, const char *between) {
 
 int main(int count, char **words) {
     static struct tape tapes[MOST_THREADS];
-    if (count != 5) return 2;
+    if (count != 5 && count != 6) return 2;
     bug = words[1];
     threads = atoi(words[2]);
     if (threads < 1 || threads > MOST_THREADS) return 2;
     calls = strtoull(words[3], NULL, 10) / (uint64_t)threads - 1;
+    is_streamed = count == 6;
+    from = is_streamed ? strtoull(words[5], NULL, 10) : 0;
     if (pthread_barrier_init(&start, NULL, (unsigned)threads)) abort();
     for (int i = 0; i < threads; i++) {
         tapes[i].random = strtoull(words[4], NULL, 10) + (uint64_t)i;
-        tapes[i].entries = malloc((calls + 1) * sizeof *tapes[i].entries);
+        tapes[i].entries = malloc(is_streamed ? 1 : (calls + 1) * sizeof *tapes[i].entries);
         if (tapes[i].entries == NULL) abort();
     }
+    if (is_streamed && observed_start(&run, 1, 1, (unsigned)limits.readers, limits.versions)) abort();
     for (int i = 0; i < threads; i++)
         if (pthread_create(&tapes[i].thread, NULL, work, &tapes[i])) abort();
     for (int i = 0; i < threads; i++) pthread_join(tapes[i].thread, NULL);
+    if (is_streamed) {
+        fprintf(stderr, "%" PRIu64 "\n", atomic_load(&first_wrong));
+        return observed_stop(&run) != 0;
+    }
     printf("{\"entries\":[");
     for (int i = 0; i < threads; i++)
         for (uint64_t j = 0; j < tapes[i].length; j++) print(&tapes[i].entries[j], i, i || j ? "," : "");

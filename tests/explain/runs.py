@@ -78,4 +78,5 @@ def main():
     print(f"runs: {len(SIZES)} histories of {total} calls explained")
 
 
-main()
+if __name__ == "__main__":
+    main()

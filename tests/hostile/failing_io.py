@@ -1,6 +1,6 @@
 """Runs the programs where each read gives one byte and each write takes one, and fails each, one in each run.
 
-    failing_io.py NARROW REFUSE STAMPED EXPLAIN PICTURE
+    failing_io.py NARROW REFUSE STAMPED EXPLAIN WATCH PICTURE
 
 A read that fails is told as `read fault`, and nothing is written; a write that fails, or that takes
 no byte, is told as `write fault`, and what went out is the front of the line that came before it. No
@@ -47,6 +47,23 @@ EXPLAIN_TABLE = [
     (["--judge", "--told"], OBSERVED, b"ok 1", 0, TRIED_LINE),
 ]
 WHOLE = ["--from", "0", "--to", "9"]
+
+
+def stream(*events):
+    """A stream of a lock for one reader and one write acquisition."""
+    header = b"stmp" + bytes([1, 1, 1, 0, 1, 0, 0, 0, 0, 0, 0, 0])
+    return header + b"".join(bytes([kind, lane]) + bytes(6) + number.to_bytes(8, "little")
+                             for kind, lane, number in events)
+
+
+WRITTEN = stream((0, 0, 0), (32, 0, 384))
+UNREAD = stream((2, 0, 0), (14, 1, 0), (33, 1, 0), (1, 1, 0), (32, 1, 257))
+UNREAD_LINE = b"stamped_watch: event 4, lane 1: try_read answered 257\n"
+WATCH_TABLE = [
+    ([], WRITTEN, b"ok 1", 0, b""),
+    ([], WRITTEN[:-1], b"bad 1 cut", 1, b""),
+    (["--most", "9"], UNREAD, b"stuck 4", 1, UNREAD_LINE),
+]
 
 
 def fault_line(words, what):
@@ -113,17 +130,18 @@ def without_errors(explain):
 
 
 def main():
-    narrow, refuse, stamped, explain, picture = (os.path.abspath(path) for path in sys.argv[1:])
+    narrow, refuse, stamped, explain, watch, picture = (os.path.abspath(path) for path in sys.argv[1:])
     runs = CountedRuns(narrow, refuse)
     rows = [([stamped, *order], *row, b"") for order, *row in TABLE]
     rows += [([explain, *order], *row) for order, *row in EXPLAIN_TABLE]
+    rows += [([watch, *order], *row) for order, *row in WATCH_TABLE]
     for words, text, line, status, note in rows:
         ample = (status, line + b"\n", note)
         reads = reads_of(runs, words, text, ample)
         writes = writes_of(runs, words, text, ample)
         print(f"{[os.path.basename(words[0]), *words[1:]]}: {reads} reads and {writes} writes failed, one in each run")
     pictures_of(runs, picture)
-    for program in [explain, picture]:
+    for program in [explain, watch, picture]:
         help_of(runs, program)
     without_errors(explain)
     runs.tell()

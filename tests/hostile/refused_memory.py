@@ -1,11 +1,11 @@
 """Runs programs with each of their allocations refused, one in each run, until a run makes fewer.
 
-    refused_memory.py SHIM STAMPED EXPLAIN PICTURE TRIAL
+    refused_memory.py SHIM STAMPED EXPLAIN WATCH PICTURE TRIAL
 
-With ample memory each ends as the table says. A refused run of `stamped`, `stamped_explain` or
-`stamped_picture` ends with the memory line (or with none, where memory for the line is refused too),
-status 1 and nothing on standard output, or as with ample memory; of a stuck history also without its line
-on standard error. One of TRIAL ends with status 1 and no output, or as with ample memory. A refused step of
+With ample memory each ends as the table says. A refused run of `stamped`, `stamped_explain`, `stamped_watch`
+or `stamped_picture` ends with the memory line (or with none, where memory for the line is refused too),
+status 1 and nothing on standard output, or as with ample memory; of a stuck history or stream also without its
+line on standard error. One of TRIAL ends with status 1 and no output, or as with ample memory. A refused step of
 a schedule is made again there, so some refused runs end as with ample memory.
 
 No run leaves a block: what a refused call was given by value, or had made, is dropped. With a word
@@ -66,6 +66,15 @@ WRONG_GET = (
 )
 BESIDE = b'{"call":["try_read"],"first":2,"last":3,"reply":257,"thread":1},'
 WRONG_GET_LINE = b"stamped_explain: entry 2 of thread 0: get answered [2]; possible: [1]\n"
+STREAM = b"stmp" + bytes([1, 1, 1, 0, 1, 0, 0, 0, 0, 0, 0, 0])
+WRITTEN, UNREAD = (
+    STREAM + b"".join(bytes([kind, lane]) + bytes(6) + number.to_bytes(8, "little") for kind, lane, number in events)
+    for events in (
+        [(0, 0, 0), (32, 0, 384)],
+        [(2, 0, 0), (14, 1, 0), (33, 1, 0), (1, 1, 0), (32, 1, 257)],
+    )
+)
+UNREAD_LINE = b"stamped_watch: event 4, lane 1: try_read answered 257\n"
 OVERLAPPING = (OBSERVED % b"384").replace(b'"first":3', b'"first":2')
 FOUND = (
     b'{"entries":[{"call":["try_write"],"first":0,"last":191,"point":0,"reply":384,"thread":0},'
@@ -132,9 +141,11 @@ def runs_of(runs, words, text, wanted, refusals):
 
 
 def main():
-    shim, stamped, explain, picture, trial = (os.path.abspath(path) for path in sys.argv[1:])
+    shim, stamped, explain, watch, picture, trial = (os.path.abspath(path) for path in sys.argv[1:])
     runs = CountedRuns(shim)
-    told, untold, undrawn = ([(1, b"", line_of(it, "memory")), (1, b"", b"")] for it in (stamped, explain, picture))
+    told, untold, unwatched, undrawn = (
+        [(1, b"", line_of(it, "memory")), (1, b"", b"")] for it in (stamped, explain, watch, picture)
+    )
     table = [
         ([stamped, "replay"], REPLAY, (0, REPLIES, b""), told),
         ([stamped, "replay"], WAITS, (1, b"", b"stamped: call 1 waits\n"), told),
@@ -169,6 +180,13 @@ def main():
         ([explain, "--most"], b"", bad_line(explain), untold),
         ([explain, "--most", "-1"], b"", bad_line(explain), untold),
         ([explain, b"\xff"], b"", bad_line(explain), untold),
+        ([watch], WRITTEN, (0, b"ok 1\n", b""), unwatched),
+        ([watch], WRITTEN[:-1], (1, b"bad 1 cut\n", b""), unwatched),
+        ([watch, "--most", "9"], UNREAD, (1, b"stuck 4\n", UNREAD_LINE), [*unwatched, (1, b"stuck 4\n", b"")]),
+        ([watch], b"stmp", (1, b"bad header cut\n", b""), unwatched),
+        ([watch, "--help"], b"", drawn(watch, b"", 0, "--help"), unwatched),
+        ([watch, "--most"], b"", bad_line(watch), unwatched),
+        ([watch, b"\xff"], b"", bad_line(watch), unwatched),
         ([picture], HISTORY % b"", drawn(picture, HISTORY % b"", 0), undrawn),
         *(([picture, *words], BAD_REPLY, drawn(picture, BAD_REPLY, 1, *words), undrawn) for words in WORDS),
         *(([picture, "--html"], text, drawn(picture, text, status, "--html"), undrawn) for text, status in PAGES),

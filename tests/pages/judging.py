@@ -1,9 +1,9 @@
 """Runs the command lines of docs/JUDGING.md in their order, and compares what comes of them with what the page says.
 
-    judging.py STAMPED EXPLAIN PICTURE HANDLES
+    judging.py STAMPED EXPLAIN PICTURE HANDLES WATCH
 
-Run at the top of the repository, with the programs `stamped`, `stamped_explain`, `stamped_picture` and
-`observed_handles`. The lines of Java are run where javac is. In place of the page's `stuck 17` there is a run of a
+Run at the top of the repository, with the programs `stamped`, `stamped_explain`, `stamped_picture`,
+`observed_handles` and `stamped_watch`. The lines of Java are run where javac is. In place of the page's `stuck 17` there is a run of a
 lock with a bug, with the entry and the reply that the program tells of it. A line of the page that isn't tried here
 fails, and one that is tried and isn't on the page. commands.py compares the lines behind `$ `."""
 import json
@@ -23,7 +23,10 @@ JUDGE, ENTRY, PLANT = "stamped_explain --judge --told < run.json", "17", "plante
 PRINT = ("python3 -c 'import json, sys; print(json.load(open(sys.argv[1]))[\"entries\"][int(sys.argv[2])])' "
          "run.json 17")
 UNTIL = "python3 recorders/until.py 17 '[1, 2]' < run.json | stamped_explain | stamped_picture --text"
+PAGE_OF_RUN = "stamped_picture --html < run.json > run.html"
 JAVA = ["javac -d classes recorders/java/*.java", "java -cp classes Accounts > run.json", JUDGE]
+LIVE = ["mkfifo run.events",
+        "stamped_watch run.events & java -cp classes ObservedRun 16 1000000 1 run.events && wait $!"]
 FORGETS = "java -cp classes Points 200 forgets > run.json"
 HANDLES = "crates/observed_handles/out/observed_handles 8 200 > run.json"
 PLANTED = "cc -pthread -I bench/common tests/explain/planted.c -o planted && ./planted right 4 10000 1"
@@ -76,6 +79,8 @@ def try_java(room):
     room.must(JAVA[0], told=r"(Note: .*\n)*")
     room.must(JAVA[1])
     room.must_be_right()
+    room.must(LIVE[0])
+    room.must(LIVE[1], r"ok 1\d{6}\n")
     for _ in range(5):
         room.must(FORGETS)
         found = room.judged()
@@ -108,14 +113,19 @@ def try_stuck(room):
     printed = room.must(PRINT.replace(f" {ENTRY}", f" {entry}"), r"\{.*\}\n")
     if f"entry {entry} of thread " not in note or "'last': " not in printed:
         sys.exit(f"entry {entry}: {printed}{note}")
+    drawn = room.run(PAGE_OF_RUN)
+    with open(os.path.join(room.path, "run.html"), encoding="utf-8") as file:
+        if drawn.returncode != 1 or drawn.stderr or f',"stuck":{entry}}}</script>' not in file.read():
+            sys.exit(f"{PAGE_OF_RUN}: status {drawn.returncode}, and {drawn.stderr}")
     reply = possible_reply(note)
     words = f"{entry} {shlex.quote(reply)}" if reply else entry
     room.must(UNTIL.replace(f"{ENTRY} '[1, 2]'", words), r"(?s).* at  thread: call = reply -> .*")
 
 
 def main():
-    programs = dict(zip(["stamped", "stamped_explain", "stamped_picture", "observed_handles"], sys.argv[1:]))
-    tried = {*JAVA, FORGETS, HANDLES, PLANTED, PRINT, UNTIL}
+    names = ["stamped", "stamped_explain", "stamped_picture", "observed_handles", "stamped_watch"]
+    programs = dict(zip(names, sys.argv[1:]))
+    tried = {*JAVA, *LIVE, FORGETS, HANDLES, PLANTED, PRINT, PAGE_OF_RUN, UNTIL}
     with open(PAGE, encoding="utf-8") as file:
         lines = lines_of(file.read())
     for line in [*sorted({*lines} - tried - BUILT), *sorted(tried - {*lines})]:
@@ -130,7 +140,7 @@ def main():
         room.must(f"{{ {PLANTED}; }} > run.json")
         room.must_be_right()
         try_stuck(room)
-    print(f"{PAGE}: command lines that do what it says: {len(tried) - (0 if has_java else 3)}")
+    print(f"{PAGE}: command lines that do what it says: {len(tried) - (0 if has_java else 5)}")
 
 
 main()

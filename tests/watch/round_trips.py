@@ -244,4 +244,5 @@ def main():
           f"stuck, {broken} broken ones told")
 
 
-main()
+if __name__ == "__main__":
+    main()

@@ -1,4 +1,4 @@
-//! The shell of a program that answers its standard input: arguments, status, and lines on standard error.
+//! The shell of a program that answers its input: arguments, status, and lines on standard error.
 
 ghost use Rattle.std.specs.Prelude.{◌≡◌, ℕ, List, Result, Ok, Err, map, ⊤};
 ghost use Rattle.stamp_cli.specs.declared.orders.CommandFault.{CommandFault};
@@ -6,14 +6,16 @@ ghost use Rattle.stamp_cli.specs.declared.shell.Answered.{Answered};
 ghost use Rattle.stamp_cli.specs.Shell as shell;
 ghost use Rattle.stamp_cli.specs.Shell.{EndsView, IsEndingOf};
 
+use crate::faults::ServeFault;
 use crate::line::Verdict;
 use crate::orders::CommandFault;
 use crate::sinks::{Sink, WriteSink};
 use crate::sources::{ReadSource, Source};
 use std::alloc::{AllocError, Global};
+use std::io::Read;
 use std::process::ExitCode;
-use std::rt::Env;
-use std::{env, io};
+use std::rt::{Env, Files};
+use std::{env, fs, io};
 
 /// What a program has answered.
 #[derive(Drop)]
@@ -40,7 +42,7 @@ pub trait Program {
     /// What its arguments ask for.
     type Order;
     /// Why it wrote no answer.
-    type Fault: From<AllocError> + Drop;
+    type Fault: From<AllocError> + From<ServeFault> + Drop;
 
     // The order that arguments give.
     ghost order_in: { List (List ℕ) → Result Self.Order CommandFault };
@@ -51,6 +53,12 @@ pub trait Program {
     /// The order that these arguments give, the program's name not among them.
     fn order_of(arguments: &[&str]) -> Result<Self::Order, CommandFault>
         ensures { result ≡ order_in (map (λ arg. arg.now) arguments.now) };
+
+    /// The file that is read in place of standard input, if these arguments name one. A program that says nothing here
+    /// reads standard input alone.
+    fn file_in<'a>(_arguments: &[&'a str]) -> Option<&'a str> {
+        None
+    }
 
     /// Serves the order between a source and a sink.
     fn answer<S: Source, K: Sink>(
@@ -121,9 +129,21 @@ fn arguments_given(rt: &(impl Env + AllocGlobal)) -> Result<Option<Vec<String>>,
     }
 }
 
-/// What the program does between standard input and standard output.
+/// What the program does on these arguments, between a reader and standard output.
+fn ending_from<P: Program, R: Read + Drop>(
+    rt: &(impl Print + AllocGlobal),
+    arguments: &[&str],
+    reader: R,
+) -> Ending<P::Fault> {
+    let mut source = ReadSource::new(reader);
+    let mut sink = WriteSink::new(io::writer(rt));
+    ending_of::<P, _, _>(rt.alloc(), arguments, &mut source, &mut sink)
+}
+
+/// What the program does between its input, which is standard input or a file, and standard output. A file that can't
+/// be opened is one that can't be read.
 fn ending_here<P: Program>(
-    rt: &(impl Env + Input + Print + AllocGlobal),
+    rt: &(impl Env + Files + Input + Print + AllocGlobal),
 ) -> Result<Ending<P::Fault>, AllocError> {
     let Some(args) = arguments_given(rt)? else {
         return Ok(Ending::BadCommandLine);
@@ -133,9 +153,13 @@ fn ending_here<P: Program>(
         .skip(1)
         .map(|arg| arg.as_str())
         .collect(rt.alloc())?;
-    let mut source = ReadSource::new(rt.reader());
-    let mut sink = WriteSink::new(io::writer(rt));
-    Ok(ending_of::<P, _, _>(rt.alloc(), &texts, &mut source, &mut sink))
+    let Some(path) = P::file_in(&texts) else {
+        return Ok(ending_from::<P, _>(rt, &texts, rt.reader()));
+    };
+    match fs::open(rt, path) {
+        Ok(file) => Ok(ending_from::<P, _>(rt, &texts, file)),
+        Err(_) => Ok(Ending::Refused(P::Fault::from(ServeFault::ReadFault))),
+    }
 }
 
 /// Prints a line on standard error, if there is one.
@@ -145,9 +169,9 @@ fn tell(rt: &impl Eprint, line: Option<String>) {
     }
 }
 
-/// Runs a program between standard input and standard output: what it does is that of `ending_of`, and
-/// its status that of `status_after`.
-pub fn run<P: Program, R: Env + Input + Print + Eprint + AllocGlobal>(rt: &R) -> ExitCode {
+/// Runs a program between its input and standard output: what it does is that of `ending_of`, and its status that of
+/// `status_after`. The input is standard input, or the file that its arguments name.
+pub fn run<P: Program, R: Env + Files + Input + Print + Eprint + AllocGlobal>(rt: &R) -> ExitCode {
     let ending = match ending_here::<P>(rt) {
         Ok(ending) => ending,
         Err(AllocError) => Ending::Refused(P::Fault::from(AllocError)),

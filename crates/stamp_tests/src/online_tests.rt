@@ -3,7 +3,7 @@ ghost use Rattle.stamp_watch.specs.Judge.{IsJudgeOfSome};
 
 use crate::fixtures::limits;
 use stamp_core::{Call, Reply};
-use stamp_watch::{Event, Judge, Verdict, Why, judge_run};
+use stamp_watch::{Event, Judge, StreamEvent, Verdict, Why, judge_run};
 use std::test::Fail;
 
 /// The judge of a lock for up to 127 readers and 1,000 write acquisitions.
@@ -20,10 +20,13 @@ fn pushed(judge: &mut Judge, events: &[Event]) -> Result<Option<Verdict>, Fail>
 {
     let mut found = None;
     for event in events {
+        let Some(small) = StreamEvent::of(event) else {
+            return Err(Fail::from("not of a lock"));
+        };
         if judge.is_full() {
             return Err(Fail::from("full"));
         }
-        found = judge.push(event)?;
+        found = judge.push(&small)?;
     }
     Ok(found)
 }

@@ -23,6 +23,7 @@ use Rattle.stamp_watch.specs.declared.ending.Ending.TheVariants.{Returns, Withdr
 use Rattle.stamp_watch.specs.declared.open_call.OpenCall.{OpenCall}
 use Rattle.stamp_watch.specs.declared.position.Position.{Position}
 use Rattle.stamp_watch.specs.LockCall.{call_as}
+use Rattle.stamp_watch.specs.Run.{DoSame}
 use Rattle.stamp_watch.specs.Run.Phase.{Asks, Gets}
 use Rattle.stamp_watch.specs.Ahead.{EndsNever, Tells, ReturnsSooner}
 use Rattle.stamp_watch.specs.Foretold.{open_at, EndsSo, HasEachOpen, MayGet, ComesAsTold}
@@ -31,7 +32,7 @@ use Rattle.stamp_watch.specs.inner.Effect.{EffectGoesOn, Follows, GivesWay, Goes
 use Rattle.stamp_watch.specs.inner.Effect.{AreEndless}
 use Rattle.stamp_watch.specs.inner.Lanes.{SetsBit}
 use Rattle.stamp_watch.specs.inner.Layer.{Includes, Adds, IsTried, Expands}
-use Rattle.stamp_watch.proofs.Surviving.{set_of, sets_of, sooner_alike_first}
+use Rattle.stamp_watch.proofs.Surviving.{same_step, set_of, sets_of, sooner_alike_first}
 use Rattle.stamp_watch.proofs.Endless.{endless_alike_first}
 use Rattle.stamp_watch.proofs.Tables.{one_open, open_at_within}
 use Rattle.stamp_watch.proofs.Standing.{asks_at, AsksIn, asks_in}
@@ -69,8 +70,8 @@ tried_more {limits} {table} {p} {lane} {xs} {ys} grows is = record {
   tried = λ last events told effect. by events (is.tried last events told effect);
 }
   where
-    by : (events : List Event) → OneGoesOn limits table events xs ⊎ GivesWay table p.in_effect lane →
-        OneGoesOn limits table events ys ⊎ GivesWay table p.in_effect lane
+    by : (events : List Event) → OneGoesOn limits table events xs ⊎ GivesWay limits table p.in_effect lane →
+        OneGoesOn limits table events ys ⊎ GivesWay limits table p.in_effect lane
     by events (inl one) = inl (one_more grows one)
     by events (inr way) = inr way
 
@@ -108,7 +109,7 @@ module _ (limits : Bounds) (table : List (Option OpenCall)) (p : Position) where
   expands_taken lane xs taken =
       left lane xs (no_effect lane xs (λ call asks. let free = asks.free in omega arith))
 
-  pub expands_way : (lane : ℕ) (xs : List Position) → GivesWay table p.in_effect lane →
+  pub expands_way : (lane : ℕ) (xs : List Position) → GivesWay limits table p.in_effect lane →
       Expands limits table p (λ (l : ℕ). l ≡ lane) xs xs
   expands_way lane xs way = left lane xs (record { tried = λ last events told effect. inr way })
 
@@ -181,7 +182,7 @@ module _ (limits : Bounds) (table : List (Option OpenCall)) (p : Position) where
 
   -- where a call gives way to one that returns sooner, this one may take effect instead
   instead_sooner : (last : ℕ) (events : List Event) (lane : ℕ) → ComesAsTold table last events →
-      (way : GivesWay table p.in_effect lane) → IsAhead way.first way.begun →
+      (way : GivesWay limits table p.in_effect lane) → IsAhead limits way.first way.begun →
       EffectGoesOn limits table events p lane → EffectGoesOn limits table events p way.first_lane
   instead_sooner last events lane told way ahead effect = by (asks_in (open_at table lane) (bit_at p.in_effect lane)
       (effect.one.lanes lane) effect.call (effect.stands.phases lane) effect.asks)
@@ -191,17 +192,18 @@ module _ (limits : Bounds) (table : List (Option OpenCall)) (p : Position) where
       by asks = record {
         one = effect.one;
         stands = effect.stands;
-        call = effect.call;
+        call = call_as way.first.asks;
         reply = effect.reply;
         asks = asks_first;
         next = effect.next;
-        step = effect.step;
+        step = same_step limits effect.one.state effect.call (call_as way.first.asks) effect.reply effect.next
+            (λ s. sym (does s)) effect.step;
         after = set_of effect.one.lanes way.first_lane (Gets effect.reply);
         sets = sets_of effect.one.lanes way.first_lane (Gets effect.reply);
-        survives = sooner_alike_first limits way.first_lane lane effect.call effect.reply events effect.next
-            effect.one.lanes effect.after (set_of effect.one.lanes way.first_lane (Gets effect.reply)) apart
-            asks_first effect.asks effect.sets (sets_of effect.one.lanes way.first_lane (Gets effect.reply)) tells
-            sooner effect.survives;
+        survives = sooner_alike_first limits way.first_lane lane (call_as way.first.asks) effect.call effect.reply
+            events effect.next effect.one.lanes effect.after
+            (set_of effect.one.lanes way.first_lane (Gets effect.reply)) does apart asks_first effect.asks effect.sets
+            (sets_of effect.one.lanes way.first_lane (Gets effect.reply)) tells sooner effect.survives;
         needed = inl (record {
           ends = λ b also never. returns_or_never way.first.ends b.ends ahead.reply ahead.place
               (ap (λ (x : OpenCall). x.ends) (one_open table way.first_lane way.first b way.is_first also))
@@ -220,12 +222,12 @@ module _ (limits : Bounds) (table : List (Option OpenCall)) (p : Position) where
           its : way.begun ≡ asks.begun
           its = one_open table lane way.begun asks.begun way.is_open asks.is_open
 
-          one_call : call_as way.first.asks ≡ effect.call
-          one_call = ap call_as (ahead.call ∙ ap (λ (x : OpenCall). x.asks) its) ∙ asks.same
+          does : DoSame limits (call_as way.first.asks) effect.call
+          does = subst (λ (x : Call). DoSame limits (call_as way.first.asks) x)
+              (ap (λ (x : OpenCall). call_as x.asks) its ∙ asks.same) ahead.does
 
-          asks_first : effect.one.lanes way.first_lane ≡ Asks effect.call
-          asks_first = asks_at limits table p effect.one way.first_lane way.first effect.stands way.is_first way.free ∙
-              ap Asks one_call
+          asks_first : effect.one.lanes way.first_lane ≡ Asks (call_as way.first.asks)
+          asks_first = asks_at limits table p effect.one way.first_lane way.first effect.stands way.is_first way.free
 
           apart : way.first_lane ≢ lane
           apart same =
@@ -260,7 +262,7 @@ module _ (limits : Bounds) (table : List (Option OpenCall)) (p : Position) where
 
   -- where neither ends and it gives way to a lower lane, so may this one
   instead_lower : (last : ℕ) (events : List Event) (lane : ℕ) → ComesAsTold table last events →
-      (way : GivesWay table p.in_effect lane) → AreEndless way.first way.begun → way.first_lane < lane →
+      (way : GivesWay limits table p.in_effect lane) → AreEndless way.first way.begun → way.first_lane < lane →
       EffectGoesOn limits table events p lane → EffectGoesOn limits table events p way.first_lane
   instead_lower last events lane told way endless lower effect = by (asks_in (open_at table lane)
       (bit_at p.in_effect lane) (effect.one.lanes lane) effect.call (effect.stands.phases lane) effect.asks)
@@ -303,11 +305,11 @@ module _ (limits : Bounds) (table : List (Option OpenCall)) (p : Position) where
 
   -- where a call gives way the one that goes before it may take effect instead
   instead : (last : ℕ) (events : List Event) (lane : ℕ) → ComesAsTold table last events →
-      (way : GivesWay table p.in_effect lane) → EffectGoesOn limits table events p lane →
+      (way : GivesWay limits table p.in_effect lane) → EffectGoesOn limits table events p lane →
       EffectGoesOn limits table events p way.first_lane
   instead last events lane told way effect = by way.goes
     where
-      by : GoesBefore way.first_lane lane way.first way.begun → EffectGoesOn limits table events p way.first_lane
+      by : GoesBefore limits way.first_lane lane way.first way.begun → EffectGoesOn limits table events p way.first_lane
       by (inl ahead) = instead_sooner last events lane told way ahead effect
       by (inr lower) = instead_lower last events lane told way lower.0 lower.1 effect
 
@@ -319,13 +321,13 @@ module _ (limits : Bounds) (table : List (Option OpenCall)) (p : Position) where
   advances xs ys last events full expands told zero lane o is low effect = absurd (omega arith)
   advances xs ys last events full expands told (suc n) lane o is low effect =
       by ((expands.whole lane within).tried last events told effect)
-      (λ (way : GivesWay table p.in_effect lane) below. advances xs ys last events full expands told n way.first_lane
+      (λ (way : GivesWay limits table p.in_effect lane) below. advances xs ys last events full expands told n way.first_lane
       way.first way.is_first below (instead last events lane told way effect))
     where
       within : lane < 64
       within = omega (arith, open_at_within table lane o is)
 
-      below : (way : GivesWay table p.in_effect lane) → GoesBefore way.first_lane lane way.first way.begun →
+      below : (way : GivesWay limits table p.in_effect lane) → GoesBefore limits way.first_lane lane way.first way.begun →
           rank_of way.first_lane way.first.ends < n
       below way (inl ahead) =
           let first : rank_of way.first_lane way.first.ends ≡ ahead.place =
@@ -344,8 +346,8 @@ module _ (limits : Bounds) (table : List (Option OpenCall)) (p : Position) where
           let less : way.first_lane < lane = lower.1 in
           omega (arith, first, other, less)
 
-      by : OneGoesOn limits table events ys ⊎ GivesWay table p.in_effect lane →
-          ((way : GivesWay table p.in_effect lane) → rank_of way.first_lane way.first.ends < n →
+      by : OneGoesOn limits table events ys ⊎ GivesWay limits table p.in_effect lane →
+          ((way : GivesWay limits table p.in_effect lane) → rank_of way.first_lane way.first.ends < n →
           OneGoesOn limits table events ys) → OneGoesOn limits table events ys
       by (inl one) later = one
       by (inr way) later = later way (below way way.goes)

@@ -1,13 +1,15 @@
 -- Ways along the events of a run, and in which order calls may take effect on them.
-use Rattle.std.proofs.Common.{◌≡◌, ◌≢◌, ◌⊎◌, ℕ, List, [], ◌∷◌, refl, sym, ◌∙◌, ap, subst, inl, inr}
+use Rattle.std.proofs.Common.{◌≡◌, ◌≢◌, ◌⊎◌, ℕ, List, [], ◌∷◌, ◌++◌, Option, refl, sym, ◌∙◌, ap, subst, inl, inr}
 use Rattle.std.proofs.lemmas.Bool.{cases_eq}
 use Rattle.stamp_core.specs.LockEvent.{LockEvent}
+use Rattle.stamp_core.specs.History.{Replies, appended_by}
 use Rattle.stamp_core.specs.Limits.{Bounds}
+use Rattle.stamp_core.specs.Transition.{Transition}
 use Rattle.stamp_core.specs.declared.call.Call.{Call}
 use Rattle.stamp_core.specs.declared.reply.Reply.{Reply}
 use Rattle.stamp_watch.specs.declared.event.Event.{Event}
 use Rattle.stamp_watch.specs.declared.event.Event.TheVariants.{Begins, Returns, Withdraws}
-use Rattle.stamp_watch.specs.Run.{LockStep, Phase, Sets, Survives, Lanes}
+use Rattle.stamp_watch.specs.Run.{DoSame, LockStep, Phase, Sets, Survives, Lanes}
 use Rattle.stamp_watch.specs.Run.Phase.{Idle, Asks, Gets}
 use Rattle.stamp_watch.specs.Run.Survives.{at_end, takes_effect, begins, returns, withdraws}
 use Rattle.stamp_watch.specs.Ahead.{EndsNever, IsWithdrawn, ReturnsSooner, Tells}
@@ -398,30 +400,38 @@ sooner_withdrawal : {t u v : ℕ} {events : List Event} → ReturnsSooner t u (W
     (v ≢ u) × ReturnsSooner t u events
 sooner_withdrawal (sooner_past_withdrawal v other apart first) = (apart, first)
 
+-- a call that does the same takes the same step
+pub same_step : (limits : Bounds) (s : List LockEvent) (call other : Call) (reply : Reply) (next : List LockEvent) →
+    DoSame limits call other → LockStep limits s call reply next → LockStep limits s other reply next
+same_step limits s call other reply next does step = record {
+  replies = subst (λ (t : Option Transition). Replies t reply) (does s) step.replies;
+  appends = step.appends ∙ ap (λ (t : Option Transition). s ++ appended_by t) (does s);
+}
+
 -- of two calls that are alike the one that returns sooner takes effect first
 pub sooner_alike_first : SoonerAlikeFirst
-sooner_alike_first limits t u call reply events s lanes later sooner apart asks_t asks_u sets_u sets_t tells first
+sooner_alike_first limits t u call other reply events s lanes later sooner does apart asks_t asks_u sets_u sets_t tells first
     at_end = at_end
-sooner_alike_first limits t u call reply events s lanes later sooner apart asks_t asks_u sets_u sets_t tells first
+sooner_alike_first limits t u call other reply events s lanes later sooner does apart asks_t asks_u sets_u sets_t tells first
     (takes_effect {next = next} {after = after} v c r asks_v step sets_v rest) = by (cases_eq v t)
-    (λ other. sooner_alike_first limits t u call reply events next (set_of lanes v (Gets r)) after
-    (set_of sooner v (Gets r)) apart ((sets_of lanes v (Gets r)).others t (λ e. other (sym e)) ∙ asks_t)
+    (λ beside. sooner_alike_first limits t u call other reply events next (set_of lanes v (Gets r)) after
+    (set_of sooner v (Gets r)) does apart ((sets_of lanes v (Gets r)).others t (λ e. beside (sym e)) ∙ asks_t)
     ((sets_of lanes v (Gets r)).others u (λ e. not_u (sym e)) ∙ asks_u)
     (sets_swapped lanes later (set_of lanes v (Gets r)) after u v (Gets reply) (Gets r) (λ e. not_u (sym e)) sets_u
     (sets_of lanes v (Gets r)) sets_v)
     (sets_swapped lanes sooner (set_of lanes v (Gets r)) (set_of sooner v (Gets r)) t v (Gets reply) (Gets r)
-    (λ e. other (sym e)) sets_t (sets_of lanes v (Gets r)) (sets_of sooner v (Gets r))) tells first rest)
+    (λ e. beside (sym e)) sets_t (sets_of lanes v (Gets r)) (sets_of sooner v (Gets r))) tells first rest)
   where
     not_u : v ≢ u
     not_u e = asks_or_gets (subst (λ (w : ℕ). later w ≡ Asks c) e asks_v) sets_u.here
 
     by : (v ≡ t) ⊎ (v ≢ t) → (v ≢ t → Survives limits events next (set_of sooner v (Gets r))) →
         Survives limits events s sooner
-    by (inr other) more = takes_effect v c r
-        (sets_t.others v other ∙ sym (sets_u.others v not_u) ∙ asks_v) step (sets_of sooner v (Gets r)) (more other)
-    by (inl same) more = takes_effect u call reply (sets_t.others u (λ e. apart (sym e)) ∙ asks_u)
-        (subst (λ (x : Reply). LockStep limits s call x next) told
-        (subst (λ (x : Call). LockStep limits s x r next) its step))
+    by (inr beside) more = takes_effect v c r
+        (sets_t.others v beside ∙ sym (sets_u.others v not_u) ∙ asks_v) step (sets_of sooner v (Gets r)) (more beside)
+    by (inl same) more = takes_effect u other reply (sets_t.others u (λ e. apart (sym e)) ∙ asks_u)
+        (same_step limits s call other reply next does (subst (λ (x : Reply). LockStep limits s call x next) told
+        (subst (λ (x : Call). LockStep limits s x r next) its step)))
         (sets_swapped lanes later sooner after u t (Gets reply) (Gets reply) (λ e. apart (sym e)) sets_u sets_t
         sets_there) rest
       where
@@ -439,10 +449,10 @@ sooner_alike_first limits t u call reply events s lanes later sooner apart asks_
           here = gets ∙ ap Gets told;
           others = λ w beyond. sets_v.others w (λ e. beyond (e ∙ same));
         }
-sooner_alike_first limits t u call reply events s lanes later sooner apart asks_t asks_u sets_u sets_t tells first
+sooner_alike_first limits t u call other reply events s lanes later sooner does apart asks_t asks_u sets_u sets_t tells first
     (begins {events = more} {after = after} v c idle sets_v rest) = begins v c
     (sets_t.others v not_t ∙ sym (sets_u.others v not_u) ∙ idle) (sets_of sooner v (Asks c))
-    (sooner_alike_first limits t u call reply more s (set_of lanes v (Asks c)) after (set_of sooner v (Asks c)) apart
+    (sooner_alike_first limits t u call other reply more s (set_of lanes v (Asks c)) after (set_of sooner v (Asks c)) does apart
     ((sets_of lanes v (Asks c)).others t (λ e. not_t (sym e)) ∙ asks_t)
     ((sets_of lanes v (Asks c)).others u (λ e. not_u (sym e)) ∙ asks_u)
     (sets_swapped lanes later (set_of lanes v (Asks c)) after u v (Gets reply) (Asks c) (λ e. not_u (sym e)) sets_u
@@ -456,10 +466,10 @@ sooner_alike_first limits t u call reply events s lanes later sooner apart asks_
 
     not_t : v ≢ t
     not_t e = idle_or_asks (subst (λ (w : ℕ). later w ≡ Idle) e idle) (sets_u.others t apart ∙ asks_t)
-sooner_alike_first limits t u call reply events s lanes later sooner apart asks_t asks_u sets_u sets_t tells first
+sooner_alike_first limits t u call other reply events s lanes later sooner does apart asks_t asks_u sets_u sets_t tells first
     (returns {events = more} {after = after} v r gets sets_v rest) = returns v r
     (sets_t.others v not_t ∙ sym (sets_u.others v not_u) ∙ gets) (sets_of sooner v Idle)
-    (sooner_alike_first limits t u call reply more s (set_of lanes v Idle) after (set_of sooner v Idle) apart
+    (sooner_alike_first limits t u call other reply more s (set_of lanes v Idle) after (set_of sooner v Idle) does apart
     ((sets_of lanes v Idle).others t (λ e. not_t (sym e)) ∙ asks_t)
     ((sets_of lanes v Idle).others u (λ e. not_u (sym e)) ∙ asks_u)
     (sets_swapped lanes later (set_of lanes v Idle) after u v (Gets reply) Idle (λ e. not_u (sym e)) sets_u
@@ -481,10 +491,10 @@ sooner_alike_first limits t u call reply events s lanes later sooner apart asks_
     told : ((v ≡ t) × (r ≡ reply)) ⊎ ((v ≢ t) × Tells t reply more) → Tells t reply more
     told (inl here) = absurd (not_t here.0)
     told (inr left) = left.1
-sooner_alike_first limits t u call reply events s lanes later sooner apart asks_t asks_u sets_u sets_t tells first
+sooner_alike_first limits t u call other reply events s lanes later sooner does apart asks_t asks_u sets_u sets_t tells first
     (withdraws {events = more} {after = after} v c asks_v sets_v rest) = withdraws v c
     (sets_t.others v not_t ∙ sym (sets_u.others v not_u) ∙ asks_v) (sets_of sooner v Idle)
-    (sooner_alike_first limits t u call reply more s (set_of lanes v Idle) after (set_of sooner v Idle) apart
+    (sooner_alike_first limits t u call other reply more s (set_of lanes v Idle) after (set_of sooner v Idle) does apart
     ((sets_of lanes v Idle).others t (λ e. not_t (sym e)) ∙ asks_t)
     ((sets_of lanes v Idle).others u (λ e. not_u (sym e)) ∙ asks_u)
     (sets_swapped lanes later (set_of lanes v Idle) after u v (Gets reply) Idle (λ e. not_u (sym e)) sets_u

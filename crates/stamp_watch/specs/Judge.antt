@@ -1,5 +1,5 @@
 -- What a judge knows of a run that goes on.
-use Rattle.std.specs.Prelude.{ℕ, ◌≡◌, ◌+◌, ◌^◌, ◌<◌, ◌++◌, List, [], ◌∷◌, length, Option, Some, MatchOption}
+use Rattle.std.specs.Prelude.{ℕ, ◌≡◌, ◌+◌, ◌^◌, ◌<◌, ◌++◌, List, [], ◌∷◌, length, Option, Some, None, MatchOption}
 use Rattle.stamp_core.specs.Limits.{Bounds}
 use Rattle.stamp_watch.specs.declared.event.Event.{Event}
 use Rattle.stamp_watch.specs.declared.online.Judge.{Judge}
@@ -30,6 +30,10 @@ pub record IsJudgeOfSome (judge : Judge) : Type 0 where
   pub ahead : ℕ
   pub run : List Event
   pub judge_of : IsJudge limits most ahead run judge
+
+-- nothing was found yet
+abbrev pub HasFoundNothing : Judge → Type 0
+HasFoundNothing judge = judge.found ≡ None
 
 -- one more event can be numbered
 pub record HasRoomForOne (judge : Judge) : Type 0 where

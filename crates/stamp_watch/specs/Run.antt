@@ -33,6 +33,10 @@ pub record LockStep (limits : Bounds) (s : List LockEvent) (call : Call) (reply 
   pub replies : Replies (transition limits s call) reply
   pub appends : next ≡ s ++ appended_by (transition limits s call)
 
+-- two calls do the same after whatever events
+abbrev pub DoSame : Bounds → Call → Call → Type 0
+DoSame limits call other = (s : List LockEvent) → transition limits s call ≡ transition limits s other
+
 -- a configuration of lock and lanes
 pub record Configuration : Type 0 where
   pub state : List LockEvent

@@ -8,7 +8,7 @@ use Rattle.stamp_core.specs.declared.reply.Reply.{Reply}
 use Rattle.stamp_explain.specs.Explained.{IsExplained}
 use Rattle.stamp_watch.specs.declared.event.Event.{Event}
 use Rattle.stamp_watch.specs.declared.event.Event.TheVariants.{Begins, Returns, Withdraws}
-use Rattle.stamp_watch.specs.Run.{AreExplained, AreStuckAt, Configuration, opening, Lanes, LockStep, Sets, Survives}
+use Rattle.stamp_watch.specs.Run.{DoSame, AreExplained, AreStuckAt, Configuration, opening, Lanes, LockStep, Sets, Survives}
 use Rattle.stamp_watch.specs.Run.Phase.{Idle, Asks, Gets}
 use Rattle.stamp_watch.specs.Ahead.{Tells, IsWithdrawn, EndsNever, ReturnsSooner, Spares}
 use Rattle.stamp_watch.specs.Form.{is_busy_after, AreInForm}
@@ -94,13 +94,14 @@ UnchangingNeverNeeded =
     (lanes after : Lanes) → lanes lane ≡ Asks call → Sets lanes after lane (Gets reply) →
     EndsNever lane events → Survives limits events s after → Survives limits events s lanes
 
--- Of two open calls that are alike, with one call and one reply, nothing is lost if the one that returns sooner takes
--- effect instead of the other.
+-- Of two open calls that are alike, which do the same and have one reply, nothing is lost if the one that returns
+-- sooner takes effect instead of the other.
 abbrev pub SoonerAlikeFirst : Type 0
 SoonerAlikeFirst =
-    (limits : Bounds) (lane than : ℕ) (call : Call) (reply : Reply) (events : List Event) (s : List LockEvent)
-    (lanes later sooner : Lanes) → lane ≢ than → lanes lane ≡ Asks call → lanes than ≡ Asks call →
-    Sets lanes later than (Gets reply) → Sets lanes sooner lane (Gets reply) → Tells lane reply events →
+    (limits : Bounds) (lane than : ℕ) (call other : Call) (reply : Reply) (events : List Event) (s : List LockEvent)
+    (lanes later sooner : Lanes) → DoSame limits call other → lane ≢ than → lanes lane ≡ Asks call →
+    lanes than ≡ Asks other → Sets lanes later than (Gets reply) → Sets lanes sooner lane (Gets reply) →
+    Tells lane reply events →
     ReturnsSooner lane than events → Survives limits events s later → Survives limits events s sooner
 
 -- Of two open calls that are one call, and of which neither ends, nothing is lost if the one takes effect instead of

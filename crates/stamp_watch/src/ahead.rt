@@ -9,6 +9,7 @@ ghost use Rattle.stamp_watch.specs.inner.Judging.{IsEndBy};
 use crate::ending::Ending;
 use crate::event::Event;
 use crate::lanes::lock_reply;
+use crate::stream_event::StreamEvent;
 
 /// How the event with this number ends the call of the lane, if it does.
 fn end_by(event: &Event, lane: u64, number: u64) -> Option<Ending>
@@ -37,13 +38,13 @@ fn end_by(event: &Event, lane: u64, number: u64) -> Option<Ending>
 }
 
 /// How the open call of the lane ends among these events, the first of which has this number.
-pub(crate) fn end_ahead(events: &[Event], lane: u64, first: u64) -> Ending
+pub(crate) fn end_ahead(events: &[StreamEvent], lane: u64, first: u64) -> Ending
     requires lock { All IsOfLock events.now }
     requires room { first + length events.now < 2 ^ 64 }
     ensures { ends_as result ≡ ending_of lane first events.now }
 {
     for (k, event) in events.iter().enumerate() {
-        if let Some(end) = end_by(event, lane, first + k as u64) {
+        if let Some(end) = end_by(&event.as_event(), lane, first + k as u64) {
             return end;
         }
     }

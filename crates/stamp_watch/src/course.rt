@@ -10,6 +10,7 @@ use crate::ending::Ending;
 use crate::event::Event;
 use crate::judge::{Outcome, end_told, find_stuck, judge_rest, step};
 use crate::progress::Progress;
+use crate::stream_event::StreamEvent;
 use crate::verdict::{Verdict, Why};
 use crate::watch::Watch;
 use stamp_core::Limits;
@@ -30,7 +31,7 @@ pub(crate) struct Course {
     alloc: Global,
     pub(crate) base: Watch,
     pub(crate) first: u64,
-    pub(crate) events: Vec<Event>,
+    pub(crate) events: Vec<StreamEvent>,
     pub(crate) watch: Watch,
     pub(crate) seen: usize,
     /// So many events behind the first one that was not seen are known not to end its call.
@@ -54,13 +55,14 @@ pub(crate) enum Onward {
 }
 
 /// Whether it is known how the call ends that begins by this event. Other events are known.
-fn is_known(event: &Event, ends: Ending) -> bool
+fn is_known(event: &StreamEvent, ends: Ending) -> bool
     ensures known { IsTrue result → IsKnown event.now ends }
     ensures unknown { result ≡ false → IsUnknown event.now ends }
 {
-    match event {
+    match event.as_event() {
         Event::Begins(_, _) => !matches!(ends, Ending::Never),
-        _ => true,
+        Event::Returns(_, _) => true,
+        Event::Withdraws(_) => true,
     }
 }
 
@@ -97,7 +99,7 @@ impl Course {
     }
 
     /// One more event, which may come there.
-    pub(crate) fn add(&mut self, event: &Event) -> Result<(), AllocError>
+    pub(crate) fn add(&mut self, event: &StreamEvent) -> Result<(), AllocError>
         ensures course { OnOk result ((limits : Bounds) (run : List Event) → IsCourse limits run self.old
             → AreOfLock (run ++ event.now ∷ []) → IsCourse limits (run ++ event.now ∷ []) self.new) }
         ensures longer { OnOk result (IsOneLonger self.old self.new) }
@@ -107,7 +109,7 @@ impl Course {
     }
 
     /// How the call ends that begins by this event, at the front, as far as is known.
-    fn end_at_front(&self, event: &Event) -> Ending
+    fn end_at_front(&self, event: &StreamEvent) -> Ending
         requires on { IsOnCourse self.now }
         requires room { HasRoom self.now }
         requires front { IsFront self.now event.now }
@@ -119,7 +121,7 @@ impl Course {
     }
 
     /// Sees this event, at the front, whose call ends so.
-    fn see(&mut self, event: &Event, ends: Ending, most: u64) -> Result<Onward, AllocError>
+    fn see(&mut self, event: &StreamEvent, ends: Ending, most: u64) -> Result<Onward, AllocError>
         requires on { IsOnCourse self.old }
         requires room { HasRoom self.old }
         requires front { IsFront self.old event.now }

@@ -13,6 +13,7 @@ use crate::ending::Ending;
 use crate::event::Event;
 use crate::lanes::in_form;
 use crate::progress::Progress;
+use crate::stream_event::StreamEvent;
 use crate::verdict::{Verdict, Why};
 use crate::watch::Watch;
 use stamp_core::Limits;
@@ -31,21 +32,22 @@ pub(crate) enum Outcome {
 
 /// How the call that begins by this event ends among those ahead, the first of which has this number. Of another
 /// event it says nothing.
-pub(crate) fn end_told(event: &Event, ahead: &[Event], first: u64) -> Ending
+pub(crate) fn end_told(event: &StreamEvent, ahead: &[StreamEvent], first: u64) -> Ending
     requires lock { All IsOfLock ahead.now }
     requires room { first + length ahead.now < 2 ^ 64 }
     ensures { IsEndTold event.now first ahead.now result }
 {
-    match event {
-        Event::Begins(lane, _) => end_ahead(ahead, *lane, first),
-        _ => Ending::Never,
+    match event.as_event() {
+        Event::Begins(lane, _) => end_ahead(ahead, lane, first),
+        Event::Returns(_, _) => Ending::Never,
+        Event::Withdraws(_) => Ending::Never,
     }
 }
 
 /// One more event of a run. Of a call that begins the watch is told that it ends so.
 pub(crate) fn step(
     watch: &mut Watch,
-    event: &Event,
+    event: &StreamEvent,
     ends: Ending,
     most: u64,
 ) -> Result<Progress, AllocError>
@@ -55,10 +57,10 @@ pub(crate) fn step(
         → IsJudging limits n past (event.now ∷ ahead) watch.old
         → IsStep limits n past event.now ahead most watch.new progress) }
 {
-    match event {
-        Event::Begins(lane, call) => Ok(watch.begins(*lane, call, ends)),
-        Event::Returns(lane, reply) => watch.returns(*lane, reply, most),
-        Event::Withdraws(lane) => Ok(watch.withdraws(*lane)),
+    match event.as_event() {
+        Event::Begins(lane, call) => Ok(watch.begins(lane, &call, ends)),
+        Event::Returns(lane, reply) => watch.returns(lane, &reply, most),
+        Event::Withdraws(lane) => Ok(watch.withdraws(lane)),
     }
 }
 
@@ -66,7 +68,7 @@ pub(crate) fn step(
 pub(crate) fn judge_rest(
     start: Watch,
     first: u64,
-    events: &[Event],
+    events: &[StreamEvent],
     most: u64,
 ) -> Result<Outcome, AllocError>
     requires room { first + length events.now < 2 ^ 64 }
@@ -94,7 +96,7 @@ pub(crate) fn judge_rest(
 pub(crate) fn find_stuck(
     base: &Watch,
     first: u64,
-    events: &[Event],
+    events: &[StreamEvent],
     explained: usize,
     most: u64,
 ) -> Result<Verdict, AllocError>
@@ -134,8 +136,9 @@ pub fn judge_run(
 ) -> Result<Verdict, AllocError>
     ensures { IfOk result (IsVerdict limits events.now most None) }
 {
-    let many = in_form(events);
-    let taken = &events[..many];
+    let held = in_form(alloc, events)?;
+    let taken = held.as_slice();
+    let many = taken.len();
     let base = Watch::new(alloc, limits)?;
     let start = base.copied()?;
     let outcome = judge_rest(start, 0, taken, most)?;

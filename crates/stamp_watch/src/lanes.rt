@@ -1,12 +1,14 @@
 //! The lanes that have an open call, and which events may come then.
-ghost use Rattle.std.specs.Prelude.{◌≡◌, ◌↔◌, IsTrue, MatchOption, false};
+ghost use Rattle.std.specs.Prelude.{◌≡◌, ◌↔◌, IfOk, IsTrue, MatchOption, false};
 ghost use Rattle.stamp_core.specs.LockDecision.{reply_as};
 ghost use Rattle.stamp_watch.specs.Verdict.{is_lock_reply};
-ghost use Rattle.stamp_watch.specs.inner.Judging.{IsFreeLane, IsTakenLane, IsBusyThen, IsInFormUpTo};
+ghost use Rattle.stamp_watch.specs.inner.Judging.{IsFreeLane, IsTakenLane, AreTaken, IsBusyThen};
 
 use crate::event::Event;
 use crate::position::{has_lane, with_lane, without_lane};
+use crate::stream_event::StreamEvent;
 use stamp_core::{LockReply, Reply};
+use std::alloc::{AllocError, Global};
 
 /// The reply, if it is one of the lock.
 pub(crate) fn lock_reply(reply: &Reply) -> Option<LockReply>
@@ -44,7 +46,7 @@ fn is_taken(busy: u64, lane: u64) -> bool
 }
 
 /// The lanes with an open call after the event, if it is one of the lock that may come where these have one.
-pub(crate) fn busy_then(busy: u64, event: &Event) -> Option<u64>
+fn busy_then(busy: u64, event: &Event) -> Option<u64>
     ensures { IsBusyThen busy event.now result }
 {
     match event {
@@ -72,16 +74,28 @@ pub(crate) fn busy_then(busy: u64, event: &Event) -> Option<u64>
     }
 }
 
-/// How many of the events, from the first on, are in form.
-pub(crate) fn in_form(events: &[Event]) -> usize
-    ensures { IsInFormUpTo events.now result }
+/// So it is with an event in few bytes.
+pub(crate) fn busy_with(busy: u64, event: &StreamEvent) -> Option<u64>
+    ensures { IsBusyThen busy event.now result }
 {
+    busy_then(busy, &event.as_event())
+}
+
+/// The events, from the first on, that are in form.
+pub(crate) fn in_form(alloc: Global, events: &[Event]) -> Result<Vec<StreamEvent>, AllocError>
+    ensures { IfOk result (λ taken. AreTaken events.now taken.items) }
+{
+    let mut taken = Vec::new(alloc);
     let mut busy = 0;
-    for (k, event) in events.iter().enumerate() {
-        let Some(after) = busy_then(busy, event) else {
-            return k;
+    for event in events {
+        let Some(small) = StreamEvent::of(event) else {
+            return Ok(taken);
         };
+        let Some(after) = busy_with(busy, &small) else {
+            return Ok(taken);
+        };
+        taken.push(small)?;
         busy = after;
     }
-    events.len()
+    Ok(taken)
 }

@@ -51,15 +51,16 @@ fn expand_lane(
     let Some(begun) = open_in(table, lane) else {
         return Ok(());
     };
-    if has_lane(position.in_effect, lane)
-        || begun.gives_way(table, busy, position.in_effect, lane)
-    {
+    if has_lane(position.in_effect, lane) {
         return Ok(());
     }
-    match after_effect(limits, table, busy, lane, &begun, position) {
-        None => Ok(()),
-        Some(after) => add(next, after),
+    let Some(after) = after_effect(limits, table, busy, lane, &begun, position) else {
+        return Ok(());
+    };
+    if begun.gives_way(limits, table, busy, position.in_effect, lane) {
+        return Ok(());
     }
+    add(next, after)
 }
 
 /// Adds what follows the position by one call.

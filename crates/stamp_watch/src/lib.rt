@@ -5,6 +5,7 @@
 mod ahead;
 mod course;
 mod effect;
+mod ended_call;
 mod ending;
 mod event;
 mod judge;
@@ -15,14 +16,18 @@ mod online;
 mod open_call;
 mod position;
 mod progress;
+mod stream_event;
 mod verdict;
 mod watch;
 pub mod watch_laws;
 
+pub use ended_call::EndedCall;
 pub use ending::Ending;
 pub use event::Event;
 pub use judge::judge_run;
+pub use lock_call::LockCall;
 pub use online::Judge;
 pub use progress::Progress;
+pub use stream_event::StreamEvent;
 pub use verdict::{Verdict, Why};
 pub use watch::Watch;

@@ -1,16 +1,19 @@
 //! The calls of the lock, in few bytes.
-ghost use Rattle.std.specs.Prelude.{◌≡◌, IsTrue, MatchOption, false};
+ghost use Rattle.std.specs.Prelude.{◌≡◌, IsTrue, MatchOption, false, ⊤};
 ghost use Rattle.stamp_core.specs.Call.{is_lock_call};
+ghost use Rattle.stamp_core.specs.Layout.{units_of};
 ghost use Rattle.stamp_core.specs.LockDecision.{reply_as};
 ghost use Rattle.stamp_explain.specs.Unchanging.{changes_nothing};
 ghost use Rattle.stamp_watch.specs.LockCall.{call_as};
+ghost use Rattle.stamp_watch.specs.Run.{DoSame};
+ghost use Rattle.stamp_watch.specs.inner.Alike.{IsReadOf, ReleasesRead};
 ghost use Rattle.stamp_watch.specs.inner.Stamps.{is_this_stamp};
 
-use stamp_core::{Call, LockReply};
+use stamp_core::{Call, Layout, Limits, LockReply, StampKind, stamp_kind_in};
 
 /// A call of the lock: as `Call`, without those of the record.
-#[derive(Clone, Copy)]
-pub(crate) enum LockCall {
+#[derive(Clone, Copy, Debug, PartialEq, Eq)]
+pub enum LockCall {
     TryWrite,
     TryRead,
     WriteLock,
@@ -36,6 +39,16 @@ fn is_stamp(reply: LockReply, stamp: u64) -> bool
     match reply {
         LockReply::Stamp(number) => number == stamp,
         _ => false,
+    }
+}
+
+/// The version of the number, if it is a read stamp.
+fn read_version(layout: Layout, stamp: u64) -> Option<u64>
+    ensures { MatchOption result ⊤ (λ version. IsReadOf (units_of layout) version stamp) }
+{
+    match stamp_kind_in(layout, stamp) {
+        StampKind::Read(version, _) => Some(version),
+        _ => None,
     }
 }
 
@@ -68,7 +81,7 @@ pub(crate) fn lock_call(call: &Call) -> Option<LockCall>
 impl LockCall {
     /// The same call, among those of lock and record.
     #[inline(always)]
-    pub(crate) fn as_call(self) -> Call
+    pub fn as_call(self) -> Call
         ensures call { result ≡ call_as self }
         ensures lock_call { IsTrue (is_lock_call result) }
     {
@@ -120,6 +133,34 @@ impl LockCall {
             LockCall::IsWriteLocked => matches!(self, LockCall::IsWriteLocked),
             LockCall::IsReadLocked => matches!(self, LockCall::IsReadLocked),
             LockCall::ReadCount => matches!(self, LockCall::ReadCount),
+        }
+    }
+
+    /// The version of the read stamp by which the call releases read mode, if it does.
+    fn released_version(self, layout: Layout) -> Option<u64>
+        ensures { MatchOption result ⊤ (λ version. ReleasesRead (units_of layout) version (call_as self)) }
+    {
+        match self {
+            LockCall::UnlockRead(stamp) => read_version(layout, stamp),
+            LockCall::Unlock(stamp) => read_version(layout, stamp),
+            _ => None,
+        }
+    }
+
+    /// Whether both calls do the same: they are one call, or release read mode by stamps of one version.
+    pub(crate) fn does_same(self, limits: Limits, other: LockCall) -> bool
+        ensures { IsTrue result → DoSame limits (call_as self) (call_as other) }
+    {
+        if self.is_same(other) {
+            return true;
+        }
+        let layout = limits.layout();
+        let Some(version) = self.released_version(layout) else {
+            return false;
+        };
+        match other.released_version(layout) {
+            Some(others) => version == others,
+            None => false,
         }
     }
 

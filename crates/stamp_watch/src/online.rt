@@ -11,14 +11,16 @@
 ghost use Rattle.std.specs.Prelude.{◌≡◌, ◌+◌, ◌*◌, ◌≤◌, ◌↔◌, [], IfOk, None, Some, List, ℕ, false, length};
 ghost use Rattle.stamp_core.specs.Limits.{Bounds};
 ghost use Rattle.stamp_watch.specs.declared.event.Event.{Event};
-ghost use Rattle.stamp_watch.specs.Judge.{HasRoomForOne, IsFoundThen, IsGiven, IsJudge, IsJudgeOfSome};
+ghost use Rattle.stamp_watch.specs.EndedCall.{ended_from};
+ghost use Rattle.stamp_watch.specs.Judge.{HasFoundNothing, HasRoomForOne, IsFoundThen, IsGiven, IsJudge, IsJudgeOfSome};
 ghost use Rattle.stamp_watch.specs.Verdict.{IsVerdict};
 ghost use Rattle.stamp_watch.specs.inner.Course.{broken_off};
 ghost use Rattle.stamp_watch.specs.inner.Judging.{MayComeIn, SetsBusy};
 
 use crate::course::Course;
-use crate::event::Event;
-use crate::lanes::busy_then;
+use crate::ended_call::{EndedCall, ended_by};
+use crate::lanes::busy_with;
+use crate::stream_event::StreamEvent;
 use crate::verdict::Verdict;
 use stamp_core::Limits;
 use std::alloc::{AllocError, Global};
@@ -52,6 +54,7 @@ impl Judge {
     pub fn new(alloc: Global, limits: Limits, most: u64, ahead: usize) -> Result<Judge, AllocError>
         ensures judge { IfOk result (λ judge. IsJudge limits most ahead [] judge) }
         ensures known { IfOk result (λ judge. IsJudgeOfSome judge) }
+        ensures none { IfOk result HasFoundNothing }
     {
         let course = Course::new(alloc, limits)?;
         Ok(Judge {
@@ -64,7 +67,7 @@ impl Judge {
     }
 
     /// Takes an event that may come there, after which these lanes have an open call.
-    fn take(&mut self, event: &Event, busy: u64) -> Result<Option<Verdict>, AllocError>
+    fn take(&mut self, event: &StreamEvent, busy: u64) -> Result<Option<Verdict>, AllocError>
         requires some { IsJudgeOfSome self.old }
         requires room { HasRoomForOne self.old }
         requires none { self.old.found ≡ None }
@@ -73,6 +76,7 @@ impl Judge {
         ensures found { IfOk result (λ found. IsFoundThen event.now self.old found) }
         ensures given { IfOk result (λ _. IsGiven event.now self.old self.new) }
         ensures known { IfOk result (λ _. IsJudgeOfSome self.new) }
+        ensures told { IfOk result (λ found. self.new.found ≡ found) }
     {
         self.course.add(event)?;
         self.busy = busy;
@@ -82,13 +86,14 @@ impl Judge {
     }
 
     /// Ends with an event that may not come there.
-    fn break_off(&mut self, event: &Event) -> Result<Option<Verdict>, AllocError>
+    fn break_off(&mut self, event: &StreamEvent) -> Result<Option<Verdict>, AllocError>
         requires some { IsJudgeOfSome self.old }
         requires none { self.old.found ≡ None }
         requires not { ¬ MayComeIn self.old.busy event.now }
         ensures found { IfOk result (λ found. IsFoundThen event.now self.old found) }
         ensures given { IfOk result (λ _. IsGiven event.now self.old self.new) }
         ensures known { IfOk result (λ _. IsJudgeOfSome self.new) }
+        ensures told { IfOk result (λ found. self.new.found ≡ found) }
     {
         let rest = self.course.rest(self.most)?;
         let verdict = broken_off(rest, self.course.count());
@@ -97,27 +102,29 @@ impl Judge {
     }
 
     /// Looks at one more event.
-    fn look_at(&mut self, event: &Event) -> Result<Option<Verdict>, AllocError>
+    fn look_at(&mut self, event: &StreamEvent) -> Result<Option<Verdict>, AllocError>
         requires some { IsJudgeOfSome self.old }
         requires room { HasRoomForOne self.old }
         requires none { self.old.found ≡ None }
         ensures found { IfOk result (λ found. IsFoundThen event.now self.old found) }
         ensures given { IfOk result (λ _. IsGiven event.now self.old self.new) }
         ensures known { IfOk result (λ _. IsJudgeOfSome self.new) }
+        ensures told { IfOk result (λ found. self.new.found ≡ found) }
     {
-        match busy_then(self.busy, event) {
+        match busy_with(self.busy, event) {
             Some(busy) => self.take(event, busy),
             None => self.break_off(event),
         }
     }
 
     /// One more event: what is found of the run, whatever comes later, if anything is.
-    pub fn push(&mut self, event: &Event) -> Result<Option<Verdict>, AllocError>
+    pub fn push(&mut self, event: &StreamEvent) -> Result<Option<Verdict>, AllocError>
         requires some { IsJudgeOfSome self.old }
         requires room { HasRoomForOne self.old }
         ensures found { IfOk result (λ found. IsFoundThen event.now self.old found) }
         ensures given { IfOk result (λ _. IsGiven event.now self.old self.new) }
         ensures known { IfOk result (λ _. IsJudgeOfSome self.new) }
+        ensures told { IfOk result (λ found. self.new.found ≡ found) }
     {
         match self.found {
             Some(verdict) => Ok(Some(verdict)),
@@ -139,6 +146,26 @@ impl Judge {
         ensures { (result ≡ false) ↔ HasRoomForOne self.now }
     {
         u64::MAX - self.course.first <= self.course.events.len() as u64
+    }
+
+    /// How many events it was given, where nothing is found of them.
+    pub fn count(&self) -> u64
+        requires some { IsJudgeOfSome self.now }
+        requires none { HasFoundNothing self.now }
+        ensures { (limits : Bounds) (most ahead : ℕ) (run : List Event)
+            → IsJudge limits most ahead run self.now → result ≡ length run }
+    {
+        self.course.count()
+    }
+
+    /// The call that the event with this number ends, if its beginning is kept.
+    pub fn ended_at(&self, number: u64) -> Option<EndedCall>
+        ensures { result ≡ ended_from self.now.course.first self.now.course.events.items number }
+    {
+        let at = number.checked_sub(self.course.first)? as usize;
+        let events = self.course.events.as_slice();
+        let event = events.get(at)?;
+        ended_by(event, &events[..at])
     }
 
     /// What is found of the run if it ends here: a call that has not ended never ends.

@@ -6,6 +6,7 @@ ghost use Rattle.stamp_watch.specs.inner.Effect.{AreEndless, IsAhead, GivesWay, 
 use crate::ending::{Ending, is_same_reply};
 use crate::lock_call::LockCall;
 use crate::position::{first_lane, has_lane, without_lane};
+use stamp_core::Limits;
 use std::alloc::{AllocError, Global};
 
 /// A call that has begun and has not ended, and how it ends.
@@ -57,9 +58,9 @@ impl OpenCall {
         }
     }
 
-    /// Whether both are one call with one reply, and this one returns sooner.
-    fn is_ahead(&self, other: &OpenCall) -> bool
-        ensures { IsTrue result → IsAhead self.now other.now }
+    /// Whether both do the same and have one reply, and this one returns sooner.
+    fn is_ahead(&self, limits: Limits, other: &OpenCall) -> bool
+        ensures { IsTrue result → IsAhead limits self.now other.now }
     {
         let Ending::Returns(reply, place) = self.ends else {
             return false;
@@ -67,7 +68,13 @@ impl OpenCall {
         let Ending::Returns(answer, later) = other.ends else {
             return false;
         };
-        place < later && is_same_reply(reply, answer) && self.asks.is_same(other.asks)
+        if place >= later {
+            return false;
+        }
+        if !is_same_reply(reply, answer) {
+            return false;
+        }
+        self.asks.does_same(limits, other.asks)
     }
 
     /// Whether both are one call, and neither ends.
@@ -83,20 +90,21 @@ impl OpenCall {
     /// neither ends and its lane is lower.
     pub(crate) fn gives_way(
         &self,
+        limits: Limits,
         table: &[Option<OpenCall>],
         busy: u64,
         in_effect: u64,
         lane: u64,
     ) -> bool
         requires { open_at table.now lane ≡ Some self.now }
-        ensures { IsTrue result → GivesWay table.now in_effect lane }
+        ensures { IsTrue result → GivesWay limits table.now in_effect lane }
     {
         let mut rest = busy;
         while rest != 0 {
             let other = first_lane(rest);
             if !has_lane(in_effect, other) {
                 if let Some(first) = open_in(table, other) {
-                    if first.is_ahead(self) || (other < lane && first.is_endless_as(self)) {
+                    if first.is_ahead(limits, self) || (other < lane && first.is_endless_as(self)) {
                         return true;
                     }
                 }

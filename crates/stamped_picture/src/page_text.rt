@@ -14,16 +14,16 @@ pub(crate) const PAGE_HEAD: &str = r#"<!DOCTYPE html>
 <title>stamped_picture</title>
 <style>
 :root{color-scheme:light dark;--ground:#fff;--ink:#1a1a1a;--faint:#666;--line:#ddd;--lane:#f6f6f6;
---call:#0072b2;--on-call:#fff;--fault:#d55e00;--on-fault:#fff;--assumed:#009e73;--on-assumed:#fff;
+--call:#0072b2;--on-call:#fff;--fault:#bf5000;--on-fault:#fff;--assumed:#007f5f;--on-assumed:#fff;
 --unseen:#b8c4cc;--on-unseen:#1a1a1a;--point:#f0e442;--rim:#1a1a1a;--focus:#cc79a7;--shade:rgba(90,90,90,.13)}
 @media (prefers-color-scheme:dark){:root{--ground:#14171a;--ink:#eee;--faint:#a5adb3;--line:#3a4046;--lane:#1b1f23;
---call:#2f8fcf;--on-call:#fff;--fault:#f07b28;--on-fault:#14171a;--assumed:#1fb58a;--on-assumed:#14171a;
+--call:#1f74b3;--on-call:#fff;--fault:#f07b28;--on-fault:#14171a;--assumed:#1fb58a;--on-assumed:#14171a;
 --unseen:#4a5359;--on-unseen:#eee;--point:#f0e442;--rim:#14171a;--focus:#e79ac4;--shade:rgba(200,200,200,.13)}}
 *{box-sizing:border-box}
 html,body{height:100%;margin:0}
 body{display:flex;flex-direction:column;background:var(--ground);color:var(--ink);font:14px/1.35 system-ui,sans-serif}
 header{padding:8px 12px 6px;border-bottom:1px solid var(--line)}
-h1{font-size:15px;margin:0 0 6px;overflow-wrap:anywhere}
+h1{font-size:15px;margin:0 0 6px;max-height:5.4em;overflow:auto;overflow-wrap:anywhere}
 h1.bad{border-left:6px solid var(--fault);padding-left:8px}
 .row{display:flex;flex-wrap:wrap;gap:6px 14px;align-items:center;font-size:12px;color:var(--faint)}
 .key{display:inline-block;width:22px;height:12px;margin-right:5px;vertical-align:-1px;border-radius:2px}
@@ -37,7 +37,7 @@ h1.bad{border-left:6px solid var(--fault);padding-left:8px}
 button,input{font:12px system-ui,sans-serif;color:var(--ink);background:var(--lane);border:1px solid var(--line);
 border-radius:4px;padding:2px 8px}
 input{width:84px}
-button:focus-visible,input:focus-visible,canvas:focus-visible{outline:2px solid var(--focus);outline-offset:-2px}
+button:focus-visible,input:focus-visible,summary:focus-visible,canvas:focus-visible{outline:2px solid var(--focus);outline-offset:-2px}
 main{flex:1;min-height:0;position:relative}
 canvas{position:absolute;inset:0;width:100%;height:100%;touch-action:none;cursor:grab}
 canvas.held{cursor:grabbing}
@@ -56,8 +56,10 @@ font:12px/1.4 ui-monospace,monospace;white-space:pre-wrap;overflow-wrap:anywhere
 <button id="fit">all (0)</button><button id="fault">fault (F)</button>
 <button id="out" aria-label="zoom out">&minus;</button><button id="in" aria-label="zoom in">+</button>
 <label>entry <input id="entry" inputmode="numeric" aria-label="go to entry"></label>
-<span>drag or Shift+wheel: move; wheel: zoom; arrows: next call in lane, or in the lane above or below;
-N, P: next, previous to take effect</span>
+<details><summary>mouse and keys</summary>Drag: move. Wheel: zoom; with Shift: along the positions; with Alt: over the lanes.
+Click: a call's text, below. Left, Right: next call of the lane; Up, Down: of the lane above or below.
+N, P: next or previous call to take effect. Enter: to the call. Home, End: first or last entry.
+Page Up, Page Down: over the lanes. Plus, Minus: zoom. Escape: no call.</details>
 </div>
 </header>
 <main><canvas id="view" tabindex="0" role="application" aria-label="calls, a lane for each thread"
@@ -177,6 +179,9 @@ function whyText(c) {
   const lock = !['get', 'put', 'put_if'].includes(c.e.call[0]);
   return 'the ' + (lock ? 'lock' : 'record') + ' would have answered otherwise (' + due + ')';
 }
+// What the entry is at which a history isn't explained, or breaks a rule.
+const faultName = data.undecided !== undefined ? 'undecided from this return on'
+  : data.unexplained !== undefined ? 'no order from this return on, or a later one' : 'the fault';
 function faultText(c) {
   if (stuck !== null) return 'no order explains this return; ' + possibleText();
   if (data.unexplained !== undefined) return 'no order explains the history, from this return or a later one on';
@@ -207,7 +212,7 @@ const verdict = fault === null ? count + (observed ? ', explained' : ', in order
 $('verdict').textContent = verdict;
 $('verdict').className = fault === null ? '' : 'bad';
 document.title = verdict;
-const legend = [['call', 'call'], ['fault', 'the fault'],
+const legend = [['call', 'call'], ['fault', faultName],
   ['assumed', 'under way, assumed to have taken effect'], ['idle', 'under way, no effect'],
   ['unseen', observed ? 'began later: not looked at' : 'behind the fault: not judged']]
   .filter(([kind]) => calls.some(c => c.kind === kind));
@@ -219,6 +224,7 @@ for (const [kind, words] of legend) {
   item.append(words);
 }
 $('fault').hidden = fault === null;
+$('fault').textContent = (faultName === 'the fault' ? 'fault' : 'entry ' + fault) + ' (F)';
 
 // The view: so many pixels a position, the position at the left side, how far the lanes are scrolled.
 const canvas = $('view'), pen = canvas.getContext('2d'), tip = $('tip');
@@ -228,31 +234,36 @@ let picked = null, under = null, colours = {}, frames = [];
 
 const rowCount = lanes.reduce((sum, lane) => sum + lane.rows.length, 0);
 function place() {
-  view.row = Math.max(20, Math.min(40, (view.height - AXIS - 8) / Math.max(1, rowCount) - 6));
+  view.row = Math.max(15, Math.min(40, (view.height - AXIS - 8) / Math.max(1, rowCount) - 6));
+  const gap = view.row < 20 ? 3 : 6;
   let top = AXIS + 4;
   for (const lane of lanes) {
     lane.top = top;
-    lane.bottom = top + lane.rows.length * view.row + 6;
+    lane.bottom = top + lane.rows.length * view.row + gap;
     top = lane.bottom;
   }
   view.floor = top;
 }
 const x = position => GUTTER + (position - view.left) * view.scale;
 const positionAt = px => view.left + (px - GUTTER) / view.scale;
-const most = () => 160;
-const least = () => (view.width - GUTTER) / (end * 1.1 + 1);
+// At the greatest scale numbers still tell two positions beside each other apart. At the least one, all calls
+// take half of the width, so that any can stand in the middle.
+const most = () => Math.min(160, 2 ** 53 / end);
+const whole = () => (view.width - GUTTER) / (end * 1.1 + 1);
+const least = () => whole() / 2;
+const mostDown = () => view.floor > view.height ? view.floor + 8 - view.height : 0;
 function settle() {
   view.scale = Math.min(most(), Math.max(least(), view.scale));
   const across = (view.width - GUTTER) / view.scale;
   view.left = Math.min(end - across / 4, Math.max(-across * 0.75, view.left));
-  view.down = Math.max(0, Math.min(view.floor - view.height + 8, view.down));
+  view.down = Math.max(0, Math.min(mostDown(), view.down));
 }
 let due = 0;
 function draw() {
   if (!due) due = requestAnimationFrame(() => { due = 0; paint(); });
 }
 function fit() {
-  view.scale = least();
+  view.scale = whole();
   view.left = -end * 0.02;
   view.down = 0;
   settle();
@@ -269,7 +280,7 @@ function centre(c, scale) {
 }
 // A scale at which a call and the calls around it are to be read.
 function scaleAround(c) {
-  const near = inNear(c, 24);
+  const near = inNear(c, 12);
   return (view.width - GUTTER) * 0.8 / (2 * near + c.to - c.from + 1);
 }
 function inNear(c, wanted) {
@@ -481,6 +492,16 @@ function paintPicked() {
   pen.lineWidth = 3;
   pen.strokeRect(b.left - 1.5, b.top - 1.5, b.width + 3, b.height + 3);
   pen.lineWidth = 1;
+  paintPoint(c);
+}
+// Which part of the lanes is in view, where not all are.
+function paintPart() {
+  if (!mostDown()) return;
+  const room = view.height - AXIS, share = room / (room + mostDown());
+  pen.fillStyle = colours.line;
+  pen.fillRect(view.width - 8, AXIS, 8, room);
+  pen.fillStyle = colours.faint;
+  pen.fillRect(view.width - 7, AXIS + view.down * share, 6, room * share);
 }
 function paint() {
   const begun = performance.now();
@@ -506,6 +527,7 @@ function paint() {
   paintPicked();
   paintNames();
   paintAxis();
+  paintPart();
   frames.push(performance.now() - begun);
   if (frames.length > 600) frames.shift();
 }
@@ -608,6 +630,9 @@ function inOtherLane(c, by) {
 function nextInOrder(c, by) {
   return c.rank === undefined ? inOrder[0] : inOrder[c.rank + by];
 }
+// Where no call is picked yet, a key that goes from one to another picks this one.
+const start = () => calls[fault === null ? 0 : fault];
+const goes = new Set(['ArrowRight', 'ArrowLeft', 'ArrowDown', 'ArrowUp', 'n', 'p', 'Enter']);
 const keys = {
   ArrowRight: c => pick(nextInLane(c, 1)),
   ArrowLeft: c => pick(nextInLane(c, -1)),
@@ -629,10 +654,10 @@ const keys = {
 };
 document.addEventListener('keydown', event => {
   const key = event.key.length === 1 ? event.key.toLowerCase() : event.key, on = event.target.tagName;
-  if (on === 'INPUT' || (on === 'BUTTON' && key === 'Enter')) return;
+  if (on === 'INPUT' || (['BUTTON', 'SUMMARY'].includes(on) && key === 'Enter')) return;
   if (event.ctrlKey || event.metaKey || event.altKey || !keys[key] || !calls.length) return;
   event.preventDefault();
-  keys[key](picked || calls[fault === null ? 0 : fault]);
+  if (picked === null && goes.has(key)) pick(start()); else keys[key](picked);
 });
 function toFault() {
   if (fault === null) return;

@@ -16,7 +16,7 @@ use Rattle.stamp_watch.specs.declared.ending.Ending.TheVariants.{Returns, Never}
 use Rattle.stamp_watch.specs.declared.open_call.OpenCall.{OpenCall}
 use Rattle.stamp_watch.specs.declared.position.Position.{Position}
 use Rattle.stamp_watch.specs.LockCall.{call_as}
-use Rattle.stamp_watch.specs.Run.{Configuration, Lanes, LockStep, Sets, Survives}
+use Rattle.stamp_watch.specs.Run.{Configuration, DoSame, Lanes, LockStep, Sets, Survives}
 use Rattle.stamp_watch.specs.Run.Phase.{Asks, Gets}
 use Rattle.stamp_watch.specs.Foretold.{open_at, MayGet, ComesAsTold}
 use Rattle.stamp_watch.specs.Watch.{StandsFor, IsPossible, MayGoOn}
@@ -88,8 +88,8 @@ pub record IsAfterEffect (limits : Bounds) (table : List (Option OpenCall)) (p :
   pub whole : (last : ℕ) (events : List Event) → ComesAsTold table last events →
       EffectGoesOn limits table events p lane → MatchOption found ⊥ (λ q. MayGoOn limits table events q)
 
--- two calls are alike, with one call and one reply, and the first returns sooner
-pub record IsAhead (first other : OpenCall) : Type 0 where
+-- two calls are alike, which do the same and have one reply, and the first returns sooner
+pub record IsAhead (limits : Bounds) (first other : OpenCall) : Type 0 where
   pub reply : LockReply
   pub answer : LockReply
   pub place : ℕ
@@ -98,7 +98,7 @@ pub record IsAhead (first other : OpenCall) : Type 0 where
   pub other_is : other.ends ≡ Returns answer later
   pub sooner : place < later
   pub same : reply_as reply ≡ reply_as answer
-  pub call : first.asks ≡ other.asks
+  pub does : DoSame limits (call_as first.asks) (call_as other.asks)
 
 -- two calls are one call, and neither ends
 pub record AreEndless (first other : OpenCall) : Type 0 where
@@ -107,15 +107,15 @@ pub record AreEndless (first other : OpenCall) : Type 0 where
   pub call : first.asks ≡ other.asks
 
 -- the call of the first lane goes before the other: it is ahead; or neither ends, and its lane is lower
-abbrev pub GoesBefore : ℕ → ℕ → OpenCall → OpenCall → Type 0
-GoesBefore first_lane lane first other = IsAhead first other ⊎ (AreEndless first other × (first_lane < lane))
+abbrev pub GoesBefore : Bounds → ℕ → ℕ → OpenCall → OpenCall → Type 0
+GoesBefore limits first_lane lane first other = IsAhead limits first other ⊎ (AreEndless first other × (first_lane < lane))
 
 -- a call that goes before that of this lane is not in effect
-pub record GivesWay (table : List (Option OpenCall)) (in_effect lane : ℕ) : Type 0 where
+pub record GivesWay (limits : Bounds) (table : List (Option OpenCall)) (in_effect lane : ℕ) : Type 0 where
   pub begun : OpenCall
   pub is_open : open_at table lane ≡ Some begun
   pub first_lane : ℕ
   pub first : OpenCall
   pub is_first : open_at table first_lane ≡ Some first
   pub free : bit_at in_effect first_lane ≡ 0
-  pub goes : GoesBefore first_lane lane first begun
+  pub goes : GoesBefore limits first_lane lane first begun

@@ -48,6 +48,11 @@ pub record IsInFormUpTo (events : List Event) (k : ℕ) : Type 0 where
   pub whole : AreOfLock (take k events)
   pub broken : NoMoreAreOfLock events k
 
+-- these are all events, from the first on, that are in form
+pub record AreTaken (events taken : List Event) : Type 0 where
+  pub form : IsInFormUpTo events (length taken)
+  pub same : taken ≡ take (length taken) events
+
 -- the event with this number ends the call of the lane so; or it does not, and what comes then tells
 abbrev pub IsEndBy : Event → ℕ → ℕ → Option Ending → Type 0
 IsEndBy e lane n (Some ends) = (events : List Event) → ending_of lane n (e ∷ events) ≡ ends_as ends

@@ -34,7 +34,7 @@ pub record IsTried (limits : Bounds) (table : List (Option OpenCall)) (p : Posit
     (next : List Position) : Type 0 where
   pub tried : (last : ℕ) (events : List Event) → ComesAsTold table last events →
       EffectGoesOn limits table events p lane →
-      OneGoesOn limits table events next ⊎ GivesWay table p.in_effect lane
+      OneGoesOn limits table events next ⊎ GivesWay limits table p.in_effect lane
 
 -- what follows a position is added: by the call of each of the lanes below this one, and by no other
 pub record Expands (limits : Bounds) (table : List (Option OpenCall)) (p : Position) (Lane : ℕ → Type 0)

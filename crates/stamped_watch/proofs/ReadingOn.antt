@@ -1,0 +1,99 @@
+-- One read more of a stream.
+use Rattle.std.proofs.Common.{ℕ, ◌≡◌, ◌↔◌, ◌-◌, true, false, List, [], ◌∷◌, ◌++◌, length, Option, Result, Ok}
+use Rattle.std.proofs.Common.{Err, refl, sym, ◌∙◌, ap, subst, arith, inl, inr, append-nil, append_assoc, IsErrAnd}
+use Rattle.std.specs.Prelude.{drop, is_err, take}
+use Rattle.std.specs.Io.KnownBytes.{Consumes, IsAtEnd}
+use Rattle.std.specs.declared.io.Error.{Error}
+use Rattle.std.proofs.KnownBytes.{Consumes-nil, Consumes-trans}
+use Rattle.std.proofs.lemmas.Bool.{false≢true}
+use Rattle.std.proofs.lemmas.List.{length-append}
+use Rattle.std.proofs.Math.Seq.{drop-append_seam, take-append_seam}
+use Rattle.stamp_cli.specs.Results.{EachTakes, Makes, Results, bytes_of, taken_since}
+use Rattle.stamp_cli.specs.declared.faults.ServeFault.{ServeFault}
+use Rattle.stamp_cli.specs.declared.faults.ServeFault.TheVariants.{Memory, ReadFault}
+use Rattle.stamp_cli.proofs.MadeSoFar.{all_taken, fails_of_none, last_tells, none_passes, taken_with_last}
+use Rattle.stamped_watch.specs.declared.finding.Finding.{Finding}
+use Rattle.stamped_watch.specs.declared.orders.Watching.{Watching}
+use Rattle.stamped_watch.specs.Finding.{IsFindingOf, IsFoundOf}
+use Rattle.stamped_watch.specs.Served.{HasReadOn, IsFoundOfSource}
+
+module _ (left mid left' : Option (List ℕ)) (old before new : Results) (bytes more : List ℕ) (one : Result ℕ Error)
+    (so_far : Makes old before (length bytes)) (took : Consumes left mid bytes) (added : new ≡ before ++ one ∷ [])
+    (takes : Consumes mid left' more) (many : length more ≡ bytes_of one) where
+  pub all_took : Consumes left left' (bytes ++ more)
+  all_took = Consumes-trans left mid left' bytes more took takes
+
+  pub all_counted : length (bytes ++ more) ≡ taken_since old new
+  all_counted = let long = length-append bytes more in
+      let taken = taken_with_last old before new (length bytes) one so_far added in omega (arith, long, taken, many)
+
+  -- however it goes on
+  pub has_read_on : {A E : Type 0} (fault : E) (result : Result A E) →
+      ((result ≡ Err fault) ↔ (is_err one ≡ true)) → HasReadOn fault left left' old new result
+  has_read_on fault result fails = record {
+    made = so_far.made ++ one ∷ [];
+    added = added ∙ ap (λ (rs : Results). rs ++ one ∷ []) so_far.added ∙ append_assoc old so_far.made (one ∷ []);
+    to_end = subst EachTakes (sym front) so_far.each;
+    bytes = bytes ++ more;
+    took = all_took;
+    count = all_counted;
+    failed = rw (last_tells is_err old before new (length bytes) one fails_of_none so_far added) fails;
+  }
+    where
+      low : length (so_far.made ++ one ∷ []) - 1 ≡ length so_far.made
+      low = let long = length-append so_far.made (one ∷ []) in omega (arith, long)
+
+      front : take (length (so_far.made ++ one ∷ []) - 1) (so_far.made ++ one ∷ []) ≡ so_far.made
+      front = ap (λ (n : ℕ). take n (so_far.made ++ one ∷ [])) low ∙ take-append_seam so_far.made (one ∷ [])
+
+  -- something is found of all bytes
+  pub found_of_all : (asked : Watching) (finding : Finding) → IsFoundOf asked.most asked.ahead (bytes ++ more) finding →
+      IsFoundOfSource asked left left' old new finding
+  found_of_all asked finding found = record {
+    bytes = bytes ++ more;
+    took = all_took;
+    count = all_counted;
+    found = inl found;
+  }
+
+  -- or at the end
+  pub found_at_end : (asked : Watching) (finding : Finding) → one ≡ Ok 0 → IsAtEnd left' →
+      IsFindingOf asked.most asked.ahead (bytes ++ more) finding → IsFoundOfSource asked left left' old new finding
+  found_at_end asked finding none at_end found = record {
+    bytes = bytes ++ more;
+    took = all_took;
+    count = all_counted;
+    found = inr (record { last = (so_far.made, last); at_end = at_end; found = found });
+  }
+    where
+      last : drop (length old) new ≡ so_far.made ++ Ok 0 ∷ []
+      last = rw (added, so_far.added, append_assoc, drop-append_seam)
+          (ap (λ (r : Result ℕ Error). so_far.made ++ r ∷ []) none)
+
+-- memory is not the fault of reading
+pub not_of_reading : {A : Type 0} (result : Result A ServeFault) → IsErrAnd result (λ e. e ≡ Memory) →
+    (result ≡ Err ReadFault) ↔ (false ≡ true)
+not_of_reading (Ok x) is = absurd is
+not_of_reading (Err e) is = ((λ same. absurd (cc)), (λ no_one. absurd (false≢true no_one)))
+
+-- nothing is read
+pub makes_none : (old : Results) → Makes old old 0
+makes_none old = record {
+  made = [];
+  added = sym (append-nil old);
+  few = omega arith;
+  took = refl;
+  each = λ k d below. absurd (omega (arith, below));
+}
+
+pub reads_none : {A : Type 0} (left : Option (List ℕ)) (old : Results) (result : Result A ServeFault) →
+    IsErrAnd result (λ e. e ≡ Memory) → HasReadOn ReadFault left left old old result
+reads_none left old result is = record {
+  made = [];
+  added = sym (append-nil old);
+  to_end = λ k d below. absurd (omega (arith, below));
+  bytes = [];
+  took = Consumes-nil left;
+  count = sym (all_taken old old 0 (makes_none old));
+  failed = rw (none_passes is_err old old 0 fails_of_none (makes_none old)) (not_of_reading result is);
+}

@@ -1,0 +1,27 @@
+use Rattle.std.proofs.Common.{Some, ap, ◌∙◌}
+use Rattle.stamped_watch.proofs.Ending.{judge_whole}
+use Rattle.stamped_watch.proofs.Found.{so_found}
+use Rattle.stamped_watch.proofs.Misplacing.{found_then, misplaced_at, of_form}
+use Rattle.stamped_watch.proofs.stream_judge.given.Goals as goal
+
+pub finding_of-requires : goal.finding_of-requires
+finding_of-requires c =
+    let some = c.requires.some in
+    let holds = found_then some.limits some.most some.ahead some.run c.args.event.now c.args.judge.now
+    c.in_ok-push.field-0 c.in-Some.verdict c.in_ok-push.ensures.found c.in-Some.is some.judge_of in
+    of_form some.limits _ some.most (Some some.ahead) c.in-Some.verdict holds c.in_default.not-Broken
+
+pub returns-in-Broken : goal.returns-in-Broken
+returns-in-Broken c limits most ahead run is =
+    let whole = judge_whole limits most ahead run c.args.judge.now is c.requires.none in
+    let same = c.in-Some.is ∙ ap Some c.in-Broken.is in
+    let holds = found_then limits most ahead run c.args.event.now c.args.judge.now c.in_ok-push.field-0 _
+    c.in_ok-push.ensures.found same is in
+    misplaced_at limits run most (Some ahead) c.args.event.now c.in-Broken.number whole holds c.why_misplaced.result
+    c.requires.kind c.why_misplaced.ensures
+
+pub returns-in_default : goal.returns-in_default
+returns-in_default c limits most ahead run is =
+    let holds = found_then limits most ahead run c.args.event.now c.args.judge.now c.in_ok-push.field-0
+    c.in-Some.verdict c.in_ok-push.ensures.found c.in-Some.is is in
+    so_found limits most ahead run c.args.event.now c.finding_of.result c.in-Some.verdict c.finding_of.ensures holds

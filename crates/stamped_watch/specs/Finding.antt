@@ -1,0 +1,146 @@
+-- What is found of a stream.
+use Rattle.std.specs.Prelude.{ℕ, ◌≡◌, ◌≢◌, ◌-◌, ◌^◌, ◌<◌, ◌≤◌, ◌⊎◌, ◌++◌, Bool, true, false, List, [], length, take}
+use Rattle.std.specs.Prelude.{Option, Some, None}
+use Rattle.std.specs.List.{count_by}
+use Rattle.stamp_core.specs.Limits.{Bounds}
+use Rattle.stamp_watch.specs.declared.event.Event.{Event}
+use Rattle.stamp_watch.specs.declared.event.Event.TheVariants.{Begins, Withdraws}
+use Rattle.stamp_watch.specs.declared.verdict.Verdict.{Verdict}
+use Rattle.stamp_watch.specs.declared.verdict.Verdict.TheVariants.{Stuck, StuckWithin, Undecided}
+use Rattle.stamp_watch.specs.declared.verdict.Verdict.TheVariants as verdict
+use Rattle.stamp_watch.specs.Form.{is_busy_after}
+use Rattle.stamp_watch.specs.Judging.{IsFound}
+use Rattle.stamp_watch.specs.Run.{AreExplained}
+use Rattle.stamp_watch.specs.Verdict.{AreOfLock, IsVerdict}
+use Rattle.stamped_watch.specs.declared.event_bytes.BadEvent.{BadEvent}
+use Rattle.stamped_watch.specs.declared.finding.Finding.{Finding}
+use Rattle.stamped_watch.specs.declared.finding.Finding.TheVariants as found
+use Rattle.stamped_watch.specs.declared.misplaced.Misplaced.{Misplaced}
+use Rattle.stamped_watch.specs.declared.misplaced.Misplaced.TheVariants.{Lane, Open, Idle}
+use Rattle.stamped_watch.specs.EventBytes.{HasBytes, IsNoEvent, lane_of}
+use Rattle.stamped_watch.specs.Header.{IsNoHeader}
+use Rattle.stamped_watch.specs.Stream.{BeginsNoEvent, IsStream}
+
+abbrev pub is_beginning : Event → Bool
+is_beginning (Begins lane call) = true
+is_beginning _ = false
+
+abbrev pub is_withdrawal : Event → Bool
+is_withdrawal (Withdraws lane) = true
+is_withdrawal _ = false
+
+-- how many calls began and were not withdrawn
+abbrev pub calls_in : List Event → ℕ
+calls_in events = count_by is_beginning events - count_by is_withdrawal events
+
+-- the events end here, since no other begins the rest, and this is the verdict on the run that ends with them
+pub record IsJudgedAtEnd (limits : Bounds) (events : List Event) (most ahead : ℕ) (rest : List ℕ) (verdict : Verdict) :
+    Type 0 where
+  pub ends : BeginsNoEvent rest
+  pub verdict_is : IsVerdict limits events most (Some ahead) verdict
+
+-- this is the verdict on the first events, whatever comes behind them, or on all events
+pub record IsJudged (most ahead : ℕ) (bytes : List ℕ) (verdict : Verdict) : Type 0 where
+  pub limits : Bounds
+  pub events : List Event
+  pub rest : List ℕ
+  pub stream : IsStream bytes limits events rest
+  pub judged : IsFound limits events most (Some ahead) verdict ⊎ IsJudgedAtEnd limits events most ahead rest verdict
+
+-- the first events are explained, and these bytes come behind
+pub record AreExplainedBefore (bytes : List ℕ) (events : List Event) (rest : List ℕ) : Type 0 where
+  pub limits : Bounds
+  pub stream : IsStream bytes limits events rest
+  pub whole : AreOfLock events
+  pub explained : AreExplained limits events
+
+-- all bytes are a header and events that are explained, with so many calls
+pub record IsExplained (bytes : List ℕ) (calls : ℕ) : Type 0 where
+  pub events : List Event
+  pub all : AreExplainedBefore bytes events []
+  pub count : calls ≡ calls_in events
+
+-- so many events are explained, and what comes behind them is bad
+pub record IsBadAt (bytes : List ℕ) (k : ℕ) (IsBad : List Event → List ℕ → Type 0) : Type 0 where
+  pub events : List Event
+  pub rest : List ℕ
+  pub before : AreExplainedBefore bytes events rest
+  pub place : k ≡ length events
+  pub bad : IsBad events rest
+
+-- behind this run the event may not come: its lane is none of 64; it begins a call where one is open; it ends one
+-- where none is
+abbrev pub IsMisplaced : List Event → Event → Misplaced → Type 0
+IsMisplaced run e Lane = 64 ≤ lane_of e
+IsMisplaced run e Open = (lane_of e < 64) × (is_beginning e ≡ true) × (is_busy_after run (lane_of e) ≡ true)
+IsMisplaced run e Idle = (lane_of e < 64) × (is_beginning e ≡ false) × (is_busy_after run (lane_of e) ≡ false)
+
+-- the cause for which the event may not come, where it may not
+abbrev pub IsMisplacedSo : Event → Misplaced → Type 0
+IsMisplacedSo e Lane = 64 ≤ lane_of e
+IsMisplacedSo e Open = (lane_of e ≤ 63) × (is_beginning e ≡ true)
+IsMisplacedSo e Idle = (lane_of e ≤ 63) × (is_beginning e ≡ false)
+
+-- the next 16 bytes are those of an event that may not come there, or of none; or fewer come
+pub record BringsMisplaced (why : Misplaced) (run : List Event) (rest : List ℕ) : Type 0 where
+  pub event : Event
+  pub has : HasBytes event (take 16 rest)
+  pub misplaced : IsMisplaced run event why
+
+abbrev pub BringsNoEvent : BadEvent → List Event → List ℕ → Type 0
+BringsNoEvent why run rest = (16 ≤ length rest) × IsNoEvent why (take 16 rest)
+
+abbrev pub IsCut : List Event → List ℕ → Type 0
+IsCut run rest = (rest ≢ []) × (length rest < 16)
+
+-- there are more events than can be numbered
+pub record AreTooMany (bytes : List ℕ) : Type 0 where
+  pub limits : Bounds
+  pub events : List Event
+  pub rest : List ℕ
+  pub stream : IsStream bytes limits events rest
+  pub many : 2 ^ 64 ≤ length events
+
+-- what is found of a stream of these bytes
+abbrev pub IsFindingOf : ℕ → ℕ → List ℕ → Finding → Type 0
+IsFindingOf most ahead bytes (found.Explained calls) = IsExplained bytes calls
+IsFindingOf most ahead bytes (found.Stuck k) = IsJudged most ahead bytes (Stuck k)
+IsFindingOf most ahead bytes (found.StuckWithin k m) = IsJudged most ahead bytes (StuckWithin k m)
+IsFindingOf most ahead bytes (found.Undecided k why) = IsJudged most ahead bytes (Undecided k why)
+IsFindingOf most ahead bytes (found.Misplaced k why) = IsBadAt bytes k (BringsMisplaced why)
+IsFindingOf most ahead bytes (found.BadEvent k why) = IsBadAt bytes k (BringsNoEvent why)
+IsFindingOf most ahead bytes (found.Cut k) = IsBadAt bytes k IsCut
+IsFindingOf most ahead bytes (found.BadHeader why) = (16 ≤ length bytes) × IsNoHeader why (take 16 bytes)
+IsFindingOf most ahead bytes found.NoHeader = length bytes < 16
+IsFindingOf most ahead bytes found.Full = AreTooMany bytes
+
+-- this is found of a stream that begins with these bytes, whatever comes later
+abbrev pub IsFoundOf : ℕ → ℕ → List ℕ → Finding → Type 0
+IsFoundOf most ahead bytes finding = (more : List ℕ) → IsFindingOf most ahead (bytes ++ more) finding
+
+-- as far as it came the stream is a header and events in form, and a rest of fewer than 16 bytes
+pub record IsInForm (bytes : List ℕ) : Type 0 where
+  pub limits : Bounds
+  pub events : List Event
+  pub rest : List ℕ
+  pub stream : IsStream bytes limits events rest
+  pub whole : AreOfLock events
+  pub short : length rest < 16
+
+-- what is found once these bytes came; or the stream is in form so far
+abbrev pub IsSoFar : ℕ → ℕ → List ℕ → Option Finding → Type 0
+IsSoFar most ahead bytes (Some finding) = IsFoundOf most ahead bytes finding
+IsSoFar most ahead bytes None = (length bytes < 16) ⊎ IsInForm bytes
+
+-- the verdict says that events in form are not all explained
+abbrev pub IsOfForm : Verdict → Type 0
+IsOfForm verdict.Explained = ⊥
+IsOfForm (verdict.Broken k) = ⊥
+IsOfForm _ = Unit {0}
+
+-- the verdict that is found
+abbrev pub verdict_of : Finding → Option Verdict
+verdict_of (found.Stuck k) = Some (verdict.Stuck k)
+verdict_of (found.StuckWithin k m) = Some (verdict.StuckWithin k m)
+verdict_of (found.Undecided k why) = Some (verdict.Undecided k why)
+verdict_of _ = None

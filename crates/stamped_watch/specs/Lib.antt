@@ -1,0 +1,10 @@
+pub mod Order
+pub mod EventBytes
+pub mod Header
+pub mod Stream
+pub mod Finding
+pub mod StreamJudge
+pub mod FindingText
+pub mod Note
+pub mod Served
+pub mod inner

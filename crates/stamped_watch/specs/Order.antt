@@ -1,0 +1,79 @@
+-- The command line of the program that judges streams.
+use Rattle.std.specs.Prelude.{ℕ, List, [], ◌∷◌, Option, Some, None, Result, Ok, Err, codes, nat_le, if◌then◌else◌}
+use Rattle.std.specs.Prelude.{◌&&◌, Bool, true, not, option_map, option_and_then}
+use Rattle.std.specs.Option.{is_some, option_map_or}
+use Rattle.std.specs.Str.{bytes_eq}
+use Rattle.std.specs.Str.Parse.{starts_with_minus}
+use Rattle.stamp_cli.specs.Order.{number_in}
+use Rattle.stamp_cli.specs.declared.orders.CommandFault.{CommandFault}
+use Rattle.stamp_cli.specs.declared.orders.CommandFault.TheVariants.{Bad}
+use Rattle.stamped_watch.specs.declared.orders.Watching.{Watching}
+use Rattle.stamped_watch.specs.declared.orders.WatchOrder.{WatchOrder}
+use Rattle.stamped_watch.specs.declared.orders.WatchOrder.TheVariants.{Help, Watch}
+
+abbrev pub watching : ℕ → ℕ → Watching
+watching most ahead = record { most = most; ahead = ahead }
+
+-- what is asked for without options
+abbrev pub plain : Watching
+plain = watching 1000000 4194304
+
+-- at most 2^32 events
+abbrev pub no_more : ℕ → Option ℕ
+no_more ahead = if nat_le ahead 4294967296 then Some ahead else None
+
+abbrev pub ahead_in : List ℕ → Option ℕ
+ahead_in text = option_and_then no_more (number_in text)
+
+-- --most N, or --ahead N
+abbrev pub with_option : Watching → List ℕ → List ℕ → Option Watching
+with_option asked option number =
+    if bytes_eq option (codes "--most") then option_map (λ (most : ℕ). watching most asked.ahead) (number_in number)
+    else if bytes_eq option (codes "--ahead") then
+    option_map (λ (ahead : ℕ). watching asked.most ahead) (ahead_in number)
+    else None
+
+abbrev pub one_option : List ℕ → List ℕ → Option WatchOrder
+one_option option number = option_map Watch (with_option plain option number)
+
+-- two different ones
+abbrev pub two_options : List ℕ → List ℕ → List ℕ → List ℕ → Option WatchOrder
+two_options first number second other =
+    if bytes_eq first second then None
+    else option_map Watch (option_and_then (λ (asked : Watching). with_option asked second other)
+    (with_option plain first number))
+
+-- a word that doesn't begin with `-` may name a file
+abbrev pub is_file : List ℕ → Bool
+is_file word = not (starts_with_minus word)
+
+abbrev pub one_word : List ℕ → Option WatchOrder
+one_word word =
+    if bytes_eq word (codes "--help") then Some Help else if is_file word then Some (Watch plain) else None
+
+-- the forms of the command line: --help; or none, one or both of --most N and --ahead N, and then a file or none
+abbrev pub form_of : List (List ℕ) → Option WatchOrder
+form_of [] = Some (Watch plain)
+form_of (word ∷ []) = one_word word
+form_of (option ∷ number ∷ []) = one_option option number
+form_of (option ∷ number ∷ file ∷ []) = if is_file file then one_option option number else None
+form_of (first ∷ number ∷ second ∷ other ∷ []) = two_options first number second other
+form_of (first ∷ number ∷ second ∷ other ∷ file ∷ []) =
+    if is_file file then two_options first number second other else None
+form_of _ = None
+
+-- what arguments ask for
+abbrev pub order_in : List (List ℕ) → Result WatchOrder CommandFault
+order_in args = option_map_or Ok (form_of args) (Err Bad)
+
+-- the word, if it may name a file and what stands before it is in form
+abbrev pub file_behind : Bool → List ℕ → Option (List ℕ)
+file_behind is_form word = if is_form && is_file word then Some word else None
+
+-- the file, if they are such a form with one
+abbrev pub file_in : List (List ℕ) → Option (List ℕ)
+file_in (file ∷ []) = file_behind true file
+file_in (option ∷ number ∷ file ∷ []) = file_behind (is_some (one_option option number)) file
+file_in (first ∷ number ∷ second ∷ other ∷ file ∷ []) =
+    file_behind (is_some (two_options first number second other)) file
+file_in _ = None

@@ -1,0 +1,58 @@
+-- What a judge knows of a stream whose bytes come.
+use Rattle.std.specs.Prelude.{ℕ, ◌≡◌, ◌<◌, ◌++◌, List, [], length, Option, Some, None, MatchOption}
+use Rattle.std.specs.List.{count_by}
+use Rattle.stamp_core.specs.Limits.{Bounds}
+use Rattle.stamp_watch.specs.declared.ended_call.EndedCall.{EndedCall}
+use Rattle.stamp_watch.specs.declared.event.Event.{Event}
+use Rattle.stamp_watch.specs.declared.online.Judge.{Judge}
+use Rattle.stamp_watch.specs.EndedCall.{ended_from}
+use Rattle.stamp_watch.specs.Judge.{HasFoundNothing, IsJudge}
+use Rattle.stamped_watch.specs.declared.stream_judge.StreamJudge.{StreamJudge}
+use Rattle.stamped_watch.specs.Finding.{IsFoundOf, is_beginning, is_withdrawal}
+use Rattle.stamped_watch.specs.Stream.{IsStream}
+
+-- these bytes are a header and events, which were given to this judge; nothing was found of them, and so many calls
+-- began and were withdrawn
+pub record IsUnderWay (most ahead : ℕ) (taken : List ℕ) (begun withdrawn : ℕ) (inner : Judge) : Type 0 where
+  pub limits : Bounds
+  pub events : List Event
+  pub stream : IsStream taken limits events []
+  pub judge_of : IsJudge limits most ahead events inner
+  pub none : HasFoundNothing inner
+  pub begun_is : begun ≡ count_by is_beginning events
+  pub withdrawn_is : withdrawn ≡ count_by is_withdrawal events
+
+-- nothing came yet, and nothing was counted
+pub record IsFresh (taken : List ℕ) (begun withdrawn : ℕ) : Type 0 where
+  pub nothing : taken ≡ []
+  pub begun_is : begun ≡ 0
+  pub withdrawn_is : withdrawn ≡ 0
+
+-- it has taken these bytes, by 16: what it found holds whatever comes later
+pub record HasTaken (most ahead : ℕ) (taken : List ℕ) (judge : StreamJudge) : Type 0 where
+  pub most_is : judge.most ≡ most
+  pub ahead_is : judge.ahead ≡ ahead
+  pub state : MatchOption judge.found (MatchOption judge.judge (IsFresh taken judge.begun judge.withdrawn)
+      (λ inner. IsUnderWay most ahead taken judge.begun judge.withdrawn inner))
+      (λ finding. IsFoundOf most ahead taken finding)
+
+-- it was fed these bytes: some of them it has taken, and it keeps those behind them, if nothing was found
+pub record IsFed (most ahead : ℕ) (fed : List ℕ) (judge : StreamJudge) : Type 0 where
+  pub taken : List ℕ
+  pub later : List ℕ
+  pub parts : fed ≡ taken ++ later
+  pub has_taken : HasTaken most ahead taken judge
+  pub keeps : judge.found ≡ None → judge.part.items ≡ later
+  pub short : length judge.part.items < 16
+
+-- so it is of some bytes
+pub record IsFedSome (judge : StreamJudge) : Type 0 where
+  pub most : ℕ
+  pub ahead : ℕ
+  pub fed : List ℕ
+  pub is : IsFed most ahead fed judge
+
+-- the call that the event with this number ends, if it begins among the events that are kept
+abbrev pub ended_in : Option Judge → ℕ → Option EndedCall
+ended_in None number = None
+ended_in (Some inner) number = ended_from inner.course.first inner.course.events.items number

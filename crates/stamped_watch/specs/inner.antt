@@ -1,0 +1,3 @@
+pub mod EventBytes
+pub mod StreamJudge
+pub mod Served

@@ -1,0 +1,78 @@
+//! Judges a stream of a lock's events of any length: bytes in, one line out.
+#![tactic(auto)]
+
+ghost use Rattle.stamped_watch.specs.Order.{order_in};
+ghost use Rattle.stamped_watch.specs.Served.{IsServed};
+
+mod event_bytes;
+mod finding;
+mod finding_text;
+mod header;
+mod help;
+mod misplaced;
+mod note;
+mod orders;
+mod serving;
+mod stream_judge;
+
+use crate::help::HELP;
+use crate::orders::{WatchOrder, file_in, order_of};
+use crate::serving::serve_asked;
+use stamp_cli::{
+    Answered, CommandFault, Program, ServeFault, Sink, Source, named_fault_line, run, serve_help,
+};
+use std::alloc::Global;
+use std::process::ExitCode;
+
+/// Tells how the program is called.
+fn tell_help<K: Sink>(sink: &mut K) -> Result<Answered, ServeFault> {
+    Ok(Answered {
+        verdict: serve_help(HELP, sink)?,
+        note: None,
+    })
+}
+
+/// The program `stamped_watch`.
+struct StampedWatch;
+
+impl Program for StampedWatch {
+    type Order = WatchOrder;
+
+    type Fault = ServeFault;
+
+    ghost order_in = { order_in };
+
+    ghost serves = { IsServed };
+
+    fn order_of(arguments: &[&str]) -> Result<WatchOrder, CommandFault> {
+        order_of(arguments)
+    }
+
+    fn file_in<'a>(arguments: &[&'a str]) -> Option<&'a str> {
+        file_in(arguments)
+    }
+
+    fn answer<S: Source, K: Sink>(
+        alloc: Global,
+        order: WatchOrder,
+        source: &mut S,
+        sink: &mut K,
+    ) -> Result<Answered, ServeFault> {
+        match order {
+            WatchOrder::Help => tell_help(sink),
+            WatchOrder::Watch(asked) => serve_asked(alloc, asked, source, sink),
+        }
+    }
+
+    fn bad_command_line() -> &'static str {
+        "stamped_watch: bad command line"
+    }
+
+    fn fault_line(alloc: Global, fault: &ServeFault) -> Option<String> {
+        named_fault_line(alloc, "stamped_watch", fault).ok()
+    }
+}
+
+fn main(rt: HostRuntime) -> ExitCode {
+    run::<StampedWatch, HostRuntime>(&rt)
+}

@@ -1,0 +1,90 @@
+//! The note of what is found, for standard error: of a stream that is stuck which call ended there, and else why it is
+//! not judged further.
+
+ghost use Rattle.std.specs.Prelude.{◌≡◌, IfOk, Some, string_bytes};
+ghost use Rattle.stamped_watch.specs.Note.{IsNote, ahead_text, end_text, note_text, stuck_text, text_in, within_text};
+
+use crate::finding::Finding;
+use crate::orders::Watching;
+use stamp_core::Reply;
+use stamp_watch::{EndedCall, Why};
+use std::alloc::{AllocError, Global};
+use std::fmt;
+
+/// How a call ended.
+#[derive(Drop)]
+struct EndText(Option<Reply>);
+
+impl fmt::Display for EndText {
+    ghost output = { λ text. Some (end_text text.0) };
+
+    fn fmt<W: fmt::Write>(&self, f: &mut fmt::Formatter<W>) -> fmt::Result {
+        match self.0 {
+            Some(reply) => write!(f, "answered {reply}"),
+            None => write!(f, "was withdrawn"),
+        }
+    }
+}
+
+/// Which call ends at the event at which a stream is stuck, and how.
+fn stuck_text(alloc: Global, event: u64, ended: &EndedCall) -> Result<String, AllocError>
+    ensures { IfOk result (λ text. string_bytes text ≡ stuck_text event ended.now) }
+{
+    let lane = ended.lane;
+    let call = ended.call;
+    let end = EndText(ended.reply);
+    format!(in alloc; "stamped_watch: event {event}, lane {lane}: {call} {end}")
+}
+
+/// That no order explains the run, where it is undecided at which event it is stuck.
+fn within_text(alloc: Global) -> Result<String, AllocError>
+    ensures { IfOk result (λ text. string_bytes text ≡ within_text) }
+{
+    String::from_str(
+        alloc,
+        "stamped_watch: no order explains the run; from which event on is undecided",
+    )
+}
+
+/// That the call which begins at the event is open for too long.
+fn ahead_text(alloc: Global, event: u64, ahead: usize) -> Result<String, AllocError>
+    ensures { IfOk result (λ text. string_bytes text ≡ ahead_text event ahead) }
+{
+    format!(in alloc;
+        "stamped_watch: the call of event {event} is open for more than {ahead} events"
+    )
+}
+
+/// The note of what was found, where this call ends at the event at which the stream is stuck.
+fn note_of(
+    alloc: Global,
+    asked: Watching,
+    finding: &Finding,
+    ended: &Option<EndedCall>,
+) -> Result<Option<String>, AllocError>
+    ensures { IfOk result (λ note. text_in note ≡ note_text asked finding.now ended.now) }
+{
+    match (finding, ended) {
+        (Finding::Stuck(event), Some(ended)) => Ok(Some(stuck_text(alloc, *event, ended)?)),
+        (Finding::StuckWithin(_, _), _) => Ok(Some(within_text(alloc)?)),
+        (Finding::Undecided(event, Why::TooFar), _) => {
+            Ok(Some(ahead_text(alloc, *event, asked.ahead)?))
+        }
+        _ => Ok(None),
+    }
+}
+
+/// The same note, or none where memory for it is refused.
+pub(crate) fn note_if_room(
+    alloc: Global,
+    asked: Watching,
+    finding: &Finding,
+    ended: &Option<EndedCall>,
+) -> Option<String>
+    ensures { IsNote asked finding.now ended.now (text_in result) }
+{
+    match note_of(alloc, asked, finding, ended) {
+        Ok(note) => note,
+        Err(_) => None,
+    }
+}

@@ -1,0 +1,161 @@
+//! The command line.
+
+ghost use Rattle.std.specs.Prelude.{◌≡◌, map, option_map};
+ghost use Rattle.stamped_watch.specs.Order as order;
+
+use stamp_cli::{CommandFault, number_in};
+
+/// The most configurations before an event, if the command line says no other number.
+pub const MOST_CONFIGURATIONS: u64 = 1_000_000;
+
+/// Among so many events the end of a call is looked for, if the command line says no other number.
+pub const EVENTS_AHEAD: usize = 4_194_304;
+
+/// The most events among which it may be looked for.
+pub const MOST_AHEAD: u64 = 4_294_967_296;
+
+/// How a stream is to be judged.
+#[derive(Clone, Copy, Debug, PartialEq, Eq)]
+pub struct Watching {
+    /// The most configurations before an event.
+    pub most: u64,
+    /// Among so many events the end of a call is looked for.
+    pub ahead: usize,
+}
+
+/// What the program is asked to do.
+#[derive(Clone, Copy, Debug, PartialEq, Eq)]
+pub enum WatchOrder {
+    /// To tell how it is called.
+    Help,
+    /// To judge a stream.
+    Watch(Watching),
+}
+
+/// What is asked for without options.
+const PLAIN: Watching = Watching {
+    most: MOST_CONFIGURATIONS,
+    ahead: EVENTS_AHEAD,
+};
+
+/// So many events, if they are not too many.
+fn ahead_in(text: &str) -> Option<usize>
+    ensures { result ≡ order.ahead_in text.now }
+{
+    let ahead = number_in(text)?;
+    if ahead > MOST_AHEAD {
+        return None;
+    }
+    Some(ahead as usize)
+}
+
+/// What is asked for by this option besides.
+fn with_option(asked: Watching, option: &str, number: &str) -> Option<Watching>
+    ensures { result ≡ order.with_option asked option.now number.now }
+{
+    match option {
+        "--most" => Some(Watching {
+            most: number_in(number)?,
+            ahead: asked.ahead,
+        }),
+        "--ahead" => Some(Watching {
+            most: asked.most,
+            ahead: ahead_in(number)?,
+        }),
+        _ => None,
+    }
+}
+
+fn one_option(option: &str, number: &str) -> Option<WatchOrder>
+    ensures { result ≡ order.one_option option.now number.now }
+{
+    Some(WatchOrder::Watch(with_option(PLAIN, option, number)?))
+}
+
+fn two_options(first: &str, number: &str, second: &str, other: &str) -> Option<WatchOrder>
+    ensures { result ≡ order.two_options first.now number.now second.now other.now }
+{
+    if first == second {
+        return None;
+    }
+    let asked = with_option(PLAIN, first, number)?;
+    Some(WatchOrder::Watch(with_option(asked, second, other)?))
+}
+
+/// Whether the word may name a file: it doesn't begin as an option.
+fn is_file(word: &str) -> bool
+    ensures { result ≡ order.is_file word.now }
+{
+    match word.as_bytes().first() {
+        Some(first) => *first != b'-',
+        None => true,
+    }
+}
+
+/// What one word asks for: how the program is called, or that a file is judged.
+fn one_word(word: &str) -> Option<WatchOrder>
+    ensures { result ≡ order.one_word word.now }
+{
+    if word == "--help" {
+        Some(WatchOrder::Help)
+    } else if is_file(word) {
+        Some(WatchOrder::Watch(PLAIN))
+    } else {
+        None
+    }
+}
+
+fn form_of(args: &[&str]) -> Option<WatchOrder>
+    ensures { result ≡ order.form_of (map (λ arg. arg.now) args.now) }
+{
+    match args {
+        [] => Some(WatchOrder::Watch(PLAIN)),
+        [word] => one_word(word),
+        [option, number] => one_option(option, number),
+        [option, number, file] if is_file(file) => one_option(option, number),
+        [first, number, second, other] => two_options(first, number, second, other),
+        [first, number, second, other, file] if is_file(file) => {
+            two_options(first, number, second, other)
+        }
+        _ => None,
+    }
+}
+
+/// What the program's arguments ask for. `--help` alone asks how it is called. Otherwise a stream is judged:
+/// `--most N` gives the most configurations before an event, and `--ahead N` among how many events the end of a call
+/// is looked for, up to 2^32; each once, in any order, numbers below 2^64 in decimal digits alone. Without them they
+/// are 1,000,000 and 4,194,304. Behind them a file may be named, by a word that doesn't begin with `-`. It refuses as
+/// 1 `Bad` exactly where the arguments are no such form.
+pub fn order_of(args: &[&str]) -> Result<WatchOrder, CommandFault>
+    ensures { result ≡ order.order_in (map (λ arg. arg.now) args.now) }
+{
+    form_of(args).ok_or(CommandFault::Bad)
+}
+
+/// The word, if it may name a file and what stands before it is in form.
+fn file_behind(is_form: bool, word: &str) -> Option<&str>
+    ensures { option_map (λ file. file.now) result ≡ order.file_behind is_form word.now }
+{
+    if is_form && is_file(word) {
+        Some(word)
+    } else {
+        None
+    }
+}
+
+/// The file that the arguments name, if they are such a form with a file.
+pub fn file_in<'a>(args: &[&'a str]) -> Option<&'a str>
+    ensures { option_map (λ file. file.now) result ≡ order.file_in (map (λ arg. arg.now) args.now) }
+{
+    match args {
+        [] => None,
+        [file] => file_behind(true, file),
+        [_, _] => None,
+        [option, number, file] => file_behind(one_option(option, number).is_some(), file),
+        [_, _, _, _] => None,
+        [first, number, second, other, file] => {
+            file_behind(two_options(first, number, second, other).is_some(), file)
+        }
+        _ => None,
+    }
+}

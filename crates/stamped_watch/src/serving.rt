@@ -1,0 +1,120 @@
+//! A stream from the bytes that come in to the line that goes out.
+
+ghost use Rattle.std.specs.Prelude.{◌≡◌, ◌<◌, [], IfOk, None, length, vec_len};
+ghost use Rattle.stamp_cli.specs.Results.{IsReadOrMemoryFault};
+ghost use Rattle.stamp_cli.specs.Serving.{HasWritten, RefusesAsDue, WritesAnswer, WritesFront};
+ghost use Rattle.stamp_cli.specs.declared.faults.ServeFault.TheVariants.{Memory, ReadFault, WriteFault};
+ghost use Rattle.stamped_watch.specs.StreamJudge.{IsFed};
+ghost use Rattle.stamped_watch.specs.Served.{AnswersStream, HasReadOn, HasWatched, IsAnsweredBy, IsFoundOfSource, line_of};
+
+use crate::finding::Finding;
+use crate::finding_text::line_of_finding;
+use crate::note::note_if_room;
+use crate::orders::Watching;
+use crate::stream_judge::StreamJudge;
+use stamp_cli::{Answered, Line, ServeFault, Sink, Source, write_text};
+use stamp_watch::EndedCall;
+use std::alloc::{AllocError, Global};
+
+/// The most bytes of one read.
+const CHUNK: usize = 65_536;
+
+fn zeros(alloc: Global) -> Result<Vec<u8>, AllocError>
+    ensures { IfOk result (λ zeros. vec_len zeros ≡ 65536) }
+{
+    vec![in alloc; 0u8; CHUNK]
+}
+
+/// Feeds a new judge what the source gives, until something is found of it or it ends.
+fn fed_from<S: Source>(
+    source: &mut S,
+    chunk: &mut [u8],
+    judge: &mut StreamJudge,
+    asked: Watching,
+) -> Result<Finding, ServeFault>
+    requires room { 0 < length chunk.old }
+    requires new { IsFed asked.most asked.ahead [] judge.old }
+    requires none { judge.old.found ≡ None }
+    ensures reads { HasReadOn ReadFault (S.left source.old) (S.left source.new)
+        (S.reads source.old) (S.reads source.new) result }
+    ensures found { IfOk result (λ finding. IsFoundOfSource asked (S.left source.old) (S.left source.new)
+        (S.reads source.old) (S.reads source.new) finding) }
+    ensures only { IsReadOrMemoryFault result }
+{
+    'source: loop {
+        let Ok(taken) = source.read(chunk) else {
+            return Err(ServeFault::ReadFault);
+        };
+        if taken == 0 {
+            return Ok(judge.end()?);
+        }
+        if let Some(finding) = judge.feed(&chunk[..taken])? {
+            return Ok(finding);
+        }
+    }
+}
+
+/// The call that ends at the event at which the stream is stuck.
+fn ended_at(finding: &Finding, judge: &StreamJudge) -> Option<EndedCall> {
+    match finding {
+        Finding::Stuck(event) => judge.ended_at(*event),
+        _ => None,
+    }
+}
+
+/// Judges the stream that it reads of the source, of any length, and writes one line of that. Once something is found
+/// of the stream it reads no more. What it answers besides is for standard error: of a stream that is stuck which call
+/// ended there, and else why it is not judged further, if it is not. It refuses as 1 `ReadFault` exactly where a read
+/// answers an error, as 6 `WriteFault` exactly where a write does or takes no byte, and as 5 `Memory`; what was read is
+/// gone also after a refusal.
+pub fn serve_stream<S: Source, K: Sink>(
+    alloc: Global,
+    asked: Watching,
+    source: &mut S,
+    sink: &mut K,
+) -> Result<Answered, ServeFault>
+    // However it ends, there is no read after one that took no byte.
+    ensures reads { HasReadOn ReadFault (S.left source.old) (S.left source.new)
+        (S.reads source.old) (S.reads source.new) result }
+
+    // The line of what is found of all that was read is written, and nothing else; the verdict and the note are its.
+    ensures ok { WritesAnswer (AnswersStream asked (S.left source.old) (S.left source.new)
+        (S.reads source.old) (S.reads source.new)) (IsAnsweredBy asked) line_of
+        (K.sent sink.old) (K.sent sink.new) (K.writes sink.old) (K.writes sink.new) result }
+
+    // No stream is refused.
+    ensures refused { RefusesAsDue ReadFault WriteFault Memory (AnswersStream asked (S.left source.old)
+        (S.left source.new) (S.reads source.old) (S.reads source.new)) result }
+
+    // A write that failed leaves a front of the line and is the last, and no other refusal writes.
+    ensures writes { HasWritten WriteFault (K.sent sink.old) (K.sent sink.new)
+        (K.writes sink.old) (K.writes sink.new) result }
+    ensures front { WritesFront WriteFault (AnswersStream asked (S.left source.old) (S.left source.new)
+        (S.reads source.old) (S.reads source.new)) line_of
+        (K.sent sink.old) (K.sent sink.new) (K.writes sink.old) (K.writes sink.new) result }
+{
+    let mut judge = StreamJudge::new(alloc, asked.most, asked.ahead);
+    let mut chunk = zeros(alloc)?;
+    let finding = fed_from(source, &mut chunk, &mut judge, asked)?;
+    let Line { mut text, verdict } = line_of_finding(alloc, &finding)?;
+    text.push(b'\n')?;
+    write_text(sink, &text)?;
+    let ended = ended_at(&finding, &judge);
+    let note = note_if_room(alloc, asked, &finding, &ended);
+    Ok(Answered { verdict, note })
+}
+
+/// Serves a judgement, as `serve_stream` does.
+pub(crate) fn serve_asked<S: Source, K: Sink>(
+    alloc: Global,
+    asked: Watching,
+    source: &mut S,
+    sink: &mut K,
+) -> Result<Answered, ServeFault>
+    ensures { HasWatched asked
+        (record { left = S.left source.old; reads = S.reads source.old; sent = K.sent sink.old; writes = K.writes sink.old })
+        (record { left = S.left source.new; reads = S.reads source.new; sent = K.sent sink.new; writes = K.writes sink.new })
+        result }
+{
+    serve_stream(alloc, asked, source, sink)
+}

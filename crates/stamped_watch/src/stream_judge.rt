@@ -1,0 +1,240 @@
+//! Judging a stream while its bytes come.
+//!
+//! Bytes are taken 16 by 16: the header, by which the judge of the events is made, and then event after event. Those
+//! of a header or an event that is not whole yet are kept.
+
+ghost use Rattle.std.specs.Prelude.{◌≡◌, ◌+◌, ◌^◌, ◌<◌, ◌++◌, [], IfOk, IsSome, OnOk, List, None, length, ℕ};
+ghost use Rattle.stamp_core.specs.Limits.{Bounds};
+ghost use Rattle.stamp_watch.specs.declared.event.Event.{Event};
+ghost use Rattle.stamp_watch.specs.Judge.{HasFoundNothing, IsJudge, IsJudgeOfSome};
+ghost use Rattle.stamped_watch.specs.EventBytes.{kind_of};
+ghost use Rattle.stamped_watch.specs.Finding.{IsFindingOf, IsSoFar};
+ghost use Rattle.stamped_watch.specs.StreamJudge.{ended_in, HasTaken, IsFed, IsFedSome};
+ghost use Rattle.stamped_watch.specs.inner.StreamJudge.{AreCounted, HasTakenSome, IsFoundUnless, IsGivenOne, IsOneMore, KeepsPart};
+
+use crate::event_bytes::event_in;
+use crate::finding::{Finding, finding_of};
+use crate::header::header_in;
+use crate::misplaced::why_misplaced;
+use stamp_watch::{EndedCall, Event, Judge, StreamEvent, Verdict};
+use std::alloc::{AllocError, Global};
+
+/// Judges a stream of a lock's events while its bytes come, in pieces of any length. It judges as a `Judge` does: an
+/// event is looked at once it is known how each call ends that began before it, or that a call is open for too long.
+/// Once something is found of the stream it looks no further. It keeps few events, and fewer than 16 bytes. After an
+/// `Err` it is of no more use.
+#[derive(Drop)]
+pub(crate) struct StreamJudge {
+    alloc: Global,
+    most: u64,
+    ahead: usize,
+    /// The bytes of a header or an event that is not whole.
+    part: Vec<u8>,
+    /// The judge of the events, once there is a header.
+    judge: Option<Judge>,
+    /// So many calls began,
+    begun: u64,
+    /// and so many were withdrawn.
+    withdrawn: u64,
+    found: Option<Finding>,
+}
+
+/// Gives one more event to the judge: what is found then.
+fn given(judge: &mut Judge, event: &StreamEvent) -> Result<Option<Finding>, AllocError>
+    requires some { IsJudgeOfSome judge.old }
+    requires none { HasFoundNothing judge.old }
+    requires kind { IsSome (kind_of event.now) }
+    ensures { IfOk result (λ found. (limits : Bounds) (most ahead : ℕ) (run : List Event)
+        → IsJudge limits most ahead run judge.old
+        → IsGivenOne limits most ahead run event.now judge.new found) }
+{
+    if judge.is_full() {
+        return Ok(Some(Finding::Full));
+    }
+    match judge.push(event)? {
+        None => Ok(None),
+        Some(verdict) => match verdict {
+            Verdict::Broken(number) => Ok(Some(Finding::Misplaced(number, why_misplaced(event)))),
+            _ => Ok(Some(finding_of(verdict))),
+        },
+    }
+}
+
+/// What is found where no more events come: this, if all of them are explained.
+fn found_unless(judge: &Judge, explained: Finding) -> Result<Finding, AllocError>
+    requires some { IsJudgeOfSome judge.now }
+    requires none { HasFoundNothing judge.now }
+    ensures { IfOk result (λ finding. (limits : Bounds) (most ahead : ℕ) (run : List Event)
+        → IsJudge limits most ahead run judge.now
+        → IsFoundUnless limits most ahead run explained finding) }
+{
+    match judge.finish()? {
+        Verdict::Explained => Ok(explained),
+        verdict => Ok(finding_of(verdict)),
+    }
+}
+
+impl StreamJudge {
+    /// The judge of a stream of which nothing has come. More than `most` configurations before an event are too many
+    /// to go on, and so is a call that none of `ahead` events behind its beginning ends.
+    pub(crate) fn new(alloc: Global, most: u64, ahead: usize) -> StreamJudge
+        ensures fed { IsFed most ahead [] result }
+        ensures known { IsFedSome result }
+        ensures none { result.found ≡ None }
+    {
+        StreamJudge {
+            alloc,
+            most,
+            ahead,
+            part: Vec::new(alloc),
+            judge: None,
+            begun: 0,
+            withdrawn: 0,
+            found: None,
+        }
+    }
+
+    /// Takes the bytes of the header.
+    fn begin(&mut self, bytes: &[u8; 16]) -> Result<(), AllocError>
+        requires first { HasTakenSome self.old }
+        requires none { self.old.found ≡ None }
+        requires no_judge { self.old.judge ≡ None }
+        ensures taken { OnOk result (IsOneMore bytes.now self.old self.new) }
+        ensures part { OnOk result (KeepsPart self.old self.new) }
+    {
+        match header_in(bytes) {
+            Ok(limits) => {
+                let judge = Judge::new(self.alloc, limits, self.most, self.ahead)?;
+                self.judge = Some(judge);
+            }
+            Err(fault) => self.found = Some(Finding::BadHeader(fault)),
+        }
+        Ok(())
+    }
+
+    /// Counts a call that begins or is withdrawn.
+    fn count(&mut self, event: &StreamEvent)
+        requires begun { self.old.begun + 1 < 2 ^ 64 }
+        requires withdrawn { self.old.withdrawn + 1 < 2 ^ 64 }
+        ensures { AreCounted event.now self.old self.new }
+    {
+        match event.as_event() {
+            Event::Begins(_, _) => self.begun += 1,
+            Event::Returns(_, _) => {}
+            Event::Withdraws(_) => self.withdrawn += 1,
+        }
+    }
+
+    /// Takes the next 16 bytes: those of the header, or of an event.
+    fn take(&mut self, bytes: &[u8; 16]) -> Result<(), AllocError>
+        requires some { HasTakenSome self.old }
+        requires none { self.old.found ≡ None }
+        ensures taken { OnOk result (IsOneMore bytes.now self.old self.new) }
+        ensures part { OnOk result (KeepsPart self.old self.new) }
+    {
+        let Some(judge) = &mut self.judge else {
+            return self.begin(bytes);
+        };
+        match event_in(bytes) {
+            Ok(event) => {
+                self.found = given(judge, &event)?;
+                if self.found.is_none() {
+                    self.count(&event);
+                }
+            }
+            Err(fault) => {
+                let bad = Finding::BadEvent(judge.count(), fault);
+                self.found = Some(found_unless(judge, bad)?);
+            }
+        }
+        Ok(())
+    }
+
+    /// Takes bytes 16 by 16, until something is found, and keeps those that are left.
+    fn take_units(&mut self, bytes: &[u8]) -> Result<(), AllocError>
+        requires some { HasTakenSome self.old }
+        requires empty { self.old.part.items ≡ [] }
+        ensures { OnOk result ((most ahead : ℕ) (taken : List ℕ) → HasTaken most ahead taken self.old
+            → IsFed most ahead (taken ++ bytes.now) self.new) }
+    {
+        let mut rest = bytes;
+        'units: while self.found.is_none() {
+            let Some((unit, behind)) = rest.split_first_chunk::<16>() else {
+                self.part.extend_from_slice(rest)?;
+                return Ok(());
+            };
+            self.take(unit)?;
+            rest = behind;
+        }
+        Ok(())
+    }
+
+    /// Takes the bytes that were kept, which are 16.
+    fn take_part(&mut self) -> Result<(), AllocError>
+        requires some { HasTakenSome self.old }
+        requires none { self.old.found ≡ None }
+        requires whole { length self.old.part.items ≡ 16 }
+        ensures taken { OnOk result (IsOneMore self.old.part.items self.old self.new) }
+        ensures empty { OnOk result (self.new.part.items ≡ []) }
+    {
+        let unit = match self.part.first_chunk::<16>() {
+            Some(unit) => *unit,
+            None => unreachable!(),
+        };
+        self.part.clear();
+        self.take(&unit)
+    }
+
+    /// The next bytes of the stream: what is found of it, whatever comes later, if anything is.
+    pub(crate) fn feed(&mut self, bytes: &[u8]) -> Result<Option<Finding>, AllocError>
+        requires some { IsFedSome self.old }
+        ensures found { IfOk result (λ found. (most ahead : ℕ) (fed : List ℕ) → IsFed most ahead fed self.old
+            → IsSoFar most ahead (fed ++ bytes.now) found) }
+        ensures fed { OnOk result ((most ahead : ℕ) (fed : List ℕ) → IsFed most ahead fed self.old
+            → IsFed most ahead (fed ++ bytes.now) self.new) }
+        ensures known { OnOk result (IsFedSome self.new) }
+        ensures told { IfOk result (λ found. self.new.found ≡ found) }
+    {
+        if self.found.is_some() {
+            return Ok(self.found);
+        }
+        let missing = 16 - self.part.len();
+        if bytes.len() < missing {
+            self.part.extend_from_slice(bytes)?;
+            return Ok(None);
+        }
+        self.part.extend_from_slice(&bytes[..missing])?;
+        self.take_part()?;
+        self.take_units(&bytes[missing..])?;
+        Ok(self.found)
+    }
+
+    /// What is found of the stream if it ends here: a call that has not ended never ends.
+    pub(crate) fn end(&self) -> Result<Finding, AllocError>
+        requires { IsFedSome self.now }
+        ensures { IfOk result (λ finding. (most ahead : ℕ) (fed : List ℕ) → IsFed most ahead fed self.now
+            → IsFindingOf most ahead fed finding) }
+    {
+        if let Some(finding) = self.found {
+            return Ok(finding);
+        }
+        let Some(judge) = &self.judge else {
+            return Ok(Finding::NoHeader);
+        };
+        if !self.part.is_empty() {
+            return found_unless(judge, Finding::Cut(judge.count()));
+        }
+        let calls = self.begun.saturating_sub(self.withdrawn);
+        found_unless(judge, Finding::Explained(calls))
+    }
+
+    /// The call that the event with this number ends, if it begins among the events that the judge keeps.
+    pub(crate) fn ended_at(&self, number: u64) -> Option<EndedCall>
+        ensures { result ≡ ended_in self.now.judge number }
+    {
+        match &self.judge {
+            Some(judge) => judge.ended_at(number),
+            None => None,
+        }
+    }
+}

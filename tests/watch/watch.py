@@ -1,0 +1,201 @@
+"""Streams judged by `stamped_watch`, and as histories by `stamped_explain`.
+
+    watch.py WATCH EXPLAIN
+
+Run at the top of the repository. Threads make random calls on the lock of bench/common/call_table.py; some are
+withdrawn, and some under way at the end. Their streams are explained, with all their calls. With a reply changed a
+stream is stuck at an event exactly where what was seen by then is stuck as a history, and is explained before; where
+no call is withdrawn, it is so of the whole history, too. Both programs tell the same call and reply. Broken streams
+are told at their event. A stream may come in pieces of any length, the program ends once something is found, and long
+streams take no more memory than short ones."""
+import contextlib
+import json
+import os
+import random
+import re
+import subprocess
+import sys
+import tempfile
+
+from round_trips import SIZES, event, header, made_stream, with_wrong_reply
+from streams import (BEGINS, COUNT, EVENT, HEADER, NO, STAMP, WITHDRAWN, YES, entry_that_returns_at, fail, history_of,
+                     kinds_of, run, started, verdict)
+
+READ, SEEN = event(1, 3), event(4) + event(STAMP, 0, 256)
+MOST_MEMORY = 64 << 10
+
+
+def judged(watch, stream, *words):
+    """The line and the note, whose status must fit them."""
+    made = run([watch, *words], stream)
+    line, note = made.stdout.decode(), made.stderr.decode().removesuffix("\n")
+    if made.returncode != (not line.startswith("ok ")) or not line.endswith("\n"):
+        fail("status", made.returncode, line, note)
+    return line.removesuffix("\n"), note
+
+
+def calls_of(stream):
+    kinds = kinds_of(stream)
+    return sum(kind in BEGINS for kind in kinds) - kinds.count(WITHDRAWN)
+
+
+def must_be(name, found, wanted):
+    if found != wanted:
+        fail(name, f"{found} and not {wanted}")
+
+
+def first_events(stream, many):
+    return stream[:HEADER + EVENT * many]
+
+
+def must_be_stuck_as_seen(name, explain, stream, number):
+    """The history of the events up to this one is stuck there, and that of those before is explained."""
+    must_be(name, verdict(explain, history_of(name, first_events(stream, number))), "explained")
+    seen = history_of(name, first_events(stream, number + 1))
+    found = verdict(explain, seen)
+    if kinds_of(stream)[number] == WITHDRAWN:
+        must_be(name, found.startswith("stuck "), True)
+    else:
+        must_be(name, found, f"stuck {entry_that_returns_at(seen, number)}")
+
+
+def told_by(explain, history):
+    """The thread, and the call with its reply, that `stamped_explain` tells of a history that is stuck."""
+    note = run([explain], json.dumps(history).encode()).stderr.decode()
+    return re.match(r"stamped_explain: entry \d+ of thread (\d+): (.*?);", note).groups()
+
+
+def try_changed(watch, explain, name, stream):
+    """Whether the stream with a reply changed is stuck."""
+    line, note = judged(watch, stream)
+    history = history_of(name, stream)
+    if line.startswith("ok "):
+        must_be(name, verdict(explain, history), "explained")
+        return False
+    stuck = re.fullmatch(r"stuck (\d+)", line)
+    if not stuck:
+        fail(name, line, note)
+    number = int(stuck[1])
+    must_be_stuck_as_seen(name, explain, stream, number)
+    if WITHDRAWN not in kinds_of(stream):
+        must_be(name, verdict(explain, history), f"stuck {entry_that_returns_at(history, number)}")
+        thread, told = told_by(explain, history)
+        must_be(name, note, f"stamped_watch: event {number}, lane {thread}: {told}")
+    return True
+
+
+def try_random(watch, explain):
+    chance, calls, stuck = random.Random(4), 0, 0
+    for lanes, events in SIZES:
+        for withdraws in (False, True):
+            name = f"{lanes} lanes"
+            stream = made_stream(chance, lanes, events, withdraws)
+            must_be(name, judged(watch, stream), (f"ok {calls_of(stream)}", ""))
+            calls += calls_of(stream)
+            for _ in range(4):
+                stuck += try_changed(watch, explain, name, with_wrong_reply(chance, stream))
+    return calls, stuck
+
+
+BROKEN = [
+    (b"", "header cut"), (header()[:15], "header cut"), (b"stamp" + header()[5:], "header letters"),
+    (header(form=2), "header form"), (header(layout=3), "header layout"), (header(readers=0), "header limits"),
+    (header(readers=128), "header limits"), (header(versions=2**55 - 1), "header limits"),
+    (header(2, versions=2**46 - 1), "header limits"),
+    (header() + READ[:1], "0 cut"), (header() + READ + event(STAMP, 3, 257)[:15], "1 cut"),
+    *[(header() + READ + event(kind, 3), "1 kind") for kind in (17, 31, 38, 47, 49, 255)],
+    *[(header() + READ[:byte] + b"\1" + READ[byte + 1:], "0 zeros") for byte in range(2, 8)],
+    (header() + event(1, 3, 5), "0 number"), (header() + READ + event(NO, 3, 1), "1 number"),
+    (header() + READ + event(WITHDRAWN, 3, 1), "1 number"),
+    (header() + event(1, 64), "0 lane"), (header() + READ + event(STAMP, 255), "1 lane"),
+    (header() + READ + READ, "1 open"), (header() + READ + event(STAMP, 2, 257), "1 idle"),
+    (header() + READ + event(STAMP, 3, 257) + event(WITHDRAWN, 3), "2 idle"),
+]
+
+
+def try_broken(watch):
+    """Behind an event that is bad there may be anything; what is wrong before it is told."""
+    wrong = event(2) + event(15, 1) + event(YES, 1)
+    for broken, wanted in BROKEN:
+        must_be("broken", judged(watch, broken), (f"bad {wanted}", ""))
+        if not wanted.endswith("cut"):
+            must_be("broken", judged(watch, broken + b"x" * 100), (f"bad {wanted}", ""))
+        if not wanted.startswith("header"):
+            line, _ = judged(watch, header() + wrong + broken[HEADER:])
+            must_be("broken", line, "stuck 2")
+    return len(BROKEN)
+
+
+def try_options(watch):
+    late = header() + event(2) + event(4, 1) + event(STAMP, 1, 256) + event(STAMP, 0, 384)
+    must_be("--ahead", judged(watch, late, "--ahead", "3"), ("ok 2", ""))
+    must_be("--ahead", judged(watch, late, "--ahead", "2"),
+            ("undecided 0", "stamped_watch: the call of event 0 is open for more than 2 events"))
+    either = header() + event(1) + event(3, 1) + event(16, 2) + event(COUNT, 2, 1)
+    must_be("--most", judged(watch, either, "--most", "2"), ("ok 3", ""))
+    must_be("--most", judged(watch, either, "--most", "1"), ("undecided 3", ""))
+    within = either + event(STAMP, 0, 258) + event(STAMP, 1, 258)
+    must_be("--most", judged(watch, within, "--ahead", "9", "--most", "1"),
+            ("undecided 3", "stamped_watch: no order explains the run; from which event on is undecided"))
+    for words in (["--most"], ["--ahead", "4294967297"], ["run.events", "more"]):
+        made = run([watch, *words], late)
+        must_be("options", (made.returncode, made.stdout, made.stderr), (2, b"", b"stamped_watch: bad command line\n"))
+    told = run([watch, "--help"])
+    must_be("--help", (told.returncode, told.stdout[:14], told.stderr), (0, b"stamped_watch ", b""))
+
+
+def try_files(watch):
+    with tempfile.TemporaryDirectory() as room:
+        path = os.path.join(room, "run.events")
+        with open(path, "wb") as file:
+            file.write(header() + SEEN)
+        for words in ([path], ["--most", "1", path], ["--ahead", "1", "--most", "1", path]):
+            must_be("a file", judged(watch, b"", *words), ("ok 1", ""))
+        for path in (room, os.path.join(room, "none")):
+            made = run([watch, path])
+            must_be("no file", (made.returncode, made.stdout, made.stderr), (1, b"", b"stamped_watch: read fault\n"))
+
+
+def try_pieces(watch):
+    """A slow writer, whose pieces are no whole events; the program ends though the writer doesn't."""
+    stream = header() + SEEN * 40 + event(4) + event(STAMP, 0, 257) + SEEN
+    with started([watch], stdin=subprocess.PIPE, stdout=subprocess.PIPE, stderr=subprocess.PIPE) as process:
+        with contextlib.suppress(BrokenPipeError):
+            for at in range(0, len(stream), 7):
+                os.write(process.stdin.fileno(), stream[at:at + 7])
+        line, note = process.stdout.read(), process.stderr.read()
+        must_be("pieces", process.wait(), 1)
+    must_be("pieces", (line, note), (b"stuck 81\n", b"stamped_watch: event 81, lane 0: optimistic answered 257\n"))
+
+
+def try_long(watch):
+    """Six million events."""
+    many, each = 100, 30_000
+    with started([watch], stdin=subprocess.PIPE, stdout=subprocess.PIPE) as process:
+        process.stdin.write(header())
+        for _ in range(many):
+            process.stdin.write(SEEN * each)
+        process.stdin.close()
+        line = process.stdout.read()
+        _, status, used = os.wait4(process.pid, 0)
+        process.returncode = os.waitstatus_to_exitcode(status)
+    must_be("long", (process.returncode, line), (0, b"ok %d\n" % (many * each)))
+    if used.ru_maxrss > MOST_MEMORY:
+        fail("long", f"{used.ru_maxrss} KiB")
+    return 2 * many * each
+
+
+def main():
+    watch, explain = sys.argv[1:]
+    calls, stuck = try_random(watch, explain)
+    broken = try_broken(watch)
+    try_options(watch)
+    try_files(watch)
+    try_pieces(watch)
+    events = try_long(watch)
+    print(f"watch: {2 * len(SIZES)} streams of {calls} calls explained, {stuck} with a wrong reply stuck, {broken} "
+          f"broken ones told, one of {events} events in less than {MOST_MEMORY >> 10} MiB")
+
+
+if __name__ == "__main__":
+    main()
