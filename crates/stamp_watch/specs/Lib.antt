@@ -12,3 +12,6 @@ pub mod Form
 pub mod Watching
 pub mod AsObserved
 pub mod WatchLaws
+pub mod Late
+pub mod Delay
+pub mod LateJudge

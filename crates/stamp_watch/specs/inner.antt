@@ -6,3 +6,5 @@ pub mod Judging
 pub mod Course
 pub mod Stamps
 pub mod Foretold
+pub mod Delay
+pub mod Late

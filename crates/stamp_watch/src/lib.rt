@@ -4,11 +4,14 @@
 
 mod ahead;
 mod course;
+mod delay;
 mod effect;
 mod ending;
 mod event;
+mod finding;
 mod judge;
 mod lanes;
+mod late;
 mod layers;
 mod lock_call;
 mod online;
@@ -21,7 +24,9 @@ pub mod watch_laws;
 
 pub use ending::Ending;
 pub use event::Event;
+pub use finding::Finding;
 pub use judge::judge_run;
+pub use late::LateJudge;
 pub use online::Judge;
 pub use progress::Progress;
 pub use verdict::{Verdict, Why};

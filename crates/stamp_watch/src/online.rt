@@ -13,7 +13,7 @@ ghost use Rattle.stamp_core.specs.Limits.{Bounds};
 ghost use Rattle.stamp_watch.specs.declared.event.Event.{Event};
 ghost use Rattle.stamp_watch.specs.Judge.{HasRoomForOne, IsFoundThen, IsGiven, IsJudge, IsJudgeOfSome};
 ghost use Rattle.stamp_watch.specs.Verdict.{IsVerdict};
-ghost use Rattle.stamp_watch.specs.inner.Course.{broken_off};
+ghost use Rattle.stamp_watch.specs.inner.Course.{IsRest, broken_off};
 ghost use Rattle.stamp_watch.specs.inner.Judging.{MayComeIn, SetsBusy};
 
 use crate::course::Course;
@@ -52,6 +52,7 @@ impl Judge {
     pub fn new(alloc: Global, limits: Limits, most: u64, ahead: usize) -> Result<Judge, AllocError>
         ensures judge { IfOk result (λ judge. IsJudge limits most ahead [] judge) }
         ensures known { IfOk result (λ judge. IsJudgeOfSome judge) }
+        ensures none { IfOk result (λ judge. judge.found ≡ None) }
     {
         let course = Course::new(alloc, limits)?;
         Ok(Judge {
@@ -73,6 +74,7 @@ impl Judge {
         ensures found { IfOk result (λ found. IsFoundThen event.now self.old found) }
         ensures given { IfOk result (λ _. IsGiven event.now self.old self.new) }
         ensures known { IfOk result (λ _. IsJudgeOfSome self.new) }
+        ensures told { IfOk result (λ found. self.new.found ≡ found) }
     {
         self.course.add(event)?;
         self.busy = busy;
@@ -89,6 +91,7 @@ impl Judge {
         ensures found { IfOk result (λ found. IsFoundThen event.now self.old found) }
         ensures given { IfOk result (λ _. IsGiven event.now self.old self.new) }
         ensures known { IfOk result (λ _. IsJudgeOfSome self.new) }
+        ensures told { IfOk result (λ found. self.new.found ≡ found) }
     {
         let rest = self.course.rest(self.most)?;
         let verdict = broken_off(rest, self.course.count());
@@ -104,6 +107,7 @@ impl Judge {
         ensures found { IfOk result (λ found. IsFoundThen event.now self.old found) }
         ensures given { IfOk result (λ _. IsGiven event.now self.old self.new) }
         ensures known { IfOk result (λ _. IsJudgeOfSome self.new) }
+        ensures told { IfOk result (λ found. self.new.found ≡ found) }
     {
         match busy_then(self.busy, event) {
             Some(busy) => self.take(event, busy),
@@ -118,11 +122,19 @@ impl Judge {
         ensures found { IfOk result (λ found. IsFoundThen event.now self.old found) }
         ensures given { IfOk result (λ _. IsGiven event.now self.old self.new) }
         ensures known { IfOk result (λ _. IsJudgeOfSome self.new) }
+        ensures told { IfOk result (λ found. self.new.found ≡ found) }
     {
         match self.found {
             Some(verdict) => Ok(Some(verdict)),
             None => self.look_at(event),
         }
+    }
+
+    /// Whether it has found something.
+    pub(crate) fn has_found(&self) -> bool
+        ensures { (result ≡ false) ↔ (self.now.found ≡ None) }
+    {
+        self.found.is_some()
     }
 
     /// How many events it keeps: few, however long the run is.
@@ -144,8 +156,10 @@ impl Judge {
     /// What is found of the run if it ends here: a call that has not ended never ends.
     pub fn finish(&self) -> Result<Verdict, AllocError>
         requires { IsJudgeOfSome self.now }
-        ensures { IfOk result (λ verdict. (limits : Bounds) (most ahead : ℕ) (run : List Event)
+        ensures verdict { IfOk result (λ verdict. (limits : Bounds) (most ahead : ℕ) (run : List Event)
             → IsJudge limits most ahead run self.now → IsVerdict limits run most (Some ahead) verdict) }
+        ensures rest { IfOk result (λ verdict. (limits : Bounds) (most ahead : ℕ) (run : List Event)
+            → IsJudge limits most ahead run self.now → IsRest limits run most (Some ahead) verdict) }
     {
         match self.found {
             Some(verdict) => Ok(verdict),
