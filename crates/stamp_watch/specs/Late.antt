@@ -1,7 +1,5 @@
 -- Runs with calls that are open for long, and what is found of them.
-use Rattle.std.specs.Prelude.{ℕ, ◌≡◌, ◌≢◌, ◌+◌, ◌^◌, ◌<◌, ◌≤◌, ◌++◌, List, [], ◌∷◌, length, take}
-use Rattle.std.specs.Prelude.{Option, Some, None, MatchOption}
-use Rattle.std.specs.List.{All, AllPairs}
+use Rattle.std.specs.Prelude.{ℕ, ◌≡◌, ◌≢◌, ◌<◌, ◌≤◌, ◌++◌, List, ◌∷◌, take, Some}
 use Rattle.stamp_core.specs.Limits.{Bounds}
 use Rattle.stamp_core.specs.declared.call.Call.{Call}
 use Rattle.stamp_watch.specs.declared.event.Event.{Event}
@@ -10,6 +8,7 @@ use Rattle.stamp_watch.specs.declared.finding.Finding.{Finding}
 use Rattle.stamp_watch.specs.declared.finding.Finding.TheVariants.{Is, Late}
 use Rattle.stamp_watch.specs.declared.verdict.Verdict.{Verdict}
 use Rattle.stamp_watch.specs.declared.verdict.Verdict.TheVariants.{Explained, Stuck, StuckWithin, Undecided, Broken}
+use Rattle.stamp_watch.specs.Form.{AreInForm}
 use Rattle.stamp_watch.specs.Run.{AreExplained}
 use Rattle.stamp_watch.specs.Verdict.{AreOfLock, IsOpenFor, IsVerdict}
 
@@ -33,6 +32,13 @@ pub record BeginsOneLater (old new : List Event) : Type 0 where
 pub data BeginsLater (run : List Event) : List Event → Type 0 where
   as_it_is : BeginsLater run run
   then_later : {old new : List Event} → BeginsLater run old → BeginsOneLater old new → BeginsLater run new
+
+-- So what is explained then is explained as it stands, up to each of its events: a judge that lets calls begin later
+-- explains no more.
+abbrev pub LaterExplainsNoMore : Type 0
+LaterExplainsNoMore =
+    (limits : Bounds) (run handed : List Event) (k : ℕ) → AreInForm run → BeginsLater run handed →
+    AreExplained limits (take k handed) → AreExplained limits (take k run)
 
 -- the verdict tells that the run is explained before this event
 abbrev pub TellsOf : Verdict → ℕ → Type 0

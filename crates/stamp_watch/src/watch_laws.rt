@@ -1,4 +1,5 @@
 //! Laws of runs. Each function does nothing; its contract is the law, over the definitions alone.
+ghost use Rattle.stamp_watch.specs.Late.{LaterExplainsNoMore};
 ghost use Rattle.stamp_watch.specs.WatchLaws.{AtOnceLosesNothing, BeginsFirst, BeginsLate, BeginsSooner, EndlessAlikeFirst, ExplainedAsObserved, OpeningStands, ReturnsFirst, SetsGoOn, SetsTell, ShorterStayExplained, SoonerAlikeFirst, StuckAsObserved, StuckAsSeen, StuckIsExact, TakesEffectFirst, UnchangingNeverNeeded, WithdrawnMayBeLeftOut, WithdrawnTakesNoEffect, WithdrawsFirst};
 
 /// Where a call begins next, nothing is lost if it begins before other calls take effect.
@@ -85,6 +86,11 @@ pub fn begins_late()
 /// A way on which a call begins later is one on which it begins sooner.
 pub fn begins_sooner()
     ensures { BeginsSooner }
+{}
+
+/// A run in which calls begin later is explained only where the run is as it stands, up to each of its events.
+pub fn later_explains_no_more()
+    ensures { LaterExplainsNoMore }
 {}
 
 /// A run in form is explained exactly where it is as an observed history, whose positions are the numbers of the
