@@ -1,9 +1,10 @@
 -- How the events of a run are handed on to a judge.
-use Rattle.std.proofs.Common.{◌≡◌, ◌≢◌, ◌⊎◌, ◌+◌, ◌-◌, ◌<◌, ◌≤◌, ℕ, zero, suc, List, [], ◌∷◌, ◌++◌, length, get_or, Option}
+use Rattle.std.proofs.Common.{◌≡◌, ◌≢◌, ◌⊎◌, ◌+◌, ◌-◌, ◌<◌, ◌≤◌, ℕ, zero, suc, List, [], ◌∷◌, ◌++◌, length, get_or, Option, true, false}
 use Rattle.std.proofs.Common.{Some, None, refl, sym, ◌∙◌, ap, subst, inl, inr, arith, append_assoc, append-nil}
 use Rattle.std.specs.Prelude.{take, drop}
 use Rattle.std.specs.List.{All, AllPairs, remove}
-use Rattle.std.proofs.lemmas.Bool.{cases_lt}
+use Rattle.std.specs.Option.{is_some}
+use Rattle.std.proofs.lemmas.Bool.{cases_lt, false≢true}
 use Rattle.std.proofs.lemmas.List.{length-append, length_push, take-append-le, drop-append-le, get_or-take, get_or-drop}
 use Rattle.std.proofs.lemmas.List.{length-take-le, length-drop, take-append-drop}
 use Rattle.std.proofs.lemmas.List.Elements.{All-head, All-tail, All-nil, All-push, All-take, All-drop, All-append}
@@ -183,6 +184,14 @@ module _ (ahead : ℕ) (run given aside waiting : List Event) (first : Option �
 abbrev pub first_or : ℕ → Option ℕ → Option ℕ
 first_or number None = Some number
 first_or number (Some first) = Some first
+
+pub first_or_none : (number : ℕ) (first : Option ℕ) → is_some first ≡ false → Some number ≡ first_or number first
+first_or_none number None none = refl
+first_or_none number (Some first) none = absurd (false≢true (sym none))
+
+pub first_or_some : (number : ℕ) (first : Option ℕ) → is_some first ≡ true → first ≡ first_or number first
+first_or_some number None some = absurd (false≢true some)
+first_or_some number (Some first) some = refl
 
 -- the first event that waits no longer does
 module _ (ahead : ℕ) (run given aside waiting : List Event) (x : Event) (first : Option ℕ) (passed : ℕ)

@@ -64,6 +64,11 @@ pub record IsReady (delay : Delay) : Type 0 where
   pub delayed : IsDelayed limits most ahead run delay
   pub going : delay.judge.found ≡ None
 
+-- this event may come next
+pub record IsReadyFor (e : Event) (delay : Delay) : Type 0 where
+  pub ready : IsReady delay
+  pub whole : AreOfLock (ready.run ++ e ∷ [])
+
 -- few events are kept
 pub record IsSmallDelay (ahead : ℕ) (delay : Delay) : Type 0 where
   pub limits : Bounds

@@ -2,11 +2,11 @@
 //!
 //! An event waits until so many came behind it. If it begins a call, and no event of its lane waits then, the call is
 //! put aside: it begins once its end comes in, before the events that wait. Otherwise the judge is given the event.
-ghost use Rattle.std.specs.Prelude.{◌≡◌, ◌≢◌, ◌+◌, ◌^◌, ◌<◌, ◌≤◌, ◌++◌, ◌∷◌, ℕ, List, [], IfOk, IsTrue, MatchOption, Option, Some, None, length};
+ghost use Rattle.std.specs.Prelude.{◌≡◌, ◌≢◌, ◌+◌, ◌*◌, ◌↔◌, false, ◌^◌, ◌<◌, ◌≤◌, ◌++◌, ◌∷◌, ℕ, List, [], IfOk, IsTrue, MatchOption, OnOk, Option, Some, None, length};
 ghost use Rattle.std.specs.List.{All};
 ghost use Rattle.stamp_core.specs.Limits.{Bounds};
 ghost use Rattle.stamp_watch.specs.declared.event.Event.{Event};
-ghost use Rattle.stamp_watch.specs.Delay.{IsDelayed, IsReady, IsSmallDelay, IsSpared};
+ghost use Rattle.stamp_watch.specs.Delay.{IsDelayed, IsReady, IsReadyFor, IsSmallDelay, IsSpared};
 ghost use Rattle.stamp_watch.specs.Judge.{IsJudge, IsJudgeOfSome};
 ghost use Rattle.stamp_watch.specs.Late.{IsFoundOf, lane_of};
 ghost use Rattle.stamp_watch.specs.Verdict.{AreOfLock};
@@ -19,6 +19,7 @@ use crate::verdict::Verdict;
 use stamp_core::Limits;
 use std::alloc::{AllocError, Global};
 use std::collections::VecDeque;
+use std::slice::from_ref;
 
 /// A judge, and the events that it was not given yet: those that wait, and the beginnings that are aside.
 #[derive(Drop)]
@@ -71,6 +72,13 @@ fn is_late(event: &Event, waiting: &VecDeque<Event>) -> bool
         Event::Begins(lane, _) => is_spared(waiting, *lane),
         _ => false,
     }
+}
+
+/// Puts an event behind those that wait.
+fn put_behind(waiting: &mut VecDeque<Event>, event: &Event) -> Result<(), AllocError>
+    ensures { OnOk result (waiting.new.items ≡ waiting.old.items ++ event.now ∷ []) }
+{
+    waiting.extend(from_ref(event))
 }
 
 /// Gives a judge these events, as long as it has found nothing.
@@ -167,6 +175,7 @@ impl Delay {
         ensures begun { IfOk result (λ _. IsSpared self.new.aside.items lane) }
         ensures waiting { IfOk result (λ _. self.new.waiting ≡ self.old.waiting) }
         ensures passed { IfOk result (λ _. self.new.passed ≡ self.old.passed) }
+        ensures ahead { IfOk result (λ _. self.new.ahead ≡ self.old.ahead) }
     {
         match place_of(self.aside.as_slice(), lane) {
             Some(place) => {
@@ -196,7 +205,7 @@ impl Delay {
         let number = self.passed;
         self.passed += 1;
         if is_late(&event, &self.waiting) {
-            self.aside.push(event)?;
+            self.aside.extend_from_slice(from_ref(&event))?;
             if self.first_late.is_none() {
                 self.first_late = Some(number);
             }
@@ -207,7 +216,7 @@ impl Delay {
 
     /// One more event, which may come there.
     pub(crate) fn push(&mut self, event: &Event) -> Result<Option<Verdict>, AllocError>
-        requires ready { IsReady self.old }
+        requires ready { IsReadyFor event.now self.old }
         requires room { self.old.passed + length self.old.waiting.items + 1 < 2 ^ 64 }
         requires few { length self.old.waiting.items ≤ self.old.ahead }
         ensures delayed { IfOk result (λ _. (limits : Bounds) (most ahead : ℕ) (run : List Event)
@@ -218,7 +227,7 @@ impl Delay {
             × (length self.new.waiting.items ≤ self.old.ahead + 1)) }
     {
         let begun = self.begin_late(lane_of(event))?;
-        self.waiting.push_back(*event)?;
+        put_behind(&mut self.waiting, event)?;
         match begun {
             Some(verdict) => Ok(Some(verdict)),
             None => self.hand_on(),
