@@ -3,18 +3,20 @@ use Rattle.std.proofs.Common.{◌≡◌, ◌≢◌, ◌+◌, ◌^◌, ◌<◌, �
 use Rattle.std.proofs.Common.{◌-◌, refl, sym, ◌∙◌, ap, subst, arith, append_assoc, append-nil}
 use Rattle.std.specs.Prelude.{take, drop}
 use Rattle.std.proofs.lemmas.List.{length_push, take-append-drop}
+use Rattle.std.proofs.lemmas.List.Elements.{All-nil}
 use Rattle.stamp_core.specs.Limits.{Bounds}
 use Rattle.stamp_watch.specs.declared.delay.Delay.{Delay}
 use Rattle.stamp_watch.specs.declared.event.Event.{Event}
 use Rattle.stamp_watch.specs.declared.event.Event.TheVariants.{Begins, Returns, Withdraws}
 use Rattle.stamp_watch.specs.declared.online.Judge.{Judge}
 use Rattle.stamp_watch.specs.declared.verdict.Verdict.{Verdict}
-use Rattle.stamp_watch.specs.Delay.{IsDelayed, IsHandedOn, IsReady, IsSpared}
+use Rattle.stamp_watch.specs.Delay.{IsBeginning, IsDelayed, IsHandedOn, IsReady, IsReadyFor, IsSpared}
 use Rattle.stamp_watch.specs.Judge.{HasRoomForOne, IsGiven, IsJudge, IsJudgeOfSome}
 use Rattle.stamp_watch.specs.Late.{lane_of}
+use Rattle.stamp_watch.specs.Late.BeginsLater.{as_it_is}
 use Rattle.stamp_watch.specs.Verdict.{AreOfLock, IsOfLock}
 use Rattle.stamp_watch.specs.inner.Delay.{HasRoomFor, IsToBeAside}
-use Rattle.stamp_watch.proofs.Forming.{next_of_lock}
+use Rattle.stamp_watch.proofs.Forming.{form_first, next_of_lock}
 use Rattle.stamp_watch.proofs.GoingOn.{judge_stays, run_long, way_of}
 use Rattle.stamp_watch.proofs.HandingOn.{first_or, given_length, handed_aside, handed_passes, handed_waits}
 use Rattle.stamp_watch.proofs.Reading.{take_read}
@@ -178,3 +180,43 @@ module _ (events : List Event) (k : ℕ) (e : Event) (old new : Judge) (less : k
         room.room none in
         omega (arith, before, behind, long, less_then, less);
   }
+
+-- before any event
+pub delayed_first : (limits : Bounds) (most ahead : ℕ) (delay : Delay) → IsJudge limits most ahead [] delay.judge →
+    delay.ahead ≡ ahead → delay.aside.items ≡ [] → delay.waiting.items ≡ [] → delay.first_late ≡ None →
+    delay.passed ≡ 0 → IsDelayed limits most ahead [] delay
+delayed_first limits most ahead delay judge_of far aside_is waiting_is first_is passed_is = record {
+  whole = form_first.0;
+  ahead_is = far;
+  given = [];
+  judge_of = judge_of;
+  handed = handed_as ahead [] [] [] delay.aside.items [] delay.waiting.items None delay.first_late 0 delay.passed
+      aside_is waiting_is first_is passed_is (record {
+        past = [];
+        passed_is = refl;
+        run_is = refl;
+        asides = record {
+          begin = All-nil IsBeginning;
+          lanes = All-nil (λ (e : Event). lane_of e < 64);
+          apart = λ i j d less within. absurd (omega (arith, within));
+          spared = All-nil (λ (e : Event). IsSpared [] (lane_of e));
+        };
+        later = λ more. as_it_is;
+        first_is = (refl, refl);
+      });
+}
+
+-- once one more event waits
+pub ready_then : (old new : Delay) (e : Event) (ready : IsReadyFor e old) →
+    ((limits : Bounds) (most ahead : ℕ) (run : List Event) → IsDelayed limits most ahead run old →
+    AreOfLock (run ++ e ∷ []) → IsDelayed limits most ahead (run ++ e ∷ []) new) → new.judge.found ≡ None →
+    IsReady new
+ready_then old new e for_one goes none = record {
+  limits = for_one.ready.limits;
+  most = for_one.ready.most;
+  ahead = for_one.ready.ahead;
+  run = for_one.ready.run ++ e ∷ [];
+  delayed = goes for_one.ready.limits for_one.ready.most for_one.ready.ahead for_one.ready.run for_one.ready.delayed
+      for_one.whole;
+  going = none;
+}
