@@ -66,10 +66,12 @@ impl LateJudge {
     {
         self.busy = busy;
         let found = self.delay.push(event)?;
-        if let Some(verdict) = found {
-            self.found = Some(self.delay.finding(verdict));
-        }
-        Ok(self.found)
+        let Some(verdict) = found else {
+            return Ok(None);
+        };
+        let finding = self.delay.finding(verdict);
+        self.found = Some(finding);
+        Ok(Some(finding))
     }
 
     /// Ends with an event that may not come there.
@@ -84,8 +86,9 @@ impl LateJudge {
     {
         let number = self.delay.count();
         let rest = self.delay.rest()?;
-        self.found = Some(broken_off(rest, number));
-        Ok(self.found)
+        let finding = broken_off(rest, number);
+        self.found = Some(finding);
+        Ok(Some(finding))
     }
 
     /// Looks at one more event.
