@@ -1,6 +1,6 @@
 -- A run in which calls begin later is explained only where the run is.
-use Rattle.std.proofs.Common.{◌≡◌, ◌≢◌, ◌⊎◌, ◌+◌, ◌-◌, ◌<◌, ◌≤◌, ℕ, zero, suc, Bool, true, false, List, [], ◌∷◌, ◌++◌}
-use Rattle.std.proofs.Common.{length, refl, sym, ◌∙◌, ap, subst, inl, inr, arith, append_assoc, ne_eqb, ◌==◌}
+use Rattle.std.proofs.Common.{◌≡◌, ◌≢◌, ◌⊎◌, ◌+◌, ◌-◌, ◌<◌, ◌≤◌, ℕ, zero, suc, Bool, false, List, [], ◌∷◌, ◌++◌}
+use Rattle.std.proofs.Common.{length, refl, sym, ◌∙◌, ap, subst, inl, inr, arith, append_assoc, ne_eqb}
 use Rattle.std.specs.Prelude.{take, not, ◌&&◌, ◌||◌}
 use Rattle.std.specs.List.{All, fold}
 use Rattle.std.proofs.lemmas.Bool.{cases_eq, cases_lt}

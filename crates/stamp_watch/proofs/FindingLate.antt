@@ -1,6 +1,6 @@
 -- What a judge's verdict tells of a run in which calls begin later.
 use Rattle.std.proofs.Common.{◌≡◌, ◌≢◌, ◌⊎◌, ◌+◌, ◌<◌, ◌≤◌, ℕ, List, [], ◌∷◌, ◌++◌, length, Option, Some, None, refl}
-use Rattle.std.proofs.Common.{sym, ◌∙◌, ap, subst, inl, inr, arith, append_assoc, append-nil}
+use Rattle.std.proofs.Common.{sym, ◌∙◌, ap, subst, inl, inr, arith, append_assoc}
 use Rattle.std.specs.Prelude.{take, drop}
 use Rattle.std.proofs.lemmas.Bool.{cases_lt}
 use Rattle.std.proofs.lemmas.List.{length-append, length_push, take-append-le, take-take, take_all}
@@ -18,11 +18,11 @@ use Rattle.stamp_watch.specs.Judging.{IsFound}
 use Rattle.stamp_watch.specs.Late.{BeginsLater, IsFoundOf, RestsOn, TellsOf}
 use Rattle.stamp_watch.specs.Run.{AreExplained}
 use Rattle.stamp_watch.specs.Verdict.{AreOfLock, AreTooMany, IsOpenFor, IsVerdict}
-use Rattle.stamp_watch.specs.inner.Course.{IsOver, IsRest}
-use Rattle.stamp_watch.specs.inner.Delay.{IsFindingBy, IsFindingOf, IsLateRest, RestsBefore}
+use Rattle.stamp_watch.specs.inner.Course.{IsRest}
+use Rattle.stamp_watch.specs.inner.Delay.{IsFindingOf, IsLateRest, RestsBefore}
 use Rattle.stamp_watch.proofs.BeginningLater.{later_as_long, later_explains_no_more}
 use Rattle.stamp_watch.proofs.Forming.{next_of_lock, of_lock_up_to}
-use Rattle.stamp_watch.proofs.HandingOn.{given_length, open_still, passed_length}
+use Rattle.stamp_watch.proofs.HandingOn.{open_still}
 use Rattle.stamp_watch.proofs.Running.{found_now, rest_now}
 
 -- an event that comes in no run

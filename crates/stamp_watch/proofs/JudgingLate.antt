@@ -1,6 +1,6 @@
 -- A judge that puts calls aside which are open for long.
-use Rattle.std.proofs.Common.{◌≡◌, ◌≢◌, ◌+◌, ◌^◌, ◌<◌, ◌≤◌, ℕ, List, [], ◌∷◌, ◌++◌, length, get_or, Option, Some, None}
-use Rattle.std.proofs.Common.{refl, sym, ◌∙◌, ap, subst, arith, append_assoc, append-nil, map}
+use Rattle.std.proofs.Common.{◌≡◌, ◌≢◌, ◌+◌, ◌<◌, ◌≤◌, ℕ, List, [], ◌∷◌, ◌++◌, length, Option, Some, None}
+use Rattle.std.proofs.Common.{sym, ◌∙◌, ap, subst, arith, append_assoc, append-nil, map}
 use Rattle.std.specs.Prelude.{MatchOption}
 use Rattle.std.specs.List.{All, AllPairs}
 use Rattle.std.proofs.lemmas.List.{length-map}
@@ -16,7 +16,7 @@ use Rattle.stamp_watch.specs.declared.late.LateJudge.{LateJudge}
 use Rattle.stamp_watch.specs.Delay.{AreAside, IsDelayed, IsReady, IsReadyFor, IsSmallDelay}
 use Rattle.stamp_watch.specs.Judging.{AreBusyLanes}
 use Rattle.stamp_watch.specs.Late.{IsFinding, IsFoundOf, lane_of}
-use Rattle.stamp_watch.specs.LateJudge.{IsLateJudge, IsLateJudgeOfSome, IsLateUnderWay}
+use Rattle.stamp_watch.specs.LateJudge.{IsLateJudge, IsLateUnderWay}
 use Rattle.stamp_watch.specs.Verdict.{AreOfLock}
 use Rattle.stamp_watch.specs.inner.Delay.{IsLateRest}
 use Rattle.stamp_watch.specs.inner.Judging.{MayComeIn, SetsBusy}

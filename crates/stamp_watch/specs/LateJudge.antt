@@ -1,13 +1,13 @@
 -- What a judge knows that puts calls aside which are open for long.
 use Rattle.std.specs.Prelude.{ℕ, ◌≡◌, ◌+◌, ◌^◌, ◌<◌, ◌≤◌, ◌++◌, List, [], ◌∷◌, length}
-use Rattle.std.specs.Prelude.{Option, Some, None, MatchOption}
+use Rattle.std.specs.Prelude.{Option, None, MatchOption}
 use Rattle.stamp_core.specs.Limits.{Bounds}
 use Rattle.stamp_watch.specs.declared.event.Event.{Event}
 use Rattle.stamp_watch.specs.declared.finding.Finding.{Finding}
 use Rattle.stamp_watch.specs.declared.late.LateJudge.{LateJudge}
 use Rattle.stamp_watch.specs.Delay.{IsDelayed, IsSmallDelay}
 use Rattle.stamp_watch.specs.Judging.{AreBusyLanes}
-use Rattle.stamp_watch.specs.Late.{IsFinding, IsFoundOf}
+use Rattle.stamp_watch.specs.Late.{IsFoundOf}
 use Rattle.stamp_watch.specs.Verdict.{AreOfLock}
 
 -- nothing was found of the run yet

@@ -1,9 +1,7 @@
 -- How events wait before a judge is given them.
-use Rattle.std.specs.Prelude.{ℕ, ◌≡◌, ◌≢◌, ◌+◌, ◌^◌, ◌<◌, ◌≤◌, ◌++◌, List, [], ◌∷◌, length, slice_index_or}
-use Rattle.std.specs.Prelude.{Option, Some, None, MatchOption}
-use Rattle.std.specs.List.{All}
+use Rattle.std.specs.Prelude.{ℕ, ◌≡◌, ◌+◌, ◌^◌, ◌<◌, ◌≤◌, List, length, slice_index_or}
+use Rattle.std.specs.Prelude.{Option, Some, None}
 use Rattle.stamp_core.specs.Limits.{Bounds}
-use Rattle.stamp_watch.specs.declared.delay.Delay.{Delay}
 use Rattle.stamp_watch.specs.declared.event.Event.{Event}
 use Rattle.stamp_watch.specs.declared.event.Event.TheVariants.{Begins, Returns, Withdraws}
 use Rattle.stamp_watch.specs.declared.finding.Finding.{Finding}
@@ -11,10 +9,8 @@ use Rattle.stamp_watch.specs.declared.finding.Finding.TheVariants.{Is, Late}
 use Rattle.stamp_watch.specs.declared.online.Judge.{Judge}
 use Rattle.stamp_watch.specs.declared.verdict.Verdict.{Verdict}
 use Rattle.stamp_watch.specs.declared.verdict.Verdict.TheVariants as verdict
-use Rattle.stamp_watch.specs.Delay.{IsDelayed, IsSpared}
-use Rattle.stamp_watch.specs.Judge.{IsJudge}
-use Rattle.stamp_watch.specs.Late.{IsFinding, IsFoundOf, RestsOn, TellsOf, lane_of}
-use Rattle.stamp_watch.specs.Verdict.{AreOfLock}
+use Rattle.stamp_watch.specs.Delay.{IsSpared}
+use Rattle.stamp_watch.specs.Late.{IsFoundOf, RestsOn, TellsOf, lane_of}
 use Rattle.stamp_watch.specs.inner.Course.{IsRest}
 
 -- the event at this place is of the lane

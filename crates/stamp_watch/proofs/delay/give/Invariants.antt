@@ -1,4 +1,4 @@
-use Rattle.std.proofs.Common.{ℕ, ◌≡◌, ◌++◌, ◌-◌, List, length}
+use Rattle.std.proofs.Common.{ℕ, ◌++◌, ◌-◌, List, length}
 use Rattle.std.specs.Prelude.{take}
 use Rattle.stamp_core.specs.Limits.{Bounds}
 use Rattle.stamp_watch.specs.declared.event.Event.{Event}

@@ -1,4 +1,3 @@
-use Rattle.std.proofs.Common.{Some}
 use Rattle.stamp_watch.proofs.FindingLate.{found_by}
 use Rattle.stamp_watch.proofs.GoingOn.{found_of}
 use Rattle.stamp_watch.proofs.delay.Delay.finding.Goals as goal

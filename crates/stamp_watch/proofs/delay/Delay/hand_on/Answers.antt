@@ -1,4 +1,4 @@
-use Rattle.std.proofs.Common.{rules, ◌≡◌, ◌+◌, ◌-◌, ◌<◌, ◌≤◌, ℕ, suc, List, [], ◌∷◌, ◌++◌, Option, arith, length, subst, sym, refl, ap, ◌∙◌, None, Some}
+use Rattle.std.proofs.Common.{rules, ◌≡◌, ◌+◌, ◌-◌, suc, List, ◌++◌, arith, length, refl, ap, ◌∙◌}
 use Rattle.std.proofs.lemmas.Result.{IfOk-weaker}
 use Rattle.stamp_watch.specs.declared.event.Event.{Event}
 use Rattle.stamp_watch.proofs.Delaying.{delayed_aside, delayed_passes, room_for_one}

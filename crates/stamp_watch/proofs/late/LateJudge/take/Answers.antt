@@ -1,5 +1,4 @@
-use Rattle.std.proofs.Common.{[], ◌∷◌, ◌++◌, ◌∙◌, ℕ, refl}
-use Rattle.stamp_core.specs.Limits.{Bounds}
+use Rattle.std.proofs.Common.{[], ◌∷◌, ◌++◌, ◌∙◌, refl}
 use Rattle.stamp_watch.proofs.JudgingLate.{few_wait, late_finds, late_goes_on, late_way, ready_for, whole_then}
 use Rattle.stamp_watch.proofs.late.LateJudge.take.Goals as goal
 
