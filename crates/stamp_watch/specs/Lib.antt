@@ -15,3 +15,4 @@ pub mod WatchLaws
 pub mod Late
 pub mod Delay
 pub mod LateJudge
+pub mod LateLaws

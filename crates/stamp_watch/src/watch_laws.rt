@@ -1,5 +1,6 @@
 //! Laws of runs. Each function does nothing; its contract is the law, over the definitions alone.
 ghost use Rattle.stamp_watch.specs.Late.{LaterExplainsNoMore};
+ghost use Rattle.stamp_watch.specs.LateLaws.{LateLosesNothing, OlderIsTold};
 ghost use Rattle.stamp_watch.specs.WatchLaws.{AtOnceLosesNothing, BeginsFirst, BeginsLate, BeginsSooner, EndlessAlikeFirst, ExplainedAsObserved, OpeningStands, ReturnsFirst, SetsGoOn, SetsTell, ShorterStayExplained, SoonerAlikeFirst, StuckAsObserved, StuckAsSeen, StuckIsExact, TakesEffectFirst, UnchangingNeverNeeded, WithdrawnMayBeLeftOut, WithdrawnTakesNoEffect, WithdrawsFirst};
 
 /// Where a call begins next, nothing is lost if it begins before other calls take effect.
@@ -91,6 +92,16 @@ pub fn begins_sooner()
 /// A run in which calls begin later is explained only where the run is as it stands, up to each of its events.
 pub fn later_explains_no_more()
     ensures { LaterExplainsNoMore }
+{}
+
+/// Events among which a call begins and returns go on only where the lock has no newer version than its reply tells.
+pub fn older_is_told()
+    ensures { OlderIsTold }
+{}
+
+/// Nothing is lost if a call begins later, before events that tell an older version than its own reply tells.
+pub fn late_loses_nothing()
+    ensures { LateLosesNothing }
 {}
 
 /// A run in form is explained exactly where it is as an observed history, whose positions are the numbers of the
