@@ -27,6 +27,7 @@ mod machine_tests;
 #[cfg(test)]
 mod migration_tests;
 #[cfg(test)]
+mod late_tests;
 mod online_tests;
 #[cfg(test)]
 mod plain_check;

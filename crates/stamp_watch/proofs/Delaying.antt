@@ -47,7 +47,7 @@ judge_known delay ready = record {
 
 module _ (delay : Delay) (ready : IsReady delay) where
   pub given_of_all : length ready.delayed.given + length delay.aside.items ≡ delay.passed
-  given_of_all = given_length ready.ahead ready.run ready.delayed.given delay.aside.items delay.waiting.items
+  given_of_all = given_length (ready.ahead - 64) ready.run ready.delayed.given delay.aside.items delay.waiting.items
       delay.first_late delay.passed ready.delayed.handed
 
   -- the judge can number an event, where some were not given to it
@@ -87,10 +87,10 @@ module _ (limits : Bounds) (most ahead : ℕ) (run : List Event) (old : Delay)
     ahead_is = far ∙ is.ahead_is;
     given = is.given;
     judge_of = subst (IsJudge limits most ahead is.given) (sym judge_is) is.judge_of;
-    handed = handed_as ahead (run ++ e ∷ []) is.given old.aside.items new.aside.items (old.waiting.items ++ e ∷ [])
+    handed = handed_as (ahead - 64) (run ++ e ∷ []) is.given old.aside.items new.aside.items (old.waiting.items ++ e ∷ [])
         new.waiting.items old.first_late new.first_late old.passed new.passed (ap (λ v. v.items) aside_is) waiting_is
         first_is passed_is
-        (handed_waits ahead run is.given old.aside.items old.waiting.items old.first_late old.passed is.handed e
+        (handed_waits (ahead - 64) run is.given old.aside.items old.waiting.items old.first_late old.passed is.handed e
         spared);
   }
 
@@ -98,8 +98,8 @@ module _ (limits : Bounds) (most ahead : ℕ) (run : List Event) (old : Delay)
   module _ (x : Event) (rest : List Event) (some : old.waiting.items ≡ x ∷ rest) (new : Delay)
       (far : new.ahead ≡ old.ahead) (waiting_is : new.waiting.items ≡ rest) (passed_is : new.passed ≡ old.passed + 1)
       where
-    handed_here : IsHandedOn ahead run is.given old.aside.items (x ∷ rest) old.first_late old.passed
-    handed_here = subst (λ (xs : List Event). IsHandedOn ahead run is.given old.aside.items xs old.first_late
+    handed_here : IsHandedOn (ahead - 64) run is.given old.aside.items (x ∷ rest) old.first_late old.passed
+    handed_here = subst (λ (xs : List Event). IsHandedOn (ahead - 64) run is.given old.aside.items xs old.first_late
         old.passed) some is.handed
 
     low : lane_of x < 64
@@ -112,9 +112,9 @@ module _ (limits : Bounds) (most ahead : ℕ) (run : List Event) (old : Delay)
       ahead_is = far ∙ is.ahead_is;
       given = is.given ++ x ∷ [];
       judge_of = given limits most ahead is.given is.judge_of;
-      handed = handed_as ahead run (is.given ++ x ∷ []) old.aside.items new.aside.items rest new.waiting.items
+      handed = handed_as (ahead - 64) run (is.given ++ x ∷ []) old.aside.items new.aside.items rest new.waiting.items
           old.first_late new.first_late (old.passed + 1) new.passed (ap (λ v. v.items) aside_is) waiting_is first_is
-          passed_is (handed_passes ahead run is.given old.aside.items rest x old.first_late old.passed handed_here);
+          passed_is (handed_passes (ahead - 64) run is.given old.aside.items rest x old.first_late old.passed handed_here);
     }
 
     pub delayed_aside : IsToBeAside x rest → old.ahead ≤ length rest → new.judge ≡ old.judge →
@@ -125,10 +125,10 @@ module _ (limits : Bounds) (most ahead : ℕ) (run : List Event) (old : Delay)
       ahead_is = far ∙ is.ahead_is;
       given = is.given;
       judge_of = subst (IsJudge limits most ahead is.given) (sym judge_is) is.judge_of;
-      handed = handed_as ahead run is.given (old.aside.items ++ x ∷ []) new.aside.items rest new.waiting.items
+      handed = handed_as (ahead - 64) run is.given (old.aside.items ++ x ∷ []) new.aside.items rest new.waiting.items
           (first_or old.passed old.first_late) new.first_late (old.passed + 1) new.passed aside_is waiting_is first_is
-          passed_is (handed_aside ahead run is.given old.aside.items rest x old.first_late old.passed handed_here to
-          (let same : old.ahead ≡ ahead = is.ahead_is in omega (arith, same, many)) low);
+          passed_is (handed_aside (ahead - 64) run is.given old.aside.items rest x old.first_late old.passed handed_here to
+          (let same : old.ahead ≡ ahead - 64 = is.ahead_is in omega (arith, same, many)) low);
     }
 
 -- a judge that has found something stays that of the run, whatever comes
@@ -183,14 +183,14 @@ module _ (events : List Event) (k : ℕ) (e : Event) (old new : Judge) (less : k
 
 -- before any event
 pub delayed_first : (limits : Bounds) (most ahead : ℕ) (delay : Delay) → IsJudge limits most ahead [] delay.judge →
-    delay.ahead ≡ ahead → delay.aside.items ≡ [] → delay.waiting.items ≡ [] → delay.first_late ≡ None →
+    delay.ahead ≡ ahead - 64 → delay.aside.items ≡ [] → delay.waiting.items ≡ [] → delay.first_late ≡ None →
     delay.passed ≡ 0 → IsDelayed limits most ahead [] delay
 delayed_first limits most ahead delay judge_of far aside_is waiting_is first_is passed_is = record {
   whole = form_first.0;
   ahead_is = far;
   given = [];
   judge_of = judge_of;
-  handed = handed_as ahead [] [] [] delay.aside.items [] delay.waiting.items None delay.first_late 0 delay.passed
+  handed = handed_as (ahead - 64) [] [] [] delay.aside.items [] delay.waiting.items None delay.first_late 0 delay.passed
       aside_is waiting_is first_is passed_is (record {
         past = [];
         passed_is = refl;

@@ -1,5 +1,5 @@
 -- What a judge's verdict tells of a run in which calls begin later.
-use Rattle.std.proofs.Common.{◌≡◌, ◌≢◌, ◌⊎◌, ◌+◌, ◌<◌, ◌≤◌, ℕ, List, [], ◌∷◌, ◌++◌, length, Option, Some, None, refl}
+use Rattle.std.proofs.Common.{◌-◌, ◌≡◌, ◌≢◌, ◌⊎◌, ◌+◌, ◌<◌, ◌≤◌, ℕ, List, [], ◌∷◌, ◌++◌, length, Option, Some, None, refl}
 use Rattle.std.proofs.Common.{sym, ◌∙◌, ap, subst, inl, inr, arith, append_assoc}
 use Rattle.std.specs.Prelude.{take, drop}
 use Rattle.std.proofs.lemmas.Bool.{cases_lt}
@@ -119,13 +119,13 @@ module _ (limits : Bounds) (run handed : List Event) (most ahead first : ℕ) (w
 -- the judge was not given the run as it stands
 late_found : (limits : Bounds) (run handed : List Event) (most ahead first k : ℕ) (v : Verdict) → AreOfLock run →
     BeginsLater run handed → IsVerdict limits handed most (Some ahead) v → IsPlace limits run k → TellsOf v k →
-    RestsOn v first → IsOpenFor run first ahead → first < length run →
+    RestsOn v first → IsOpenFor run first (ahead - 64) → first < length run →
     IsFoundOf limits run most ahead (finding.Late k)
 late_found limits run handed most ahead first k v whole later has place tells rests opened less more = record {
   whole = subst AreOfLock (sym (take-append-le k run more place.within)) (of_lock_up_to k run whole);
   explained = subst (AreExplained limits) (sym (take-append-le k run more place.within)) place.explained;
   late = first;
-  open_for = open_still run more first ahead less opened;
+  open_for = open_still run more first (ahead - 64) less opened;
   place = length run;
   before = less;
   handed = handed;
@@ -137,7 +137,7 @@ late_found limits run handed most ahead first k v whole later has place tells re
 }
 
 module _ (limits : Bounds) (most ahead : ℕ) (run given aside waiting : List Event) (first : Option ℕ) (passed : ℕ)
-    (whole : AreOfLock run) (is : IsHandedOn ahead run given aside waiting first passed) where
+    (whole : AreOfLock run) (is : IsHandedOn (ahead - 64) run given aside waiting first passed) where
   later_here : BeginsLater run (given ++ (aside ++ waiting))
   later_here = subst (λ (xs : List Event). BeginsLater xs (given ++ (aside ++ waiting))) (sym is.run_is)
       (is.later waiting)
@@ -176,7 +176,7 @@ module _ (limits : Bounds) (most ahead : ℕ) (run given aside waiting : List Ev
     pub found_by : (f : Finding) → IsFindingOf first v f → IsFoundOf limits run most ahead f
     found_by f by_it = by first is.first_is f by_it
       where
-        by : (n : Option ℕ) → IsFirstIfAny ahead run is.past given aside n → (g : Finding) → IsFindingOf n v g →
+        by : (n : Option ℕ) → IsFirstIfAny (ahead - 64) run is.past given aside n → (g : Finding) → IsFindingOf n v g →
             IsFoundOf limits run most ahead g
         by None none g same = subst (IsFoundOf limits run most ahead) (sym same)
             (λ more. subst (λ (xs : List Event). IsVerdict limits xs most (Some ahead) v)
@@ -222,7 +222,7 @@ module _ (limits : Bounds) (most ahead : ℕ) (run given aside waiting : List Ev
     pub rest_by : (f : Finding) → IsFindingOf first v f → IsLateRest limits run most ahead f
     rest_by f by_it = by first is.first_is f by_it
       where
-        by : (n : Option ℕ) → IsFirstIfAny ahead run is.past given aside n → (g : Finding) → IsFindingOf n v g →
+        by : (n : Option ℕ) → IsFirstIfAny (ahead - 64) run is.past given aside n → (g : Finding) → IsFindingOf n v g →
             IsLateRest limits run most ahead g
         by None none g same = subst (IsLateRest limits run most ahead) (sym same)
             (subst (λ (xs : List Event). IsRest limits xs most (Some ahead) v) (as_it_stands none) rest)

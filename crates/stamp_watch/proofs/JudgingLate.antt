@@ -1,5 +1,5 @@
 -- A judge that puts calls aside which are open for long.
-use Rattle.std.proofs.Common.{◌≡◌, ◌≢◌, ◌+◌, ◌<◌, ◌≤◌, ℕ, List, [], ◌∷◌, ◌++◌, length, Option, Some, None}
+use Rattle.std.proofs.Common.{◌-◌, ◌≡◌, ◌≢◌, ◌+◌, ◌<◌, ◌≤◌, ℕ, List, [], ◌∷◌, ◌++◌, length, Option, Some, None}
 use Rattle.std.proofs.Common.{sym, ◌∙◌, ap, subst, arith, append_assoc, append-nil, map}
 use Rattle.std.specs.Prelude.{MatchOption}
 use Rattle.std.specs.List.{All, AllPairs}
@@ -56,7 +56,7 @@ IsStateThen limits most ahead run judge found = MatchOption found (IsLateUnderWa
 
 goes_on : (limits : Bounds) (most ahead : ℕ) (run : List Event) (judge : LateJudge) →
     IsDelayed limits most ahead run judge.delay → judge.delay.judge.found ≡ None → AreBusyLanes run judge.busy →
-    length judge.delay.waiting.items ≤ ahead → judge.found ≡ None → IsLateJudge limits most ahead run judge
+    length judge.delay.waiting.items ≤ ahead - 64 → judge.found ≡ None → IsLateJudge limits most ahead run judge
 goes_on limits most ahead run judge delayed going lanes few none = record {
   small = small_of limits most ahead run judge.delay delayed (omega (arith, few));
   state = subst (λ (o : Option Finding). IsStateThen limits most ahead run judge o) (sym none)
@@ -119,8 +119,8 @@ module _ (limits : Bounds) (most ahead : ℕ) (run : List Event) (judge : LateJu
     }
 
     pub few_wait : length judge.delay.waiting.items ≤ judge.delay.ahead
-    few_wait = let few : length judge.delay.waiting.items ≤ ahead = late_way.few in
-        let same : judge.delay.ahead ≡ ahead = late_way.delayed.ahead_is in omega (arith, few, same)
+    few_wait = let few : length judge.delay.waiting.items ≤ ahead - 64 = late_way.few in
+        let same : judge.delay.ahead ≡ ahead - 64 = late_way.delayed.ahead_is in omega (arith, few, same)
 
     module _ (e : Event) (busy : ℕ) (may : MayComeIn judge.busy e) (sets : SetsBusy judge.busy e busy) where
       pub whole_then : AreOfLock (run ++ e ∷ [])
@@ -136,21 +136,21 @@ module _ (limits : Bounds) (most ahead : ℕ) (run : List Event) (judge : LateJu
       late_goes_on new delayed going busy_is few unfound = goes_on limits most ahead (run ++ e ∷ []) new delayed going
           (subst (AreBusyLanes (run ++ e ∷ [])) (sym busy_is)
           (busy_lanes_then run judge.busy busy e late_way.lanes sets))
-          (let same : judge.delay.ahead ≡ ahead = late_way.delayed.ahead_is in omega (arith, few, same)) unfound
+          (let same : judge.delay.ahead ≡ ahead - 64 = late_way.delayed.ahead_is in omega (arith, few, same)) unfound
 
       pub late_finds : (new : LateJudge) (f : Finding) → IsDelayed limits most ahead (run ++ e ∷ []) new.delay →
           length new.delay.waiting.items ≤ judge.delay.ahead + 1 → new.found ≡ Some f →
           IsFoundOf limits (run ++ e ∷ []) most ahead f → IsLateJudge limits most ahead (run ++ e ∷ []) new
       late_finds new f delayed few some found = has_found limits most ahead (run ++ e ∷ []) new f
           (small_of limits most ahead (run ++ e ∷ []) new.delay delayed
-          (let same : judge.delay.ahead ≡ ahead = late_way.delayed.ahead_is in omega (arith, few, same))) some found
+          (let same : judge.delay.ahead ≡ ahead - 64 = late_way.delayed.ahead_is in omega (arith, few, same))) some found
 
     -- an event that may not come there
     pub late_broken : (e : Event) (number : ℕ) → number ≡ judge.delay.passed + length judge.delay.waiting.items →
         ¬ MayComeIn judge.busy e → (f : Finding) → IsLateRest limits run most ahead f →
         IsFoundOf limits (run ++ e ∷ []) most ahead (broken_off_there f number)
     late_broken e number at not_there (finding.Is v) rest = broken_found limits run most (Some ahead) judge.busy number e
-        (at ∙ passed_length ahead run late_way.delayed.given judge.delay.aside.items judge.delay.waiting.items
+        (at ∙ passed_length (ahead - 64) run late_way.delayed.given judge.delay.aside.items judge.delay.waiting.items
         judge.delay.first_late judge.delay.passed late_way.delayed.handed) late_way.lanes not_there v rest
     late_broken e number at not_there (finding.Late k) rest =
         found_then limits run most ahead e (finding.Late k) rest

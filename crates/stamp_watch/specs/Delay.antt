@@ -1,5 +1,5 @@
 -- Events that wait before a judge is given them.
-use Rattle.std.specs.Prelude.{ℕ, ◌≡◌, ◌≢◌, ◌+◌, ◌<◌, ◌≤◌, ◌++◌, List, [], ◌∷◌, length, take}
+use Rattle.std.specs.Prelude.{ℕ, ◌-◌, ◌≡◌, ◌≢◌, ◌+◌, ◌<◌, ◌≤◌, ◌++◌, List, [], ◌∷◌, length, take}
 use Rattle.std.specs.Prelude.{Option, Some, None}
 use Rattle.std.specs.List.{All, AllPairs}
 use Rattle.stamp_core.specs.Limits.{Bounds}
@@ -47,13 +47,14 @@ pub record IsHandedOn (ahead : ℕ) (run given aside waiting : List Event) (firs
   pub later : (more : List Event) → BeginsLater (past ++ more) (given ++ (aside ++ more))
   pub first_is : IsFirstIfAny ahead run past given aside first
 
--- the delay of a run in form
+-- the delay of a run in form, in front of a judge that looks at so many events. Up to 64 calls may begin late among
+-- those, so 64 fewer wait
 pub record IsDelayed (limits : Bounds) (most ahead : ℕ) (run : List Event) (delay : Delay) : Type 0 where
   pub whole : AreOfLock run
-  pub ahead_is : delay.ahead ≡ ahead
+  pub ahead_is : delay.ahead ≡ ahead - 64
   pub given : List Event
   pub judge_of : IsJudge limits most ahead given delay.judge
-  pub handed : IsHandedOn ahead run given delay.aside.items delay.waiting.items delay.first_late delay.passed
+  pub handed : IsHandedOn (ahead - 64) run given delay.aside.items delay.waiting.items delay.first_late delay.passed
 
 -- it is that of some run, and its judge has found nothing
 pub record IsReady (delay : Delay) : Type 0 where

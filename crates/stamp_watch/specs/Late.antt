@@ -1,5 +1,5 @@
 -- Runs with calls that are open for long, and what is found of them.
-use Rattle.std.specs.Prelude.{ℕ, ◌≡◌, ◌≢◌, ◌<◌, ◌≤◌, ◌++◌, List, ◌∷◌, take, Some}
+use Rattle.std.specs.Prelude.{ℕ, ◌≡◌, ◌≢◌, ◌-◌, ◌<◌, ◌≤◌, ◌++◌, List, ◌∷◌, take, Some}
 use Rattle.stamp_core.specs.Limits.{Bounds}
 use Rattle.stamp_core.specs.declared.call.Call.{Call}
 use Rattle.stamp_watch.specs.declared.event.Event.{Event}
@@ -56,14 +56,14 @@ RestsOn (StuckWithin k m) n = n < m
 RestsOn (Undecided k why) n = Unit {0}
 RestsOn (Broken k) n = Unit {0}
 
--- The run is explained before the event. A call that begins at an event before a place is open for as many events as
--- were allowed. The run up to that place, with calls begun later, has a verdict that rests on that call and tells of
+-- The run is explained before the event. A call that begins at an event before a place is open for all but 64 of the
+-- events that are looked at. The run up to that place, with calls begun later, has a verdict that rests on that call and tells of
 -- the event.
 pub record IsLate (limits : Bounds) (run : List Event) (most ahead k : ℕ) : Type 0 where
   pub whole : AreOfLock (take k run)
   pub explained : AreExplained limits (take k run)
   pub late : ℕ
-  pub open_for : IsOpenFor run late ahead
+  pub open_for : IsOpenFor run late (ahead - 64)
   pub place : ℕ
   pub before : late < place
   pub handed : List Event

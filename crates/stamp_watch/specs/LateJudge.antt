@@ -1,5 +1,5 @@
 -- What a judge knows that puts calls aside which are open for long.
-use Rattle.std.specs.Prelude.{ℕ, ◌≡◌, ◌+◌, ◌^◌, ◌<◌, ◌≤◌, ◌++◌, List, [], ◌∷◌, length}
+use Rattle.std.specs.Prelude.{ℕ, ◌-◌, ◌≡◌, ◌+◌, ◌^◌, ◌<◌, ◌≤◌, ◌++◌, List, [], ◌∷◌, length}
 use Rattle.std.specs.Prelude.{Option, None, MatchOption}
 use Rattle.stamp_core.specs.Limits.{Bounds}
 use Rattle.stamp_watch.specs.declared.event.Event.{Event}
@@ -15,7 +15,7 @@ pub record IsLateUnderWay (limits : Bounds) (most ahead : ℕ) (run : List Event
   pub delayed : IsDelayed limits most ahead run judge.delay
   pub going : judge.delay.judge.found ≡ None
   pub lanes : AreBusyLanes run judge.busy
-  pub few : length judge.delay.waiting.items ≤ ahead
+  pub few : length judge.delay.waiting.items ≤ ahead - 64
 
 -- the judge was given the events of this run so far, what it found holds whatever comes later, and it keeps few events
 pub record IsLateJudge (limits : Bounds) (most ahead : ℕ) (run : List Event) (judge : LateJudge) : Type 0 where

@@ -21,10 +21,14 @@ use std::alloc::{AllocError, Global};
 use std::collections::VecDeque;
 use std::slice::from_ref;
 
+/// So many calls may be open at a time.
+const LANES: usize = 64;
+
 /// A judge, and the events that it was not given yet: those that wait, and the beginnings that are aside.
 #[derive(Drop)]
 pub(crate) struct Delay {
     pub(crate) judge: Judge,
+    /// So many events may wait.
     ahead: usize,
     waiting: VecDeque<Event>,
     aside: Vec<Event>,
@@ -124,7 +128,8 @@ fn finding_of(first: Option<u64>, verdict: Verdict) -> Finding
 }
 
 impl Delay {
-    /// That of a run without events.
+    /// That of a run without events, whose judge looks at so many events for the end of a call. Among those calls may
+    /// begin late, one in each lane, so 64 fewer wait.
     pub(crate) fn new(alloc: Global, limits: Limits, most: u64, ahead: usize) -> Result<Delay, AllocError>
         ensures delayed { IfOk result (λ delay. IsDelayed limits most ahead [] delay) }
         ensures going { IfOk result (λ delay. delay.judge.found ≡ None) }
@@ -133,7 +138,7 @@ impl Delay {
         let judge = Judge::new(alloc, limits, most, ahead)?;
         Ok(Delay {
             judge,
-            ahead,
+            ahead: ahead.saturating_sub(LANES),
             waiting: VecDeque::new(alloc),
             aside: Vec::new(alloc),
             passed: 0,

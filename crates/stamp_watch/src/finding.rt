@@ -7,7 +7,7 @@ use crate::verdict::Verdict;
 pub enum Finding {
     /// This verdict.
     Is(Verdict),
-    /// The run is explained before the event with this number, and is not judged further. Some call is open for as
-    /// many events as were allowed, and where such calls begin later a judge has a verdict on this event.
+    /// The run is explained before the event with this number, and is not judged further. Some call is open for all
+    /// but 64 of the events that are looked at, and where such calls begin later a judge has a verdict on this event.
     Late(u64),
 }

@@ -27,10 +27,10 @@ returns-in-Some-clause-delayed c =
       ahead_is = is.ahead_is;
       given = is.given ++ c.remove-event.result ∷ [];
       judge_of = given limits most ahead is.given is.judge_of;
-      handed = subst (λ (xs : List Event). IsHandedOn ahead run (is.given ++ c.remove-event.result ∷ []) xs
+      handed = subst (λ (xs : List Event). IsHandedOn (ahead - 64) run (is.given ++ c.remove-event.result ∷ []) xs
           c.args.self.now.waiting.items c.args.self.now.first_late c.args.self.now.passed)
           (sym c.remove-event.ensures.items)
-          (handed_begins ahead run is.given c.args.self.now.aside.items c.args.self.now.waiting.items
+          (handed_begins (ahead - 64) run is.given c.args.self.now.aside.items c.args.self.now.waiting.items
           c.args.self.now.first_late c.args.self.now.passed is.handed c.in-Some.place c.args.lane
           c.remove-event.result there c.remove-event.ensures.value);
     }) c.push.ensures.given
@@ -43,6 +43,6 @@ returns-in-Some-clause-begun c =
     let some = c.requires.ready in
     IfOk-weaker c.push.result _ _ (λ found told. subst (λ (xs : List Event). IsSpared xs c.args.lane)
     (sym c.remove-event.ensures.items)
-    (rest_spared some.ahead some.run some.delayed.given c.args.self.now.aside.items c.args.self.now.waiting.items
+    (rest_spared (some.ahead - 64) some.run some.delayed.given c.args.self.now.aside.items c.args.self.now.waiting.items
     c.args.self.now.first_late c.args.self.now.passed some.delayed.handed c.in-Some.place c.args.lane
     c.remove-event.result there c.remove-event.ensures.value)) c.push.ensures.told

@@ -3,5 +3,5 @@ use Rattle.stamp_watch.proofs.Delaying.{delayed_first}
 use Rattle.stamp_watch.proofs.delay.Delay.new.Goals as goal
 
 pub returns-clause-delayed : goal.returns-clause-delayed
-returns-clause-delayed c = delayed_first c.args.limits c.args.most c.args.ahead _ c.in_ok-judge.ensures.judge refl
+returns-clause-delayed c = delayed_first c.args.limits c.args.most c.args.ahead _ c.in_ok-judge.ensures.judge c.saturating_sub.ensures
     c.new-3.ensures.items c.new-2.ensures.items refl refl
