@@ -24,7 +24,7 @@ use Rattle.stamp_watch.proofs.Surviving.{tells_return, tells_past_withdrawal, ne
 use Rattle.stamp_watch.proofs.Surviving.{never_past_withdrawal}
 use Rattle.stamp_watch.proofs.StandingFor.{no_empty, first_same, rest_same}
 
-writes-append : (xs ys : List LockEvent) → write_count (xs ++ ys) ≡ write_count xs + write_count ys
+pub writes-append : (xs ys : List LockEvent) → write_count (xs ++ ys) ≡ write_count xs + write_count ys
 writes-append xs ys = sum_by-append (λ (x : LockEvent). cond (is_write_acquired x) 1 0) xs ys
 
 -- versions never fall

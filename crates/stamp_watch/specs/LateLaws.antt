@@ -1,9 +1,11 @@
 -- When nothing is lost by a call that begins later.
-use Rattle.std.specs.Prelude.{ℕ, ◌≡◌, ◌<◌, ◌≤◌, ◌++◌, false, List, ◌∷◌}
+use Rattle.std.specs.Prelude.{ℕ, ◌≡◌, ◌⊎◌, ◌*◌, ◌<◌, ◌≤◌, ◌++◌, false, List, ◌∷◌}
 use Rattle.stamp_core.specs.LockEvent.{LockEvent, write_count}
-use Rattle.stamp_core.specs.Limits.{Bounds}
+use Rattle.stamp_core.specs.Limits.{Bounds, units}
 use Rattle.stamp_core.specs.declared.call.Call.{Call}
+use Rattle.stamp_core.specs.declared.call.Call.TheVariants.{TryWrite, WriteLock}
 use Rattle.stamp_core.specs.declared.reply.Reply.{Reply}
+use Rattle.stamp_core.specs.declared.reply.Reply.TheVariants.{Stamp}
 use Rattle.stamp_watch.specs.declared.event.Event.{Event}
 use Rattle.stamp_watch.specs.declared.event.Event.TheVariants.{Begins}
 use Rattle.stamp_watch.specs.Ahead.{EndsNever, Tells}
@@ -45,3 +47,11 @@ LateLosesNothing =
     TellsAtLeast limits call reply version → TellsOlder limits version rest →
     AreExplained limits (past ++ (Begins lane call ∷ between ++ rest)) →
     AreExplained limits (past ++ (between ++ Begins lane call ∷ rest))
+
+-- The stamp of a call that acquires write mode tells its version.
+abbrev pub WriteStampTells : Type 0
+WriteStampTells =
+    (limits : Bounds) (call : Call) (stamp version : ℕ) → (call ≡ WriteLock) ⊎ (call ≡ TryWrite) → 0 < stamp →
+    (units limits).writer < (units limits).version →
+    (stamp < (units limits).version * version → TellsLess limits call (Stamp stamp) version) ×
+    ((units limits).version * version ≤ stamp → TellsAtLeast limits call (Stamp stamp) version)

@@ -1,6 +1,6 @@
 //! Laws of runs. Each function does nothing; its contract is the law, over the definitions alone.
 ghost use Rattle.stamp_watch.specs.Late.{LaterExplainsNoMore};
-ghost use Rattle.stamp_watch.specs.LateLaws.{LateLosesNothing, OlderIsTold};
+ghost use Rattle.stamp_watch.specs.LateLaws.{LateLosesNothing, OlderIsTold, WriteStampTells};
 ghost use Rattle.stamp_watch.specs.WatchLaws.{AtOnceLosesNothing, BeginsFirst, BeginsLate, BeginsSooner, EndlessAlikeFirst, ExplainedAsObserved, OpeningStands, ReturnsFirst, SetsGoOn, SetsTell, ShorterStayExplained, SoonerAlikeFirst, StuckAsObserved, StuckAsSeen, StuckIsExact, TakesEffectFirst, UnchangingNeverNeeded, WithdrawnMayBeLeftOut, WithdrawnTakesNoEffect, WithdrawsFirst};
 
 /// Where a call begins next, nothing is lost if it begins before other calls take effect.
@@ -102,6 +102,11 @@ pub fn older_is_told()
 /// Nothing is lost if a call begins later, before events that tell an older version than its own reply tells.
 pub fn late_loses_nothing()
     ensures { LateLosesNothing }
+{}
+
+/// The stamp of a call that acquires write mode tells its version.
+pub fn write_stamp_tells()
+    ensures { WriteStampTells }
 {}
 
 /// A run in form is explained exactly where it is as an observed history, whose positions are the numbers of the
