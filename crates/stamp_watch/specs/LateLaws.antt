@@ -3,7 +3,7 @@ use Rattle.std.specs.Prelude.{ℕ, ◌≡◌, ◌⊎◌, ◌*◌, ◌<◌, ◌�
 use Rattle.stamp_core.specs.LockEvent.{LockEvent, write_count}
 use Rattle.stamp_core.specs.Limits.{Bounds, units}
 use Rattle.stamp_core.specs.declared.call.Call.{Call}
-use Rattle.stamp_core.specs.declared.call.Call.TheVariants.{TryWrite, WriteLock}
+use Rattle.stamp_core.specs.declared.call.Call.TheVariants.{Optimistic, ReadLock, TryRead, TryWrite, WriteLock}
 use Rattle.stamp_core.specs.declared.reply.Reply.{Reply}
 use Rattle.stamp_core.specs.declared.reply.Reply.TheVariants.{Stamp}
 use Rattle.stamp_watch.specs.declared.event.Event.{Event}
@@ -55,3 +55,10 @@ WriteStampTells =
     (units limits).writer < (units limits).version →
     (stamp < (units limits).version * version → TellsLess limits call (Stamp stamp) version) ×
     ((units limits).version * version ≤ stamp → TellsAtLeast limits call (Stamp stamp) version)
+
+-- And the stamp of a call that reads, or acquires read mode, is of no newer version than it tells.
+abbrev pub ReadStampTells : Type 0
+ReadStampTells =
+    (limits : Bounds) (call : Call) (stamp version : ℕ) →
+    (call ≡ Optimistic) ⊎ (call ≡ TryRead) ⊎ (call ≡ ReadLock) → 0 < stamp →
+    stamp < (units limits).version * version → TellsLess limits call (Stamp stamp) version

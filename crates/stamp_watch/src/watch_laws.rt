@@ -1,6 +1,6 @@
 //! Laws of runs. Each function does nothing; its contract is the law, over the definitions alone.
 ghost use Rattle.stamp_watch.specs.Late.{LaterExplainsNoMore};
-ghost use Rattle.stamp_watch.specs.LateLaws.{LateLosesNothing, OlderIsTold, WriteStampTells};
+ghost use Rattle.stamp_watch.specs.LateLaws.{LateLosesNothing, OlderIsTold, ReadStampTells, WriteStampTells};
 ghost use Rattle.stamp_watch.specs.WatchLaws.{AtOnceLosesNothing, BeginsFirst, BeginsLate, BeginsSooner, EndlessAlikeFirst, ExplainedAsObserved, OpeningStands, ReturnsFirst, SetsGoOn, SetsTell, ShorterStayExplained, SoonerAlikeFirst, StuckAsObserved, StuckAsSeen, StuckIsExact, TakesEffectFirst, UnchangingNeverNeeded, WithdrawnMayBeLeftOut, WithdrawnTakesNoEffect, WithdrawsFirst};
 
 /// Where a call begins next, nothing is lost if it begins before other calls take effect.
@@ -107,6 +107,11 @@ pub fn late_loses_nothing()
 /// The stamp of a call that acquires write mode tells its version.
 pub fn write_stamp_tells()
     ensures { WriteStampTells }
+{}
+
+/// The stamp of a call that reads or acquires read mode tells that the lock has no newer version.
+pub fn read_stamp_tells()
+    ensures { ReadStampTells }
 {}
 
 /// A run in form is explained exactly where it is as an observed history, whose positions are the numbers of the
