@@ -23,11 +23,12 @@ mod history_tests;
 #[cfg(test)]
 mod judge_tests;
 #[cfg(test)]
+mod late_tests;
+#[cfg(test)]
 mod machine_tests;
 #[cfg(test)]
 mod migration_tests;
 #[cfg(test)]
-mod late_tests;
 mod online_tests;
 #[cfg(test)]
 mod plain_check;

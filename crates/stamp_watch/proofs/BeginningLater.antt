@@ -65,11 +65,13 @@ form_swapped : (busy : ℕ → Bool) (past : List Event) (d e : Event) (rest : L
 form_swapped busy [] d e rest apart form = (
   may_come_so (λ (lane : ℕ). is_busy_then lane (busy lane) d) busy e
       (busy_other (lane_of e) (busy (lane_of e)) d apart) form.1.0,
-  (may_come_so busy (λ (lane : ℕ). is_busy_then lane (busy lane) e) d
-      (sym (busy_other (lane_of d) (busy (lane_of d)) e (λ is. apart (sym is)))) form.0,
+  (
+    may_come_so busy (λ (lane : ℕ). is_busy_then lane (busy lane) e) d
+        (sym (busy_other (lane_of d) (busy (lane_of d)) e (λ is. apart (sym is)))) form.0,
     form_same (λ (lane : ℕ). is_busy_then lane (is_busy_then lane (busy lane) d) e)
         (λ (lane : ℕ). is_busy_then lane (is_busy_then lane (busy lane) e) d) rest
-        (λ lane. busy_swapped lane (busy lane) d e apart) form.1.1),
+        (λ lane. busy_swapped lane (busy lane) d e apart) form.1.1,
+  ),
 )
 form_swapped busy (x ∷ past) d e rest apart form =
     (form.0, form_swapped (λ (lane : ℕ). is_busy_then lane (busy lane) x) past d e rest apart form.1)

@@ -97,39 +97,39 @@ module _ (limits : Bounds) (most ahead : ℕ) (run : List Event) (old : Delay)
   -- the first event that waits is handed on
   module _ (x : Event) (rest : List Event) (some : old.waiting.items ≡ x ∷ rest) (new : Delay)
       (far : new.ahead ≡ old.ahead) (waiting_is : new.waiting.items ≡ rest) (passed_is : new.passed ≡ old.passed + 1)
-      where
-    handed_here : IsHandedOn (ahead - 64) run is.given old.aside.items (x ∷ rest) old.first_late old.passed
-    handed_here = subst (λ (xs : List Event). IsHandedOn (ahead - 64) run is.given old.aside.items xs old.first_late
-        old.passed) some is.handed
+    where
+      handed_here : IsHandedOn (ahead - 64) run is.given old.aside.items (x ∷ rest) old.first_late old.passed
+      handed_here = subst (λ (xs : List Event). IsHandedOn (ahead - 64) run is.given old.aside.items xs old.first_late
+          old.passed) some is.handed
 
-    low : lane_of x < 64
-    low = low_lane x (next_of_lock handed_here.past x rest (subst AreOfLock handed_here.run_is is.whole))
+      low : lane_of x < 64
+      low = low_lane x (next_of_lock handed_here.past x rest (subst AreOfLock handed_here.run_is is.whole))
 
-    pub delayed_passes : IsGiven x old.judge new.judge → new.aside ≡ old.aside → new.first_late ≡ old.first_late →
-        IsDelayed limits most ahead run new
-    delayed_passes given aside_is first_is = record {
-      whole = is.whole;
-      ahead_is = far ∙ is.ahead_is;
-      given = is.given ++ x ∷ [];
-      judge_of = given limits most ahead is.given is.judge_of;
-      handed = handed_as (ahead - 64) run (is.given ++ x ∷ []) old.aside.items new.aside.items rest new.waiting.items
-          old.first_late new.first_late (old.passed + 1) new.passed (ap (λ v. v.items) aside_is) waiting_is first_is
-          passed_is (handed_passes (ahead - 64) run is.given old.aside.items rest x old.first_late old.passed handed_here);
-    }
+      pub delayed_passes : IsGiven x old.judge new.judge → new.aside ≡ old.aside → new.first_late ≡ old.first_late →
+          IsDelayed limits most ahead run new
+      delayed_passes given aside_is first_is = record {
+        whole = is.whole;
+        ahead_is = far ∙ is.ahead_is;
+        given = is.given ++ x ∷ [];
+        judge_of = given limits most ahead is.given is.judge_of;
+        handed = handed_as (ahead - 64) run (is.given ++ x ∷ []) old.aside.items new.aside.items rest new.waiting.items
+            old.first_late new.first_late (old.passed + 1) new.passed (ap (λ v. v.items) aside_is) waiting_is first_is
+            passed_is (handed_passes (ahead - 64) run is.given old.aside.items rest x old.first_late old.passed handed_here);
+      }
 
-    pub delayed_aside : IsToBeAside x rest → old.ahead ≤ length rest → new.judge ≡ old.judge →
-        new.aside.items ≡ old.aside.items ++ x ∷ [] → new.first_late ≡ first_or old.passed old.first_late →
-        IsDelayed limits most ahead run new
-    delayed_aside to many judge_is aside_is first_is = record {
-      whole = is.whole;
-      ahead_is = far ∙ is.ahead_is;
-      given = is.given;
-      judge_of = subst (IsJudge limits most ahead is.given) (sym judge_is) is.judge_of;
-      handed = handed_as (ahead - 64) run is.given (old.aside.items ++ x ∷ []) new.aside.items rest new.waiting.items
-          (first_or old.passed old.first_late) new.first_late (old.passed + 1) new.passed aside_is waiting_is first_is
-          passed_is (handed_aside (ahead - 64) run is.given old.aside.items rest x old.first_late old.passed handed_here to
-          (let same : old.ahead ≡ ahead - 64 = is.ahead_is in omega (arith, same, many)) low);
-    }
+      pub delayed_aside : IsToBeAside x rest → old.ahead ≤ length rest → new.judge ≡ old.judge →
+          new.aside.items ≡ old.aside.items ++ x ∷ [] → new.first_late ≡ first_or old.passed old.first_late →
+          IsDelayed limits most ahead run new
+      delayed_aside to many judge_is aside_is first_is = record {
+        whole = is.whole;
+        ahead_is = far ∙ is.ahead_is;
+        given = is.given;
+        judge_of = subst (IsJudge limits most ahead is.given) (sym judge_is) is.judge_of;
+        handed = handed_as (ahead - 64) run is.given (old.aside.items ++ x ∷ []) new.aside.items rest new.waiting.items
+            (first_or old.passed old.first_late) new.first_late (old.passed + 1) new.passed aside_is waiting_is first_is
+            passed_is (handed_aside (ahead - 64) run is.given old.aside.items rest x old.first_late old.passed handed_here to
+            (let same : old.ahead ≡ ahead - 64 = is.ahead_is in omega (arith, same, many)) low);
+      }
 
 -- a judge that has found something stays that of the run, whatever comes
 pub judge_stays_on : (limits : Bounds) (most ahead : ℕ) (run more : List Event) (judge : Judge) (v : Verdict) →

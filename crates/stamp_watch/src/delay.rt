@@ -108,9 +108,17 @@ fn finding_by(first: u64, verdict: Verdict) -> Finding
 {
     match verdict {
         Verdict::Explained => Finding::Is(verdict),
-        Verdict::Stuck(k) => if k < first { Finding::Is(verdict) } else { Finding::Late(k) },
+        Verdict::Stuck(k) => if k < first {
+            Finding::Is(verdict)
+        } else {
+            Finding::Late(k)
+        },
         Verdict::StuckWithin(k, m) => {
-            if m <= first { Finding::Is(verdict) } else { Finding::Late(k) }
+            if m <= first {
+                Finding::Is(verdict)
+            } else {
+                Finding::Late(k)
+            }
         }
         Verdict::Undecided(k, _) => Finding::Late(k),
         Verdict::Broken(k) => Finding::Late(k),
@@ -130,7 +138,12 @@ fn finding_of(first: Option<u64>, verdict: Verdict) -> Finding
 impl Delay {
     /// That of a run without events, whose judge looks at so many events for the end of a call. Among those calls may
     /// begin late, one in each lane, so 64 fewer wait.
-    pub(crate) fn new(alloc: Global, limits: Limits, most: u64, ahead: usize) -> Result<Delay, AllocError>
+    pub(crate) fn new(
+        alloc: Global,
+        limits: Limits,
+        most: u64,
+        ahead: usize,
+    ) -> Result<Delay, AllocError>
         ensures delayed { IfOk result (λ delay. IsDelayed limits most ahead [] delay) }
         ensures going { IfOk result (λ delay. delay.judge.found ≡ None) }
         ensures none { IfOk result (λ delay. delay.waiting.items ≡ []) }

@@ -42,7 +42,12 @@ impl LateJudge {
     /// The judge of a lock with these limits, before any event. More than `most` configurations before an event are
     /// too many to go on. A call begins later if it is open for all but 64 of `ahead` events. So `ahead` is more than
     /// 64, and rather thousands.
-    pub fn new(alloc: Global, limits: Limits, most: u64, ahead: usize) -> Result<LateJudge, AllocError>
+    pub fn new(
+        alloc: Global,
+        limits: Limits,
+        most: u64,
+        ahead: usize,
+    ) -> Result<LateJudge, AllocError>
         ensures judge { IfOk result (λ judge. IsLateJudge limits most ahead [] judge) }
         ensures known { IfOk result (λ judge. IsLateJudgeOfSome judge) }
     {

@@ -11,5 +11,5 @@ invariant-loop-event l = record {
   given : (limits : Bounds) (most ahead : ℕ) (run : List Event) → IsJudge limits most ahead run l.fn.judge →
       IsJudge limits most ahead (run ++ take l.event-index l.events) l.judge;
   known : IsJudgeOfSome l.judge;
-  room : HasRoomFor (length l.events - l.event-index) l.judge
+  room : HasRoomFor (length l.events - l.event-index) l.judge;
 }
