@@ -7,12 +7,12 @@ use Rattle.stamp_core.specs.Limits.{Bounds}
 use Rattle.stamp_core.specs.declared.call.Call.{Call}
 use Rattle.stamp_core.specs.declared.reply.Reply.{Reply}
 use Rattle.stamp_watch.specs.declared.event.Event.{Event}
-use Rattle.stamp_watch.specs.declared.event.Event.TheVariants.{Begins, Returns, Withdraws}
+use Rattle.stamp_watch.specs.declared.event.Event.TheVariants.{Begins}
 use Rattle.stamp_watch.specs.Ahead.{EndsNever, Tells}
 use Rattle.stamp_watch.specs.Ahead.EndsNever.{never_more, not_beginning, not_returning, not_withdrawing}
 use Rattle.stamp_watch.specs.Ahead.Tells.{tells_next, past_beginning, past_return, past_withdrawal}
-use Rattle.stamp_watch.specs.LateLaws.{LateLosesNothing, OlderIsTold, TellsLess, TellsOlder}
-use Rattle.stamp_watch.specs.Run.{Lanes, LockStep, Sets, Survives, all_idle}
+use Rattle.stamp_watch.specs.LateLaws.{LateLosesNothing, OlderIsTold, TellsLess}
+use Rattle.stamp_watch.specs.Run.{Lanes, LockStep, Survives, all_idle}
 use Rattle.stamp_watch.specs.Run.Phase.{Idle, Asks, Gets}
 use Rattle.stamp_watch.specs.Run.Survives.{at_end, takes_effect, begins, returns, withdraws}
 use Rattle.stamp_watch.proofs.BeginningLate.{begins_late, older, version_stays}

@@ -1,5 +1,5 @@
 -- Which versions stamps tell.
-use Rattle.std.proofs.Common.{◌≡◌, ◌⊎◌, ◌+◌, ◌*◌, ◌<◌, ◌≤◌, ℕ, Bool, true, false, List, [], ◌∷◌, ◌++◌, Option, None}
+use Rattle.std.proofs.Common.{◌≡◌, ◌⊎◌, ◌+◌, ◌*◌, ◌<◌, ◌≤◌, ℕ, Bool, true, false, List, [], ◌∷◌, None}
 use Rattle.std.proofs.Common.{refl, sym, ◌∙◌, ap, subst, inl, inr, arith}
 use Rattle.std.specs.Prelude.{◌==◌, if◌then◌else◌}
 use Rattle.std.proofs.lemmas.Bool.{cases_lt}
@@ -8,15 +8,15 @@ use Rattle.stamp_core.specs.LockEvent.{LockEvent, counts, write_count}
 use Rattle.stamp_core.specs.LockEvent.LockEvent.{ReadAcquired, WriteAcquired}
 use Rattle.stamp_core.specs.Limits.{Bounds, units}
 use Rattle.stamp_core.specs.Stamp.{optimistic_stamp, read_stamp, write_stamp}
-use Rattle.stamp_core.specs.Transition.{Transition, answer, change, may_read, may_write, transition}
+use Rattle.stamp_core.specs.Transition.{answer, change, may_read, may_write, transition}
 use Rattle.stamp_core.specs.History.{Replies, appended_by}
 use Rattle.stamp_core.specs.declared.call.Call.{Call}
 use Rattle.stamp_core.specs.declared.call.Call.TheVariants.{Optimistic, ReadLock, TryRead, TryWrite, WriteLock}
-use Rattle.stamp_core.specs.declared.reply.Reply.{Reply}
 use Rattle.stamp_core.specs.declared.reply.Reply.TheVariants.{Stamp}
-use Rattle.stamp_watch.specs.LateLaws.{ReadStampTells, WriteStampTells}
+use Rattle.stamp_watch.specs.LateLaws.{LateWriterLosesNothing, ReadStampTells, WriteStampTells}
 use Rattle.stamp_watch.specs.Run.{LockStep}
 use Rattle.stamp_watch.proofs.BeginningLate.{writes-append}
+use Rattle.stamp_watch.proofs.LosingNothing.{late_loses_nothing}
 
 same_stamp : {a b : ℕ} → Stamp a ≡ Stamp b → a ≡ b
 same_stamp is = cc
@@ -159,3 +159,17 @@ read_stamp_tells limits call stamp version is some less u v step =
     let low : write_count u < version = below_version (units limits).version (write_count u) version stamp
     (omega (arith, stamp_is)) less in
     omega (arith, low, long, none)
+
+pub late_writer_loses_nothing : LateWriterLosesNothing
+late_writer_loses_nothing limits lane call stamp version past between rest is some low least free never tells told way =
+    late_loses_nothing limits lane call (Stamp stamp) version past between rest free never tells
+    ((write_stamp_tells limits call stamp version is some low).1 least) (record {
+      before = told.before;
+      behind = told.behind;
+      lane = told.lane;
+      call = told.call;
+      reply = Stamp told.stamp;
+      events_are = told.events_are;
+      tells = told.tells;
+      older = read_stamp_tells limits told.call told.stamp version told.reads told.some told.older;
+    }) way

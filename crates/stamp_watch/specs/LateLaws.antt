@@ -62,3 +62,27 @@ ReadStampTells =
     (limits : Bounds) (call : Call) (stamp version : ℕ) →
     (call ≡ Optimistic) ⊎ (call ≡ TryRead) ⊎ (call ≡ ReadLock) → 0 < stamp →
     stamp < (units limits).version * version → TellsLess limits call (Stamp stamp) version
+
+-- a call that reads, or acquires read mode, begins among these events and returns among them, with a stamp of an older
+-- version than this one
+pub record ReturnsOlderStamp (limits : Bounds) (version : ℕ) (events : List Event) : Type 0 where
+  pub before : List Event
+  pub behind : List Event
+  pub lane : ℕ
+  pub call : Call
+  pub stamp : ℕ
+  pub events_are : events ≡ before ++ Begins lane call ∷ behind
+  pub tells : Tells lane (Stamp stamp) behind
+  pub reads : (call ≡ Optimistic) ⊎ (call ≡ TryRead) ⊎ (call ≡ ReadLock)
+  pub some : 0 < stamp
+  pub older : stamp < (units limits).version * version
+
+-- So nothing is lost if a call that acquires write mode begins later, before such events.
+abbrev pub LateWriterLosesNothing : Type 0
+LateWriterLosesNothing =
+    (limits : Bounds) (lane : ℕ) (call : Call) (stamp version : ℕ) (past between rest : List Event) →
+    (call ≡ WriteLock) ⊎ (call ≡ TryWrite) → 0 < stamp → (units limits).writer < (units limits).version →
+    (units limits).version * version ≤ stamp → is_busy_after past lane ≡ false → EndsNever lane between →
+    Tells lane (Stamp stamp) rest → ReturnsOlderStamp limits version rest →
+    AreExplained limits (past ++ (Begins lane call ∷ between ++ rest)) →
+    AreExplained limits (past ++ (between ++ Begins lane call ∷ rest))

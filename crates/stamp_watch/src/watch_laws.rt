@@ -1,6 +1,6 @@
 //! Laws of runs. Each function does nothing; its contract is the law, over the definitions alone.
 ghost use Rattle.stamp_watch.specs.Late.{LaterExplainsNoMore};
-ghost use Rattle.stamp_watch.specs.LateLaws.{LateLosesNothing, OlderIsTold, ReadStampTells, WriteStampTells};
+ghost use Rattle.stamp_watch.specs.LateLaws.{LateLosesNothing, LateWriterLosesNothing, OlderIsTold, ReadStampTells, WriteStampTells};
 ghost use Rattle.stamp_watch.specs.WatchLaws.{AtOnceLosesNothing, BeginsFirst, BeginsLate, BeginsSooner, EndlessAlikeFirst, ExplainedAsObserved, OpeningStands, ReturnsFirst, SetsGoOn, SetsTell, ShorterStayExplained, SoonerAlikeFirst, StuckAsObserved, StuckAsSeen, StuckIsExact, TakesEffectFirst, UnchangingNeverNeeded, WithdrawnMayBeLeftOut, WithdrawnTakesNoEffect, WithdrawsFirst};
 
 /// Where a call begins next, nothing is lost if it begins before other calls take effect.
@@ -112,6 +112,12 @@ pub fn write_stamp_tells()
 /// The stamp of a call that reads or acquires read mode tells that the lock has no newer version.
 pub fn read_stamp_tells()
     ensures { ReadStampTells }
+{}
+
+/// Nothing is lost if a call that acquires write mode begins later, before events among which a reader begins and
+/// returns with a stamp of an older version.
+pub fn late_writer_loses_nothing()
+    ensures { LateWriterLosesNothing }
 {}
 
 /// A run in form is explained exactly where it is as an observed history, whose positions are the numbers of the
