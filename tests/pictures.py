@@ -11,9 +11,10 @@ refused. Those of docs/pictures are made again and compared. With FOLDER all of 
 not kept).
 
 The data of pages are those that are written here, and a picture of the order in them says that it is in order.
-Where there is a Chromium, it draws each page, and shows the verdict that is written here. There the fault stands in
-the middle; the pointer and the keys find each call's text; bars have the colours of what they are; calls of a thread
-that overlap don't cover one another; and the wheel zooms and moves. It has 20,000 calls at once."""
+Where there is a Chromium, it draws each page, and shows the verdict that is written here. At first a few calls are all
+in view, and of many the fault stands in the middle. The pointer and the keys find each call's text; bars have the
+colours of what they are; the calls within a picked one are marked, and those around it; calls of a thread that overlap
+don't cover one another; and the wheel zooms and moves. It has 20,000 calls at once."""
 import html
 import json
 import os
@@ -43,6 +44,10 @@ def at(position, thread, call, reply):
     return entry(thread, call, reply, position, position, position)
 
 
+def call_text(call):
+    return " ".join([call[0], *map(str, call[1:])])
+
+
 SCHEDULE = [
     entry(1, ["try_write"], 384, 1, 2, 2),
     entry(1, ["unlock_write", 384], "done", 3, 4, 4),
@@ -58,6 +63,20 @@ RIGHT_GET = [
     entry(1, ["put", [3, 4]], "done", 1, 5, 6),
     entry(2, ["get"], [3, 4], 2, 8, 9),
 ]
+# Readers of guarded data, whose calls of the lock have lanes of their own; one of these goes on for longer. In the lane
+# of thread 2 there are both.
+GUARDED = [
+    entry(24, ["optimistic"], 256, 1, 1, 2),
+    entry(0, ["get"], [0], 0, 3, 9),
+    entry(25, ["optimistic"], 256, 4, 4, 6),
+    entry(26, ["is_write_locked"], "no", 5, 6, 11),
+    entry(24, ["validate", 256], "yes", 7, 7, 8),
+    entry(1, ["get"], [0], 3, 10, 14),
+    entry(25, ["validate", 256], "yes", 12, 12, 13),
+    entry(26, ["optimistic"], 256, 16, 16, 17),
+    entry(2, ["get"], [0], 15, 17, 18),
+    entry(2, ["read_count"], {"count": 0}, 19, 19, 20),
+]
 MANY = [entry(n, ["try_read"], 257 + n, n, 64 + n, 128 + n) for n in range(64)]
 READ = at(0, 0, ["try_read"], 257)
 FAULTS = {
@@ -70,6 +89,7 @@ FAULTS = {
 PICTURES = {
     "schedule": (history(SCHEDULE), [], None),
     "torn_get": (history(TORN_GET, 2), [], 2),
+    "guarded": (history(GUARDED, 1), [], None),
     "many_threads": (history(MANY), [], None),
     "window": (history(MANY), ["--from", "130", "--to", "131"], None),
     "window_of_a_put": (history(RIGHT_GET, 2), ["--from", "4", "--to", "7"], None),
@@ -91,9 +111,12 @@ VERDICTS = {
     "fault_reply": "entry 2: the lock would have answered otherwise (due here: 640)",
     "fault_wait": "entry 1: the lock would have answered otherwise (it would wait here)",
 }
+# As many calls as are all in view at first, and one more; one of them is wrong.
+WRONG_COUNTS = {calls: history([at(3 * n, n % 4, ["read_count"], {"count": int(n == 30)}) for n in range(calls)])
+                for calls in (60, 61)}
 TOO_MANY = history([at(n, 0, ["read_count"], {"count": 0}) for n in range(2001)])
 MANY_CALLS = history([at(n, n % 64, ["read_count"], {"count": 0}) for n in range(20000)])
-TOO_MANY_LINE = b"stamped_picture: 2001 entries to draw, over 2000: give --from A --to B\n"
+TOO_MANY_LINE = b"stamped_picture: 2001 entries to draw, over 2000: give --from A --to B, or --html\n"
 LEGEND = ", begins  | goes on  * takes effect  ' ends; the faulty entry has ! and X"
 HEADING = "    at  thread: call = reply -> what the lock was then (v: its version)"
 TEXTS = {
@@ -259,14 +282,31 @@ TOLD = {
         ("entry 2, thread 2: read_lock; under way; took no effect in this explanation; from 1 on", set()),
     ],
 }
+TOLD["guarded"] = [(f"entry {n}, thread {e['thread']}: {call_text(e['call'])}; answered {answered}; "
+                    f"from {e['first']} to {e['last']}; takes effect at {e['point']}, as number {n + 1} of 10{within}",
+                    {"call"}) for n, (e, (answered, within)) in enumerate(zip(GUARDED, [
+    ("256", "; within entry 1, thread 0: get = [0]"),
+    ("[0]", "; within it, thread 24: optimistic = 256 (entry 0), validate 256 = yes (entry 4)"
+            "; within it, thread 25: optimistic = 256 (entry 2)"),
+    ("256", "; within entry 5, thread 1: get = [0]; within entry 1, thread 0: get = [0]"),
+    ("no", "; within entry 5, thread 1: get = [0]"),
+    ("yes", "; within entry 5, thread 1: get = [0]; within entry 1, thread 0: get = [0]"),
+    ("[0]", "; within it, thread 25: optimistic = 256 (entry 2), validate 256 = yes (entry 6)"
+            "; within it, thread 26: is_write_locked = no (entry 3)"
+            "; within it, thread 24: validate 256 = yes (entry 4)"),
+    ("yes", "; within entry 5, thread 1: get = [0]"),
+    ("256", ""), ("[0]", ""), ("count 0", ""),
+]))]
+# The entries that are marked while each entry is picked; in other pages none is.
+MARKED = {"guarded": [[1], [0, 2, 4], [1, 5], [5], [1, 5], [2, 3, 4, 6], [5], [], [], []]}
 # The entries that the keys N and P, and Down and Up, go to from entry 0 on.
 WALKS = {"stuck_under_way": ([1, 3, 1], [1, 2, 1]), "torn_get": ([1, 2, 1], [1, 2, 1])}
 DARK = "--force-dark-mode"
 # Stands behind a page: looks at it by pointer, keys and wheel, and writes down what it finds.
 PROBE = """<script>
 (() => {
-  const canvas = $('view'), box = canvas.getBoundingClientRect(), found = { entries: {}, middle: [] };
-  const style = getComputedStyle(document.documentElement), dots = canvas.width / box.width;
+  const canvas = $('view'), room = canvas.getBoundingClientRect(), found = { entries: {}, middle: [] };
+  const style = getComputedStyle(document.documentElement), dots = canvas.width / room.width;
   const names = new Map(['call', 'fault', 'assumed', 'unseen']
     .map(it => [style.getPropertyValue('--' + it).trim(), it]));
   const image = canvas.getContext('2d').getImageData(0, 0, canvas.width, canvas.height);
@@ -275,33 +315,47 @@ PROBE = """<script>
     return names.get('#' + [...image.data.slice(at, at + 3)].map(it => it.toString(16).padStart(2, '0')).join(''));
   };
   const look = (x, y) => {
-    canvas.dispatchEvent(new PointerEvent('pointermove', { clientX: box.left + x, clientY: box.top + y }));
+    canvas.dispatchEvent(new PointerEvent('pointermove', { clientX: room.left + x, clientY: room.top + y }));
     return $('tip').style.display === 'block' ? $('tip').textContent : null;
   };
   const told = () => $('told').textContent;
   const press = key => canvas.dispatchEvent(new KeyboardEvent('keydown', { key, bubbles: true, cancelable: true }));
   const go = entry => { $('entry').value = entry; $('entry').dispatchEvent(new Event('change')); return told(); };
   const wheel = more => {
-    const at = { clientX: box.left + box.width / 2, clientY: box.top + 60, cancelable: true, ...more };
+    const at = { clientX: room.left + room.width / 2, clientY: room.top + 60, cancelable: true, ...more };
     const was = canvas.toDataURL();
     canvas.dispatchEvent(new WheelEvent('wheel', at));
     paint();
     return canvas.toDataURL() !== was;
   };
+  // The entries whose calls have an outline above the middle of their bars, with all in view.
+  const marked = picked => {
+    const focus = style.getPropertyValue('--focus').trim();
+    go(picked);
+    press('0');
+    paint();
+    const pen = canvas.getContext('2d');
+    const isFocus = (x, y) => '#' + [...pen.getImageData(Math.round(x * dots), Math.round(y * dots), 1, 1).data]
+      .slice(0, 3).map(it => it.toString(16).padStart(2, '0')).join('') === focus;
+    return calls.filter(c => c.n !== picked && [0, 1, 2, 3].some(up =>
+      isFocus(box(c).left + box(c).width / 2, Math.floor(box(c).top) - up))).map(c => c.n);
+  };
   found.first = told();
+  found.whole = calls.every(c => box(c).left >= 76 && box(c).left + box(c).width <= canvas.clientWidth);
   found.ground = getComputedStyle(document.body).backgroundColor;
-  for (let y = 27; y < box.height; y += 3) {
-    for (let x = 80; x < box.width - 10; x += 4) {
+  for (let y = 27; y < room.height; y += 3) {
+    for (let x = 80; x < room.width - 10; x += 4) {
       const text = look(x, y);
       if (text) (found.entries[text] ||= []).push([x, nameAt(x, y) || null]);
     }
-    found.middle.push(look((76 + box.width) / 2, y));
+    found.middle.push(look((76 + room.width) / 2, y));
   }
   found.middle = [...new Set(found.middle.filter(it => it))];
   found.told = JSON.parse($('data').textContent)[COUNTED].entries.map((_, entry) => go(entry));
   const walk = list => { go(0); return list.map(key => { press(key); return told(); }); };
   found.walks = [walk(['n', 'n', 'p']), walk(['ArrowDown', 'ArrowDown', 'ArrowUp'])];
   found.moves = [wheel({ deltaY: -300 }), wheel({ deltaY: 200, shiftKey: true })];
+  found.marked = calls.length < 20 ? calls.map(c => marked(c.n)) : [];
   const note = document.body.appendChild(document.createElement('pre'));
   note.id = 'found';
   note.textContent = JSON.stringify(found);
@@ -362,10 +416,6 @@ def marks_of(root):
 def window_in(words):
     """The window that the words give, or all positions."""
     return (int(words[-3]), int(words[-1])) if "--from" in words else (0, 2**64 - 1)
-
-
-def call_text(call):
-    return " ".join([call[0], *map(str, call[1:])])
 
 
 def look(name, drawn, words, answer, bad):
@@ -447,11 +497,16 @@ def shown(browser, page, room, words):
     return ran.stdout.decode()
 
 
-def probe(name, browser, page, room, words):
-    """What stands in the middle, what pointer and keys tell of each call, and its colours, are those of TOLD."""
+def found_in(name, browser, page, room, words):
+    """What the probe finds in a page."""
     probed = page + PROBE.replace("COUNTED", "'observed'" if name in OBSERVED_PAGES else "'recorded'")
     note = re.search(r'<pre id="found">(.*?)</pre>', shown(browser, probed, room, words), re.S)
-    found = json.loads(html.unescape(note[1])) if note else sys.exit(f"page of {name}: its script stops")
+    return json.loads(html.unescape(note[1])) if note else sys.exit(f"page of {name}: its script stops")
+
+
+def probe(name, browser, page, room, words):
+    """What pointer and keys tell of each call, its colours, and what is marked with it, are as in TOLD and MARKED."""
+    found = found_in(name, browser, page, room, words)
     texts = [text.replace("; ", "\n").replace("return\npossible", "return; possible") for text, _ in TOLD[name]]
     if found["told"] != texts:
         sys.exit(f"page of {name}: it tells {found['told']}, and not {texts}")
@@ -463,8 +518,10 @@ def probe(name, browser, page, room, words):
         if wanted[text] and not {colour for x, colour in points if x > max(x for x, _ in points) - 20} & wanted[text]:
             sys.exit(f"page of {name}: where {text} ends it has none of {wanted[text]}")
     fault = [text for text, colours in wanted.items() if "fault" in colours]
-    if found["first"] != "".join(fault) or not {*fault} <= {*found["middle"]}:
-        sys.exit(f"page of {name}: at first it tells {found['first']}, and in the middle is {found['middle']}")
+    if found["first"] != "".join(fault) or not found["whole"]:
+        sys.exit(f"page of {name}: at first it tells {found['first']}, and all are in view: {found['whole']}")
+    if found["marked"] != MARKED.get(name, [[] for _ in texts]):
+        sys.exit(f"page of {name}: marked are {found['marked']}")
     walks = [[texts[entry] for entry in walk] for walk in WALKS.get(name, [])]
     if walks and found["walks"] != walks:
         sys.exit(f"page of {name}: the keys go to {found['walks']}, and not {walks}")
@@ -484,6 +541,11 @@ def show(browser, pages):
         for name in TOLD:
             for words in (["--window-size=1200,700"], ["--window-size=500,900"], ["--window-size=1200,700", DARK]):
                 probe(name, browser, pages[name][0], room, words)
+        for calls in WRONG_COUNTS:
+            found = found_in("a wrong count", browser, pages[f"wrong count of {calls}"][0], room, [])
+            seen_at_first = found["first"].startswith("entry 30,"), found["whole"], found["first"] in found["middle"]
+            if seen_at_first != (True, calls == 60, calls == 61):
+                sys.exit(f"page of {calls} calls: {found['first']}, {found['whole']}, {found['middle']}")
 
 
 def look_at_pages(program):
@@ -493,6 +555,13 @@ def look_at_pages(program):
     pages["schedule"] = recorded["schedule"], "3 calls, in order"
     many = page_of("many_calls", program, MANY_CALLS, 0, {"recorded": MANY_CALLS})
     pages["many_calls"] = many, "20000 calls, in order"
+    pages["guarded"] = recorded["guarded"], "10 calls, in order"
+    wrong = {"due": {"count": 0}, "entry": 30, "why": "reply"}
+    for calls, told in WRONG_COUNTS.items():
+        pages[f"wrong count of {calls}"] = (
+            page_of("a wrong count", program, told, 1, {"recorded": told, "wrong": wrong}),
+            "entry 30 of thread 2: read_count = count 1; the lock would have answered otherwise (due here: count 0)",
+        )
     pages["torn_get"] = (
         recorded["torn_get"],
         "entry 2 of thread 2: get = [1, 4]; the record would have answered otherwise (due here: [3, 4])",
@@ -504,7 +573,7 @@ def look_at_pages(program):
     browser = shutil.which("chromium")
     if browser:
         show(browser, pages)
-    count = len(recorded) + len(OBSERVED_PAGES) + 1
+    count = len(recorded) + len(OBSERVED_PAGES) + 1 + len(WRONG_COUNTS)
     print(f"{count} pages, {len(pages) if browser else 'none'} of them drawn by a browser")
 
 

@@ -4,8 +4,11 @@
 
 Run at the top of the repository; it wants cc. Runs of planted.c with 4 threads and at most CALLS calls (20,000 if
 not said) with each planted bug, and runs of `stamped run` with as many calls of a lock and a record, of which a reply
-near the end is changed. A small history has under 60 entries and is stuck at its last one: at the same call, with the
-same reply and the same possible ones, but for the versions of stamps, of which each has as many less."""
+near the end is changed. The same again where each call has a lane of its own, as calls of many short-lived threads
+have. A small history has under 60 entries and is stuck at its last one: at the same call, with the same reply and the same
+possible ones, but for the versions of stamps, of which each has as many less. No other entry of it can be left out, and
+no two, so that it is still stuck so, by a stamp of the past."""
+import itertools
 import json
 import os
 import random
@@ -54,13 +57,16 @@ def run_of(stamped, chance, threads, calls):
     return history
 
 
-def broken(history, name, reply_of):
-    """The history with another reply of the last call of this name among the first nine tenths."""
+def broken(history, name, reply_of, longer=0):
+    """The history with another reply of the last call of this name among the first nine tenths, which begins earlier by
+    so many positions, then in a lane of its own."""
     entries = json.loads(json.dumps(history["entries"]))
     among = entries[: len(entries) * 9 // 10]
     wrong = next(entry for entry in reversed(among)
                  if entry["call"][0] == name and entry["reply"] not in (0, reply_of(entry["reply"])))
     wrong["reply"] = reply_of(wrong["reply"])
+    if longer:
+        wrong["first"], wrong["thread"] = max(0, wrong["first"] - longer), 63
     return json.dumps({**history, "entries": entries}).encode()
 
 
@@ -91,6 +97,46 @@ def are_alike(long, small):
                for versions in (span // VERSION for span in spans if span >= 0 and span % VERSION == 0))
 
 
+def in_lanes(run, chance):
+    """The run with each call in another lane, one of those that are free while it goes on."""
+    history, busy = json.loads(run), {}
+    for entry in sorted(history["entries"], key=lambda entry: entry["first"]):
+        entry["thread"] = chance.choice([lane for lane in range(64) if busy.get(lane, -1) < entry["first"]])
+        busy[entry["thread"]] = entry.get("last", sys.maxsize)
+    return json.dumps(history).encode()
+
+
+def last_version(entries):
+    """The version of the last write acquisition."""
+    replies = [entry.get("reply") for entry in entries]
+    return max((reply // VERSION for reply in replies if type(reply) is int and reply % VERSION == VERSION // 2),
+               default=0)
+
+
+def version_of(call):
+    """The version of the stamp that a call takes, if it takes one."""
+    stamp = call[1] if len(call) > 1 and type(call[1]) is int else 0
+    return max(0, stamp // VERSION - (stamp % VERSION != VERSION // 2))
+
+
+def is_still_stuck(explain, history, left_out, told):
+    """Whether the last entry is stuck as before without these, by a stamp of no later version."""
+    entries = [entry for place, entry in enumerate(history["entries"]) if place not in left_out]
+    wanted = min(version_of(entries[-1]["call"]), last_version(history["entries"][:-1]))
+    if last_version(entries[:-1]) < wanted:
+        return False
+    status, line, note = output_of([explain], json.dumps({**history, "entries": entries}).encode())
+    return line == b"stuck %d\n" % (len(entries) - 1) and answer_of(note) == answer_of(told)
+
+
+def must_need_all(explain, small, told, name):
+    history = json.loads(small)
+    others = range(len(history["entries"]) - 1)
+    for left_out in [*itertools.combinations(others, 1), *itertools.combinations(others, 2)]:
+        if is_still_stuck(explain, history, left_out, told):
+            sys.exit(f"{name}: entries {left_out} of {len(history['entries'])} aren't needed: {small[:4000]}")
+
+
 def made_small(explain, run, name):
     """What is said of the small history of a run; nothing where the run is explained."""
     status, small, told = output_of([explain, "--judge", "--small"], run)
@@ -102,6 +148,7 @@ def made_small(explain, run, name):
         sys.exit(f"{name}: status {status}, {len(entries)} entries, {line}: {small[:2000]}")
     if not are_alike(answer_of(told), answer_of(told_again)):
         sys.exit(f"{name}: {told} and {told_again}")
+    must_need_all(explain, small, told_again, name)
     return f"{len(json.loads(run)['entries'])} calls become {len(entries)}"
 
 
@@ -123,6 +170,8 @@ def changed_runs(stamped, calls, seed):
         "a wrong validation": [broken(history, "validate", lambda _: "no")],
         "a wrong count": [broken(history, "read_count", lambda _: {"count": 9})],
         "a wrong word": [broken(history, "get", lambda words: [words[0] + 1])],
+        "a wrong word of a long get": [broken(history, "get", lambda words: [words[0] + 9], longer)
+                                       for longer in (20, 200, 2000)],
     }
 
 
@@ -130,7 +179,9 @@ def main():
     explain, stamped = sys.argv[1:3]
     calls = int(sys.argv[3]) if len(sys.argv) > 3 else 20_000
     seed = int(sys.argv[4]) if len(sys.argv) > 4 else 1
+    chance = random.Random(seed)
     for name, runs in {**planted_runs(calls, seed), **changed_runs(stamped, calls, seed)}.items():
+        runs = [*runs, *(in_lanes(run, chance) for run in runs)]
         made = [small for small in (made_small(explain, run, name) for run in runs) if small]
         if not made:
             sys.exit(f"{name}: no run is stuck")

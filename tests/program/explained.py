@@ -1,6 +1,7 @@
 """Texts that the program `stamped_explain` is given: what it prints, what it says on standard error, and its status.
 
     explained.py STAMPED_EXPLAIN"""
+import itertools
 import subprocess
 import sys
 
@@ -73,18 +74,15 @@ SMALL = [
 # What the program tells of itself: each of its options, and how many configurations it looks at without `--most`.
 HELPED = ["stamped_explain [--judge] [--told] [--small] [--most N]", "4000000", "--judge  ", "--told  ", "--small  ",
           "stamped_explain --help\n"]
-# The words before or behind a number of configurations: whether they ask for a judgement, for what was tried, and for a
-# small history.
-WORDS = {"": (False, False, False), "--judge": (True, False, False), "--told": (False, True, False),
-         "--small": (False, False, True), "--judge --told": (True, True, False), "--judge --small": (True, False, True),
-         "--told --small": (False, True, True), "--judge --told --small": (True, True, True)}
+# The words that may stand in any order: which ask for a judgement, for what was tried, and for a small history.
+WORDS = ["--judge", "--told", "--small"]
 MOST = ["0", "5", "18446744073709551615"]
 # Other words are no form.
 BAD = [
-    "--most 18446744073709551616", "--most +1", "--most", "--more 1", "--help --judge", "--told --judge",
-    "--judge --judge", "--judge --most -1", "--judge --most", "--judge --most 1 --told", "--most 1 --most 1",
-    "--judge --told --most 1 --told", "--small --judge", "--judge --small --told",
-    "--judge --told --small --most 1 --told",
+    "--most 18446744073709551616", "--most +1", "--most", "--more 1", "--help --judge", "--judge --judge",
+    "--judge --told --judge", "--judge --most -1", "--judge --most", "--most --judge 1", "--most 1 --most 1",
+    "--judge --told --most 1 --told", "--judge --told --small --most 1 --told", "--most 1 --judge --most 1",
+    "--judge 1",
 ]
 
 
@@ -122,21 +120,29 @@ def try_small(program):
     print(f"small histories: {len(SMALL)} as they are to be")
 
 
+def forms_with(*option):
+    """Some of the words, in every order, with the words of an option at every place."""
+    for words in (words for count in range(4) for words in itertools.permutations(WORDS, count)):
+        for place in range(len(words) + 1) if option else [0]:
+            yield [*words[:place], *option, *words[place:]]
+
+
 def try_forms(program):
     """Five configurations are enough for these calls. With none the first return is undecided, that of entry 1."""
-    for words, (is_judged, is_told, is_small) in WORDS.items():
-        found = "ok 3" if is_judged else FOUND, TOLD[0][2] if is_told else "", 0
-        expect(program, words.split(), SEEN, *found)
-        expect(program, words.split(), STUCK, SMALL[0][2] if is_small else "stuck 2", STUCK_NOTE, 1)
-        for most in MOST:
-            for order in [f"{words} --most {most}", f"--most {most} {words}"]:
-                expect(program, order.split(), SEEN, *(("undecided 1", "", 1) if most == "0" else found))
+    tried = 0
+    for most, words in ((most, words) for most in [None, *MOST]
+                        for words in forms_with(*(["--most", most] if most else []))):
+        found = "ok 3" if "--judge" in words else FOUND, TOLD[0][2] if "--told" in words else "", 0
+        expect(program, words, SEEN, *(("undecided 1", "", 1) if most == "0" else found))
+        if most is None:
+            expect(program, words, STUCK, SMALL[0][2] if "--small" in words else "stuck 2", STUCK_NOTE, 1)
+        tried += 1
     helped = subprocess.run([program, "--help"], input=SEEN.encode(), capture_output=True, timeout=60)
     if helped.returncode or helped.stderr or not all(it.encode() in helped.stdout for it in HELPED):
         sys.exit(f"--help gives {helped}")
     for words in BAD:
         expect(program, words.split(), SEEN, "", "bad command line", 2)
-    print(f"command lines: {len(WORDS) * (1 + 2 * len(MOST)) + 1 + len(BAD)} as they are to be")
+    print(f"command lines: {tried + 1 + len(BAD)} as they are to be")
 
 
 def main():

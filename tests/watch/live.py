@@ -52,7 +52,7 @@ def try_load(watch, classes, fifo, by_name, load, threads, calls):
 def must_be_stuck(watch, classes, fifo):
     """A wrong lock's run, which would go on for a minute."""
     line, note, seconds, *_ = judged(watch, classes, fifo, True, "wrong", 16, "60s")
-    if not line.startswith("stuck ") or ": validate " not in note or not note.endswith(" answered yes"):
+    if not line.startswith("stuck ") or ": validate " not in note or not note.endswith(" answered yes; possible: no"):
         sys.exit(f"live: a wrong lock: {line} after {seconds:.0f} s, {note}")
 
 

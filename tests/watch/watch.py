@@ -5,9 +5,10 @@
 Run at the top of the repository. Threads make random calls on the lock of bench/common/call_table.py; some are
 withdrawn, and some under way at the end. Their streams are explained, with all their calls. With a reply changed a
 stream is stuck at an event exactly where what was seen by then is stuck as a history, and is explained before; where
-no call is withdrawn, it is so of the whole history, too. Both programs tell the same call and reply. Broken streams
-are told at their event. A stream may come in pieces of any length, the program ends once something is found, and long
-streams take no more memory than short ones."""
+no call is withdrawn, it is so of the whole history, too. Both programs tell the same call and reply, and, but for
+stamps, the same possible replies. Progress is told each 2^24 events. Broken streams are told at their event. A stream
+may come in pieces of any length, the program ends once something is found, and long streams take no more memory than
+short ones."""
 import contextlib
 import json
 import os
@@ -18,8 +19,8 @@ import sys
 import tempfile
 
 from round_trips import SIZES, event, header, made_stream, with_wrong_reply
-from streams import (BEGINS, COUNT, EVENT, HEADER, NO, STAMP, WITHDRAWN, YES, entry_that_returns_at, fail, history_of,
-                     kinds_of, run, started, verdict)
+from streams import (BEGINS, COUNT, DONE, EVENT, HEADER, MISMATCH, NO, STAMP, WITHDRAWN, YES, entry_that_returns_at, fail,
+                     history_of, kinds_of, run, started, verdict)
 
 READ, SEEN = event(1, 3), event(4) + event(STAMP, 0, 256)
 MOST_MEMORY = 64 << 10
@@ -60,9 +61,20 @@ def must_be_stuck_as_seen(name, explain, stream, number):
 
 
 def told_by(explain, history):
-    """The thread, and the call with its reply, that `stamped_explain` tells of a history that is stuck."""
+    """The thread, the call with its reply, and which replies were possible, that `stamped_explain` tells of a history that
+    is stuck."""
     note = run([explain], json.dumps(history).encode()).stderr.decode()
-    return re.match(r"stamped_explain: entry \d+ of thread (\d+): (.*?);", note).groups()
+    return re.match(r"stamped_explain: entry \d+ of thread (\d+): (.*?); (.*)\n", note).groups()
+
+
+def must_tell(name, note, number, thread, told, possible):
+    """The note tells of the call, and of the same replies, but of no stamps."""
+    call, _, replies = note.partition("; ")
+    must_be(name, call, f"stamped_watch: event {number}, lane {thread}: {told}")
+    if re.search(r"answered \d+$", told):
+        must_be(name, replies, "")
+    else:
+        must_be(name, sorted(re.split(": |, ", replies)), sorted(re.split(": |, ", possible)))
 
 
 def try_changed(watch, explain, name, stream):
@@ -79,8 +91,7 @@ def try_changed(watch, explain, name, stream):
     must_be_stuck_as_seen(name, explain, stream, number)
     if WITHDRAWN not in kinds_of(stream):
         must_be(name, verdict(explain, history), f"stuck {entry_that_returns_at(history, number)}")
-        thread, told = told_by(explain, history)
-        must_be(name, note, f"stamped_watch: event {number}, lane {thread}: {told}")
+        must_tell(name, note, number, *told_by(explain, history))
     return True
 
 
@@ -137,11 +148,66 @@ def try_options(watch):
     within = either + event(STAMP, 0, 258) + event(STAMP, 1, 258)
     must_be("--most", judged(watch, within, "--ahead", "9", "--most", "1"),
             ("undecided 3", "stamped_watch: no order explains the run; from which event on is undecided"))
-    for words in (["--most"], ["--ahead", "4294967297"], ["run.events", "more"]):
+    for words in (["--most"], ["--ahead", "4294967297"], ["run.events", "more"], ["--progress", "--help"],
+                  ["--most", "9", "--progress"]):
         made = run([watch, *words], late)
         must_be("options", (made.returncode, made.stdout, made.stderr), (2, b"", b"stamped_watch: bad command line\n"))
     told = run([watch, "--help"])
     must_be("--help", (told.returncode, told.stdout[:14], told.stderr), (0, b"stamped_watch ", b""))
+
+
+STUCK = [
+    (event(2) + event(15, 1) + event(YES, 1), "2, lane 1: is_read_locked answered yes; possible: no"),
+    (event(1) + event(STAMP, 0, 257) + event(16, 1) + event(COUNT, 1, 3),
+     "3, lane 1: read_count answered count 3; possible: count 1"),
+    (event(1) + event(3, 1) + event(16, 2) + event(COUNT, 2, 7) + event(STAMP, 0, 257) + event(STAMP, 1, 258),
+     "3, lane 2: read_count answered count 7; possible: count 0, count 1, count 2"),
+    (event(0) + event(STAMP, 0, 384) + event(6, 0, 384) + event(5, 1, 256) + event(YES, 1) + event(DONE),
+     "4, lane 1: validate 256 answered yes; possible: no"),
+    (event(0) + event(STAMP, 0, 384) + event(6, 1, 384) + event(MISMATCH, 1),
+     "3, lane 1: unlock_write 384 answered mismatch; possible: done"),
+    (event(4) + event(STAMP, 0, 257), "1, lane 0: optimistic answered 257"),
+    (event(2) + event(STAMP, 0, 384) + event(1, 1) + event(15, 2) + event(NO, 2) + event(WITHDRAWN, 1) +
+     event(12, 1) + event(NO, 1), "7, lane 1: try_unlock_write answered no; possible: yes"),
+]
+
+
+def try_stuck(watch):
+    """What could have been answered is told, but for stamps."""
+    for events, told in STUCK:
+        number = told.partition(",")[0]
+        must_be("stuck", judged(watch, header() + events), (f"stuck {number}", f"stamped_watch: event {told}"))
+    return len(STUCK)
+
+
+def fed(command, pieces, **words):
+    """The status, what the program wrote to standard output, and what to standard error."""
+    with started(command, stdin=subprocess.PIPE, stdout=subprocess.PIPE, **words) as process:
+        with contextlib.suppress(BrokenPipeError):
+            for piece in pieces:
+                process.stdin.write(piece)
+            process.stdin.close()
+        line, note = process.stdout.read(), process.stderr.read() if process.stderr else b""
+        return process.wait(), line, note
+
+
+def try_progress(watch):
+    """A line at each 2^24 events, before something is found; none unless asked for. The answer is the same, also where
+    standard error takes no line."""
+    many = [SEEN * (1 << 18)] * 31 + [SEEN * ((1 << 18) - 2)]
+    under_way = event(3, 5) + event(2, 7) + event(WITHDRAWN, 7) + event(4)
+    rest = event(STAMP, 0, 256) + event(STAMP, 5, 257)
+    told = b"stamped_watch: 8388608 calls, explained up to event 16777212, 2 open\n"
+    pieces, answer = [header(), *many, under_way, rest], b"ok 8388608\n"
+    must_be("--progress", fed([watch, "--progress"], pieces, stderr=subprocess.PIPE), (0, answer, told))
+    must_be("no --progress", fed([watch], pieces, stderr=subprocess.PIPE), (0, answer, b""))
+    with open("/dev/full", "wb") as full:
+        must_be("no room", fed([watch, "--progress", "--most", "9"], pieces, stderr=full), (0, answer, b""))
+    one_less = [header(), *many, under_way[:EVENT * 3]]
+    must_be("before 2^24", fed([watch, "--progress"], one_less, stderr=subprocess.PIPE), (0, b"ok 8388607\n", b""))
+    stuck = [header(), SEEN, event(4), event(STAMP, 0, 257), *many, SEEN * 9]
+    must_be("stuck before", fed([watch, "--progress"], stuck, stderr=subprocess.PIPE),
+            (1, b"stuck 3\n", b"stamped_watch: event 3, lane 0: optimistic answered 257\n"))
 
 
 def try_files(watch):
@@ -151,9 +217,9 @@ def try_files(watch):
             file.write(header() + SEEN)
         for words in ([path], ["--most", "1", path], ["--ahead", "1", "--most", "1", path]):
             must_be("a file", judged(watch, b"", *words), ("ok 1", ""))
-        for path in (room, os.path.join(room, "none")):
+        for path, told in ((room, b"read fault"), (os.path.join(room, "none"), b"can't open the file")):
             made = run([watch, path])
-            must_be("no file", (made.returncode, made.stdout, made.stderr), (1, b"", b"stamped_watch: read fault\n"))
+            must_be("no file", (made.returncode, made.stdout, made.stderr), (1, b"", b"stamped_watch: %b\n" % told))
 
 
 def try_pieces(watch):
@@ -190,6 +256,8 @@ def main():
     calls, stuck = try_random(watch, explain)
     broken = try_broken(watch)
     try_options(watch)
+    told = try_stuck(watch)
+    try_progress(watch)
     try_files(watch)
     try_pieces(watch)
     events = try_long(watch)

@@ -7,7 +7,7 @@ use Rattle.stamp_cli.specs.declared.line.Verdict.{Verdict}
 use Rattle.stamp_cli.specs.declared.line.Verdict.TheVariants.{Accepted, Bad}
 use Rattle.stamp_cli.specs.declared.shell.Answered as shell
 use Rattle.stamp_cli.specs.declared.shell.Ending.{Ending}
-use Rattle.stamp_cli.specs.declared.shell.Ending.TheVariants.{BadCommandLine, Answered, Refused}
+use Rattle.stamp_cli.specs.declared.shell.Ending.TheVariants.{BadCommandLine, Unopened, Answered, Refused}
 
 -- a source and a sink as contracts see them: the bytes that are left and that went out, where they are known, and the
 -- results of all reads and writes so far
@@ -24,12 +24,14 @@ verdict_status Bad = 1
 -- the exit status: 0 of an answer that accepts, 2 of a bad command line, and else 1
 abbrev pub status_after : {F : Type 0} → Ending F → ℕ
 status_after BadCommandLine = 2
+status_after Unopened = 1
 status_after (Answered answered) = verdict_status answered.verdict
 status_after (Refused fault) = 1
 
 -- it ends so after an answer that may be given
 abbrev pub IsEndingOf : {F : Type 0} → (Result shell.Answered F → Type 0) → Ending F → Type 0
 IsEndingOf May BadCommandLine = ⊥
+IsEndingOf May Unopened = ⊥
 IsEndingOf May (Answered answered) = May (Ok answered)
 IsEndingOf May (Refused fault) = May (Err fault)
 

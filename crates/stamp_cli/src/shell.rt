@@ -6,10 +6,9 @@ ghost use Rattle.stamp_cli.specs.declared.shell.Answered.{Answered};
 ghost use Rattle.stamp_cli.specs.Shell as shell;
 ghost use Rattle.stamp_cli.specs.Shell.{EndsView, IsEndingOf};
 
-use crate::faults::ServeFault;
 use crate::line::Verdict;
 use crate::orders::CommandFault;
-use crate::sinks::{Sink, WriteSink};
+use crate::sinks::{EprintSink, Sink, WriteSink};
 use crate::sources::{ReadSource, Source};
 use std::alloc::{AllocError, Global};
 use std::io::Read;
@@ -31,6 +30,8 @@ pub struct Answered {
 pub enum Ending<F> {
     /// The arguments give no order.
     BadCommandLine,
+    /// The file that the arguments name can't be opened.
+    Unopened,
     /// It has answered.
     Answered(Answered),
     /// It wrote no answer, for this fault.
@@ -42,7 +43,7 @@ pub trait Program {
     /// What its arguments ask for.
     type Order;
     /// Why it wrote no answer.
-    type Fault: From<AllocError> + From<ServeFault> + Drop;
+    type Fault: From<AllocError> + Drop;
 
     // The order that arguments give.
     ghost order_in: { List (List ℕ) → Result Self.Order CommandFault };
@@ -72,20 +73,42 @@ pub trait Program {
             (record { left = S.left source.new; reads = S.reads source.new; sent = K.sent sink.new; writes = K.writes sink.new })
             result };
 
+    /// Serves the order as `answer` does, and tells lines on the way. A program that says nothing here tells none.
+    fn answer_telling<S: Source, K: Sink, T: Sink>(
+        alloc: Global,
+        order: Self::Order,
+        source: &mut S,
+        sink: &mut K,
+        _told: &mut T,
+    ) -> Result<Answered, Self::Fault>
+        ensures { serves order
+            (record { left = S.left source.old; reads = S.reads source.old; sent = K.sent sink.old; writes = K.writes sink.old })
+            (record { left = S.left source.new; reads = S.reads source.new; sent = K.sent sink.new; writes = K.writes sink.new })
+            result }
+    {
+        Self::answer(alloc, order, source, sink)
+    }
+
     /// The line that tells of arguments that give no order, without its line feed.
     fn bad_command_line() -> &'static str;
+
+    /// The line that tells that the file which arguments name can't be opened, without its line feed.
+    fn unopened_file() -> &'static str {
+        "the file can't be opened"
+    }
 
     /// The line that tells of a fault, without its line feed, if there is memory for it.
     fn fault_line(alloc: Global, fault: &Self::Fault) -> Option<String>;
 }
 
 /// The status that a program ends with: 0 where the answer accepts the input, 2 where the arguments
-/// give no order, and else 1.
+/// give no order, and else 1, also where a file can't be opened.
 pub fn status_after<F>(ending: &Ending<F>) -> u8
     ensures { result ≡ shell.status_after ending.now }
 {
     match ending {
         Ending::BadCommandLine => 2,
+        Ending::Unopened => 1,
         Ending::Answered(answered) => match answered.verdict {
             Verdict::Accepted => 0,
             Verdict::Bad => 1,
@@ -94,16 +117,18 @@ pub fn status_after<F>(ending: &Ending<F>) -> u8
     }
 }
 
-/// What a program does on these arguments, its name not among them, between a source and a sink. Where
-/// they give no order, neither is touched; otherwise the order is served, once.
-pub fn ending_of<P: Program, S: Source, K: Sink>(
+/// What a program does on these arguments, its name not among them, between a source and a sink, and another sink for
+/// what it tells on the way. Where they give no order, none is touched; otherwise the order is served, once.
+pub fn ending_of<P: Program, S: Source, K: Sink, T: Sink>(
     alloc: Global,
     arguments: &[&str],
     source: &mut S,
     sink: &mut K,
+    told: &mut T,
 ) -> Ending<P::Fault>
     ensures bad { (fault : CommandFault) → P.order_in (map (λ arg. arg.now) arguments.now) ≡ Err fault →
-        (result ≡ Ending.BadCommandLine) × (source.new ≡ source.old) × (sink.new ≡ sink.old) }
+        (result ≡ Ending.BadCommandLine) × (source.new ≡ source.old) × (sink.new ≡ sink.old)
+        × (told.new ≡ told.old) }
     ensures served { (order : P.Order) → P.order_in (map (λ arg. arg.now) arguments.now) ≡ Ok order →
         IsEndingOf (P.serves order
         (record { left = S.left source.old; reads = S.reads source.old; sent = K.sent sink.old; writes = K.writes sink.old })
@@ -114,7 +139,7 @@ pub fn ending_of<P: Program, S: Source, K: Sink>(
         Ok(order) => order,
         Err(CommandFault::Bad) => return Ending::BadCommandLine,
     };
-    match P::answer(alloc, order, source, sink) {
+    match P::answer_telling(alloc, order, source, sink, told) {
         Ok(answered) => Ending::Answered(answered),
         Err(fault) => Ending::Refused(fault),
     }
@@ -129,21 +154,21 @@ fn arguments_given(rt: &(impl Env + AllocGlobal)) -> Result<Option<Vec<String>>,
     }
 }
 
-/// What the program does on these arguments, between a reader and standard output.
+/// What the program does on these arguments, between a reader, standard output and standard error.
 fn ending_from<P: Program, R: Read + Drop>(
-    rt: &(impl Print + AllocGlobal),
+    rt: &(impl Print + Eprint + AllocGlobal),
     arguments: &[&str],
     reader: R,
 ) -> Ending<P::Fault> {
     let mut source = ReadSource::new(reader);
     let mut sink = WriteSink::new(io::writer(rt));
-    ending_of::<P, _, _>(rt.alloc(), arguments, &mut source, &mut sink)
+    let mut told = EprintSink::new(rt);
+    ending_of::<P, _, _, _>(rt.alloc(), arguments, &mut source, &mut sink, &mut told)
 }
 
-/// What the program does between its input, which is standard input or a file, and standard output. A file that can't
-/// be opened is one that can't be read.
+/// What the program does between its input, which is standard input or a file, and standard output.
 fn ending_here<P: Program>(
-    rt: &(impl Env + Files + Input + Print + AllocGlobal),
+    rt: &(impl Env + Files + Input + Print + Eprint + AllocGlobal),
 ) -> Result<Ending<P::Fault>, AllocError> {
     let Some(args) = arguments_given(rt)? else {
         return Ok(Ending::BadCommandLine);
@@ -158,7 +183,8 @@ fn ending_here<P: Program>(
     };
     match fs::open(rt, path) {
         Ok(file) => Ok(ending_from::<P, _>(rt, &texts, file)),
-        Err(_) => Ok(Ending::Refused(P::Fault::from(ServeFault::ReadFault))),
+        Err(fault) if fault.kind() == io::ErrorKind::OutOfMemory => Err(AllocError),
+        Err(_) => Ok(Ending::Unopened),
     }
 }
 
@@ -180,6 +206,9 @@ pub fn run<P: Program, R: Env + Files + Input + Print + Eprint + AllocGlobal>(rt
     match ending {
         Ending::BadCommandLine => {
             let _ = rt.eprintln(P::bad_command_line());
+        }
+        Ending::Unopened => {
+            let _ = rt.eprintln(P::unopened_file());
         }
         Ending::Answered(answered) => tell(rt, answered.note),
         Ending::Refused(fault) => tell(rt, P::fault_line(rt.alloc(), &fault)),

@@ -1,14 +1,14 @@
 //! Where a command's line goes.
 
-ghost use Rattle.std.specs.Prelude.{◌≡◌, ◌++◌, ◌∷◌, [], ◌<◌, ℕ, List, Option, Result, length};
+ghost use Rattle.std.specs.Prelude.{◌≡◌, ◌++◌, ◌∷◌, [], ◌<◌, ℕ, List, None, Option, Result, length};
 ghost use Rattle.std.specs.Io.{WritesAtMost};
 ghost use Rattle.std.specs.Io.KnownBytes.{WriteAppends};
 ghost use Rattle.std.specs.declared.io.Error.{Error};
 ghost use Rattle.stamp_cli.specs.KeptResults.{results_in};
 
 use crate::kept_results::KeptResults;
-use std::io;
 use std::io::Write;
+use std::{io, str};
 
 /// Where a command writes its line to.
 pub trait Sink {
@@ -66,5 +66,45 @@ impl<W: Write> Sink for WriteSink<W> {
         let result = self.writer.write(bytes);
         self.writes.push(&result);
         result
+    }
+}
+
+/// Standard error as a `Sink`. Tested, not proved: a write prints its bytes, if they are text, and else takes none.
+#[derive(Drop)]
+pub(crate) struct EprintSink<'a, P> {
+    to: &'a P,
+    writes: KeptResults,
+}
+
+impl<'a, P: Eprint> EprintSink<'a, P> {
+    /// A sink that has made no write yet.
+    pub(crate) fn new(to: &'a P) -> Self {
+        EprintSink {
+            to,
+            writes: KeptResults::Empty,
+        }
+    }
+}
+
+/// Prints the bytes on standard error, if they are text, and tells how many it printed.
+fn print_text<P: Eprint>(to: &P, bytes: &[u8]) -> io::Result<usize>
+    ensures { WritesAtMost result bytes.now }
+{
+    let Ok(text) = str::from_utf8(bytes) else {
+        return Ok(0);
+    };
+    to.eprint(text)?;
+    Ok(bytes.len())
+}
+
+impl<P: Eprint> Sink for EprintSink<'_, P> {
+    ghost sent = { λ sink. None };
+
+    ghost writes = { λ sink. results_in sink.writes };
+
+    fn write(&mut self, bytes: &[u8]) -> io::Result<usize> {
+        let printed = print_text(self.to, bytes);
+        self.writes.push(&printed);
+        printed
     }
 }

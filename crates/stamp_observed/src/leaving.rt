@@ -5,51 +5,16 @@ ghost use Rattle.stamp_observed.specs.inner.Fault.{IsFaultOf};
 
 use crate::candidate::Candidate;
 use crate::fault::Fault;
+use crate::gaps::{Gap, Holder, Sweep};
 use crate::judging_again::{Found, found_of};
 use crate::renumbering::stamp_of;
 use crate::versions::{last_version, version_asked};
-use stamp_core::Reply;
+use stamp_core::{Call, Reply};
 use stamp_explain::{Observation, Observed};
 use std::alloc::{AllocError, Global};
 
 /// About how many calls are judged at most while some are left out.
-const MOST_JUDGED: usize = 1_000_000;
-
-/// How many histories of so many calls are judged at most.
-fn most_tries(calls: usize) -> usize {
-    MOST_JUDGED / calls.max(1)
-}
-
-/// Goes over the parts of a list: first the whole, then its halves, their halves and so on down to single places,
-/// each time from the end on.
-#[derive(Clone, Copy)]
-struct Sweep {
-    size: usize,
-    end: usize,
-}
-
-impl Sweep {
-    fn over(count: usize) -> Sweep {
-        Sweep {
-            size: count,
-            end: count,
-        }
-    }
-
-    /// Where the next part of a list of so many begins and ends.
-    fn next_part(&mut self, count: usize) -> Option<(usize, usize)> {
-        if self.end == 0 {
-            if self.size <= 1 {
-                return None;
-            }
-            self.size -= self.size / 2;
-            self.end = count;
-        }
-        let end = self.end;
-        self.end = end.saturating_sub(self.size);
-        Some((self.end, end))
-    }
-}
+const MOST_JUDGED: usize = 3_000_000;
 
 /// The candidate with other calls before its last one.
 fn with_others(candidate: &Candidate, others: Vec<Observation>) -> Candidate {
@@ -88,32 +53,69 @@ fn stamp_answered(call: &Observation) -> Option<u64> {
     }
 }
 
-/// A hold that is followed: its thread, and the stamp that it has.
+/// Whether the call released the mode whose stamp it took.
+fn is_release(call: &Observation) -> bool {
+    matches!(
+        call.call,
+        Call::UnlockWrite(_) | Call::UnlockRead(_) | Call::Unlock(_) | Call::ToOptimistic(_)
+    )
+}
+
+/// The candidate without the calls at two places.
+fn without_two(
+    alloc: Global,
+    candidate: &Candidate,
+    first: usize,
+    second: usize,
+) -> Result<Candidate, AllocError> {
+    let mut others = Vec::new(alloc);
+    for (i, call) in candidate.others.iter().enumerate() {
+        if i != first && i != second {
+            others.push(*call)?;
+        }
+    }
+    Ok(with_others(candidate, others))
+}
+
+/// A hold that is followed: who has it, and its stamp.
 #[derive(Clone, Copy)]
 struct Hold {
+    holder: Holder,
     thread: u64,
     stamp: u64,
+    /// Whether anyone else has released it.
+    is_over: bool,
 }
 
 impl Hold {
+    /// Whether the call may be one of the hold.
+    fn may_have(&self, call: &Observation) -> bool {
+        match self.holder {
+            Holder::Thread => call.thread == self.thread,
+            Holder::Anyone => !self.is_over,
+        }
+    }
+
     /// Whether the call is one of the hold, which then has the stamp that this was answered.
     fn follows(&mut self, call: &Observation) -> bool {
-        if call.thread != self.thread || stamp_of(&call.call) != Some(self.stamp) {
+        if !self.may_have(call) || stamp_of(&call.call) != Some(self.stamp) {
             return false;
         }
         if let Some(stamp) = stamp_answered(call) {
             self.stamp = stamp;
         }
+        self.is_over = is_release(call);
         true
     }
 }
 
-/// The candidate without the call at this place and those behind it that its thread makes with the stamp that it
-/// got. Nothing where it got none.
+/// The candidate without the call at this place and those behind it that are made with the stamp that it got.
+/// Nothing where it got none.
 fn without_hold(
     alloc: Global,
     candidate: &Candidate,
     place: usize,
+    holder: Holder,
 ) -> Result<Option<Candidate>, AllocError> {
     let Some(begun) = candidate.others.get(place) else {
         return Ok(None);
@@ -122,8 +124,10 @@ fn without_hold(
         return Ok(None);
     };
     let mut hold = Hold {
+        holder,
         thread: begun.thread,
         stamp,
+        is_over: false,
     };
     let mut others = Vec::new(alloc);
     for (i, call) in candidate.others.iter().enumerate() {
@@ -132,6 +136,19 @@ fn without_hold(
         }
     }
     Ok(Some(with_others(candidate, others)))
+}
+
+/// The candidate without these calls; nothing where there are none such.
+fn without_gap(
+    alloc: Global,
+    candidate: &Candidate,
+    gap: Gap,
+) -> Result<Option<Candidate>, AllocError> {
+    match gap {
+        Gap::Part(from, to) => Ok(Some(without_part(alloc, candidate, from, to)?)),
+        Gap::Hold(place, holder) => without_hold(alloc, candidate, place, holder),
+        Gap::Two(first, second) => Ok(Some(without_two(alloc, candidate, first, second)?)),
+    }
 }
 
 /// The version that the fault's call asks for by its stamp, if what was found comes to it.
@@ -163,8 +180,29 @@ fn fewer_found(
     found_of(alloc, observed, fault, candidate, most)
 }
 
-/// Leaves out parts of what was found, as long as that is stuck as the run is.
-pub(crate) fn without_parts(
+/// What is found without these calls, if that is stuck as the run is.
+fn found_without(
+    alloc: Global,
+    observed: &Observed,
+    fault: &Fault,
+    found: &Found,
+    gap: Gap,
+    version: u64,
+    most: u64,
+) -> Result<Option<Found>, AllocError>
+    requires { IsFaultOf observed.now most fault.now }
+    ensures { IfOk result (λ found. IfSome found (λ f. IsStuckAs observed.now most fault.now.entry f.small)) }
+{
+    match without_gap(alloc, &found.candidate, gap)? {
+        Some(tried) => fewer_found(alloc, observed, fault, tried, version, most),
+        None => Ok(None),
+    }
+}
+
+/// Leaves out calls of what was found, as long as that is stuck as the run is: until no call can be left out alone,
+/// no hold with all its calls, and no two calls, where they aren't too many; or until about 3,000,000 calls have been
+/// judged.
+pub(crate) fn without_more(
     alloc: Global,
     observed: &Observed,
     fault: &Fault,
@@ -177,38 +215,19 @@ pub(crate) fn without_parts(
 {
     let version = version_kept(observed, fault, &found);
     let mut sweep = Sweep::over(found.candidate.others.len());
-    for _ in 0..most_tries(found.candidate.others.len()) {
-        let Some((from, to)) = sweep.next_part(found.candidate.others.len()) else {
+    let mut judged: usize = 0;
+    for _ in 0..MOST_JUDGED {
+        let calls = found.candidate.others.len();
+        judged = judged.saturating_add(calls);
+        let Some(gap) = sweep.next_gap(calls) else {
             return Ok(found);
         };
-        let tried = without_part(alloc, &found.candidate, from, to)?;
-        if let Some(smaller) = fewer_found(alloc, observed, fault, tried, version, most)? {
-            found = smaller;
+        if judged > MOST_JUDGED {
+            return Ok(found);
         }
-    }
-    Ok(found)
-}
-
-/// Leaves out holds, each with all its calls, as long as what was found is stuck as the run is.
-pub(crate) fn without_holds(
-    alloc: Global,
-    observed: &Observed,
-    fault: &Fault,
-    mut found: Found,
-    most: u64,
-) -> Result<Found, AllocError>
-    requires fault { IsFaultOf observed.now most fault.now }
-    requires found { IsStuckAs observed.now most fault.now.entry found.small }
-    ensures { IfOk result (λ f. IsStuckAs observed.now most fault.now.entry f.small) }
-{
-    let version = version_kept(observed, fault, &found);
-    let calls = found.candidate.others.len();
-    for place in (0..calls.min(most_tries(calls))).rev() {
-        let Some(tried) = without_hold(alloc, &found.candidate, place)? else {
-            continue;
-        };
-        if let Some(smaller) = fewer_found(alloc, observed, fault, tried, version, most)? {
+        if let Some(smaller) = found_without(alloc, observed, fault, &found, gap, version, most)? {
             found = smaller;
+            sweep.left_out();
         }
     }
     Ok(found)

@@ -11,6 +11,7 @@
 mod candidate;
 mod cut;
 mod fault;
+mod gaps;
 mod judging;
 mod judging_again;
 pub mod laws;

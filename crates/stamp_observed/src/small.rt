@@ -8,7 +8,7 @@ use crate::candidate::Candidate;
 use crate::cut::{cut_at, order_of};
 use crate::fault::{Fault, fault_at};
 use crate::judging_again::{Found, found_of};
-use crate::leaving::{without_holds, without_parts};
+use crate::leaving::without_more;
 use crate::window::{OlderStamps, window_behind};
 use stamp_core::Entry;
 use stamp_explain::Observed;
@@ -112,8 +112,6 @@ pub fn small_of(
     let Some(found) = first_found(alloc, observed, &fault, most)? else {
         return Ok(None);
     };
-    let fewer = without_parts(alloc, observed, &fault, found, most)?;
-    let fewer = without_holds(alloc, observed, &fault, fewer, most)?;
-    let fewer = without_parts(alloc, observed, &fault, fewer, most)?;
+    let fewer = without_more(alloc, observed, &fault, found, most)?;
     Ok(Some(fewer.small))
 }

@@ -23,6 +23,8 @@ mod history_tests;
 #[cfg(test)]
 mod judge_tests;
 #[cfg(test)]
+mod late_tests;
+#[cfg(test)]
 mod machine_tests;
 #[cfg(test)]
 mod migration_tests;

@@ -1,8 +1,9 @@
 ghost use Rattle.std.specs.Prelude.{IfOk, OnOk};
-ghost use Rattle.stamp_watch.specs.Judge.{IsJudgeOfSome};
+ghost use Rattle.stamp_watch.specs.Judge.{HasFoundNothing, IsJudgeOfSome};
+ghost use Rattle.stamp_watch.specs.Possible.{IsKeeping};
 
 use crate::fixtures::limits;
-use stamp_core::{Call, Reply};
+use stamp_core::{Call, LockReply, Reply};
 use stamp_watch::{Event, Judge, StreamEvent, Verdict, Why, judge_run};
 use std::test::Fail;
 
@@ -182,5 +183,81 @@ fn a_call_that_is_open_for_too_long_ends_the_judging(rt: HostRuntime) -> Result<
     let mut longer = judge(&rt, 100, 4)?;
     assert!(rt; pushed(&mut longer, events)? == None);
     assert!(rt; longer.finish()? == Verdict::Explained);
+    Ok(())
+}
+
+/// Gives these events to a judge that keeps its base.
+fn kept(judge: &mut Judge, events: &[Event]) -> Result<(), Fail>
+    requires known { IsJudgeOfSome judge.old }
+    requires keeping { IsKeeping judge.old }
+    ensures known { OnOk result (IsJudgeOfSome judge.new) }
+    ensures keeping { OnOk result (IsKeeping judge.new) }
+{
+    for event in events {
+        let Some(small) = StreamEvent::of(event) else {
+            return Err(Fail::from("not of a lock"));
+        };
+        if judge.is_full() {
+            return Err(Fail::from("full"));
+        }
+        judge.push(&small)?;
+    }
+    Ok(())
+}
+
+#[test]
+fn possible_replies_are_told_of_a_return(rt: HostRuntime) -> Result<(), Fail> {
+    let mut judge = Judge::new(rt.alloc(), limits(127, 1000)?, 100, 100)?;
+    let counted = [
+        Event::Begins(0, Call::TryRead),
+        Event::Begins(1, Call::ReadCount),
+        Event::Returns(1, Reply::Count(9)),
+        Event::Returns(0, Reply::Stamp(257)),
+    ];
+    kept(&mut judge, &counted)?;
+    let Some(counts) = judge.possible_at(2, &Call::ReadCount)? else {
+        return Err(Fail::from("not told"));
+    };
+    assert!(rt; counts.as_slice() == [Reply::Count(0), Reply::Count(1)].as_slice());
+    let tried = [LockReply::Count(2), LockReply::Count(1), LockReply::No];
+    let Some(among) = judge.possible_among(2, &tried)? else {
+        return Err(Fail::from("not told"));
+    };
+    assert!(rt; among.as_slice() == [Reply::Count(1)].as_slice());
+    assert!(rt; judge.possible_at(2, &Call::Optimistic)?.is_none());
+    assert!(rt; judge.possible_at(1, &Call::ReadCount)?.is_none());
+    assert!(rt; judge.possible_at(4, &Call::ReadCount)?.is_none());
+    Ok(())
+}
+
+/// Gives this event to the judge, which finds nothing then.
+fn going(judge: &mut Judge, event: &Event) -> Result<(), Fail>
+    requires { IsJudgeOfSome judge.old }
+    ensures known { OnOk result (IsJudgeOfSome judge.new) }
+    ensures none { OnOk result (HasFoundNothing judge.new) }
+{
+    let Some(small) = StreamEvent::of(event) else {
+        return Err(Fail::from("not of a lock"));
+    };
+    if judge.is_full() {
+        return Err(Fail::from("full"));
+    }
+    match judge.push(&small)? {
+        None => Ok(()),
+        Some(_) => Err(Fail::from("found")),
+    }
+}
+
+#[test]
+fn a_judge_tells_how_far_a_run_is_explained(rt: HostRuntime) -> Result<(), Fail> {
+    let mut judge = judge(&rt, 100, 100)?;
+    going(&mut judge, &Event::Begins(0, Call::Optimistic))?;
+    assert!(rt; judge.explained() == 0 && judge.open_calls() == 1);
+    going(&mut judge, &Event::Begins(1, Call::ReadLock))?;
+    assert!(rt; judge.explained() == 0 && judge.open_calls() == 2);
+    going(&mut judge, &Event::Returns(0, Reply::Stamp(256)))?;
+    assert!(rt; judge.explained() == 1 && judge.open_calls() == 1);
+    going(&mut judge, &Event::Returns(1, Reply::Stamp(257)))?;
+    assert!(rt; judge.explained() == 4 && judge.open_calls() == 0);
     Ok(())
 }

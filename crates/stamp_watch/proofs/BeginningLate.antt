@@ -24,11 +24,11 @@ use Rattle.stamp_watch.proofs.Surviving.{tells_return, tells_past_withdrawal, ne
 use Rattle.stamp_watch.proofs.Surviving.{never_past_withdrawal}
 use Rattle.stamp_watch.proofs.StandingFor.{no_empty, first_same, rest_same}
 
-writes-append : (xs ys : List LockEvent) → write_count (xs ++ ys) ≡ write_count xs + write_count ys
+pub writes-append : (xs ys : List LockEvent) → write_count (xs ++ ys) ≡ write_count xs + write_count ys
 writes-append xs ys = sum_by-append (λ (x : LockEvent). cond (is_write_acquired x) 1 0) xs ys
 
 -- versions never fall
-version_stays : (limits : Bounds) (s next : List LockEvent) (call : Call) (reply : Reply) →
+pub version_stays : (limits : Bounds) (s next : List LockEvent) (call : Call) (reply : Reply) →
     LockStep limits s call reply next → write_count s ≤ write_count next
 version_stays limits s next call reply step =
     omega (
@@ -38,7 +38,7 @@ version_stays limits s next call reply step =
     )
 
 -- what goes on after some events only from an older version does so before them
-older : (limits : Bounds) (version : ℕ) (between rest events : List Event) (s : List LockEvent) (lanes : Lanes) →
+pub older : (limits : Bounds) (version : ℕ) (between rest events : List Event) (s : List LockEvent) (lanes : Lanes) →
     ((v : List LockEvent) (there : Lanes) → Survives limits rest v there → write_count v < version) →
     events ≡ between ++ rest → Survives limits events s lanes → write_count s < version
 older limits version [] rest events s lanes old same way =

@@ -3,7 +3,7 @@ use Rattle.std.specs.Prelude.{◌↔◌, IsTrue}
 use Rattle.std.proofs.Common.{Bool, false, ℕ, zero, suc, ◌≡◌, ◌≢◌, ◌⊎◌, ◌+◌, ◌<◌, ◌≤◌, refl, sym, ◌∙◌, subst, inl}
 use Rattle.std.proofs.Common.{inr, arith}
 use Rattle.std.proofs.lemmas.Bool.{cases_eq, false≢true}
-use Rattle.std.proofs.lemmas.Nat.Bits.{bit_at-lt}
+use Rattle.std.proofs.lemmas.Nat.Bits.{bit_at-lt, bit_at-zero}
 use Rattle.std.specs.Int.{bit_at}
 use Rattle.stamp_watch.specs.inner.Lanes.{SetsBit, lanes_below, lanes_in}
 
@@ -46,6 +46,20 @@ lanes_in_le lanes = lanes_below_le 64 lanes
 pub lanes_in_more : (a b k : ℕ) → k < 64 → SetsBit a b k 1 → bit_at a k ≡ 0 → lanes_in b ≡ lanes_in a + 1
 unfolding lanes_in
 lanes_in_more a b k less sets free = lanes_below_more 64 a b k less sets free
+
+pub lanes_in_one : (a b k : ℕ) → k < 64 → SetsBit a b k 0 → bit_at a k ≡ 1 → lanes_in a ≡ lanes_in b + 1
+lanes_in_one a b k less sets taken =
+    lanes_in_more b a k less (record { here = taken; others = λ other apart. sym (sets.others other apart) }) sets.here
+
+-- there is none in 0
+lanes_below_none : (n : ℕ) → lanes_below n 0 ≡ 0
+unfolding lanes_below
+lanes_below_none zero = refl
+lanes_below_none (suc n) = omega (arith, lanes_below_none n, bit_at-zero n)
+
+pub lanes_in_none : lanes_in 0 ≡ 0
+unfolding lanes_in
+lanes_in_none = lanes_below_none 64
 
 pub lanes_in_less : (a b k : ℕ) → k < 64 → SetsBit a b k 0 → bit_at a k ≡ 1 → lanes_in b < lanes_in a
 lanes_in_less a b k less sets taken =

@@ -14,8 +14,8 @@ use Rattle.stamp_watch.specs.Judge.{HasRoomForOne, IsJudge, IsJudgeOfSome, IsUnd
 use Rattle.stamp_watch.specs.Verdict.{AreOfLock}
 use Rattle.stamp_watch.specs.Judging.{AreBusyLanes, IsFound}
 use Rattle.stamp_watch.specs.inner.Judging.{MayComeIn, SetsBusy}
-use Rattle.stamp_watch.specs.Course.{HasRoom, IsCourse, IsNear, IsRunOn, IsSmall}
-use Rattle.stamp_watch.specs.inner.Course.{HasGoneOn, IsOneLonger, IsOnCourse, IsRest, broken_off}
+use Rattle.stamp_watch.specs.Course.{HasRoom, IsCourse, IsNear, IsRest, IsRunOn, IsSmall}
+use Rattle.stamp_watch.specs.inner.Course.{HasGoneOn, IsOneLonger, IsOnCourse, broken_off}
 use Rattle.stamp_watch.proofs.Forming.{busy_lanes_then, form_first, of_lock_on}
 use Rattle.stamp_watch.proofs.Running.{broken_found, found_later}
 use Rattle.stamp_watch.proofs.SameRuns.{room_still}

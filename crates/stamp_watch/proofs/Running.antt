@@ -27,8 +27,8 @@ use Rattle.stamp_watch.specs.Judging.{IsFound, IsJudging}
 use Rattle.stamp_watch.specs.inner.Judging.{IsBase, IsEndTold, IsOutcome, IsStep}
 use Rattle.stamp_watch.specs.Judging.{AreBusyLanes}
 use Rattle.stamp_watch.specs.inner.Judging.{IsStuckBehind, IsStuckFrom, MayComeIn}
-use Rattle.stamp_watch.specs.Course.{IsRunOn, IsStanding}
-use Rattle.stamp_watch.specs.inner.Course.{IsKnown, IsOver, IsRest, broken_off}
+use Rattle.stamp_watch.specs.Course.{IsOver, IsRest, IsRunOn, IsStanding}
+use Rattle.stamp_watch.specs.inner.Course.{IsKnown, broken_off}
 use Rattle.stamp_watch.specs.declared.judge.Outcome.{Outcome}
 use Rattle.stamp_watch.specs.declared.judge.Outcome.TheVariants as judged
 use Rattle.stamp_watch.specs.declared.verdict.Verdict.{Verdict}

@@ -1,9 +1,19 @@
 -- What the events that are ahead tell of a lane and its call.
 use Rattle.std.specs.Prelude.{ℕ, ◌≢◌, List, [], ◌∷◌}
+use Rattle.std.specs.List.{All}
 use Rattle.stamp_core.specs.declared.call.Call.{Call}
 use Rattle.stamp_core.specs.declared.reply.Reply.{Reply}
 use Rattle.stamp_watch.specs.declared.event.Event.{Event}
 use Rattle.stamp_watch.specs.declared.event.Event.TheVariants.{Begins, Returns, Withdraws}
+
+abbrev pub lane_of : Event → ℕ
+lane_of (Begins lane call) = lane
+lane_of (Returns lane reply) = lane
+lane_of (Withdraws lane) = lane
+
+-- none of these events is of the lane
+abbrev pub IsSpared : List Event → ℕ → Type 0
+IsSpared events lane = All (λ e. lane_of e ≢ lane) events
 
 -- the next end of this lane's call is among these events: a return, with this reply
 pub data Tells (lane : ℕ) (reply : Reply) : List Event → Type 0 where

@@ -1,14 +1,18 @@
 -- What is kept of a run while it is judged, event by event.
-use Rattle.std.specs.Prelude.{ℕ, ◌≡◌, ◌+◌, ◌^◌, ◌<◌, ◌≤◌, ◌++◌, List, [], ◌∷◌, length, take, drop}
+use Rattle.std.specs.Prelude.{ℕ, ◌≡◌, ◌+◌, ◌^◌, ◌<◌, ◌≤◌, ◌++◌, List, [], ◌∷◌, length, take, drop, Option}
 use Rattle.stamp_core.specs.Limits.{Bounds}
 use Rattle.stamp_watch.specs.declared.event.Event.{Event}
 use Rattle.stamp_watch.specs.declared.event.Event.TheVariants.{Begins, Returns, Withdraws}
 use Rattle.stamp_watch.specs.declared.course.Course.{Course}
+use Rattle.stamp_watch.specs.declared.verdict.Verdict.{Verdict}
+use Rattle.stamp_watch.specs.declared.verdict.Verdict.TheVariants as verdict
+use Rattle.stamp_watch.specs.declared.verdict.Why.TheVariants as cause
 use Rattle.stamp_watch.specs.declared.watch.Watch.{Watch}
 use Rattle.stamp_watch.specs.Ahead.{EndsNever}
 use Rattle.stamp_watch.specs.AsObserved.{AreEnded}
-use Rattle.stamp_watch.specs.Verdict.{AreOfLock}
-use Rattle.stamp_watch.specs.Judging.{IsJudging}
+use Rattle.stamp_watch.specs.Run.{AreExplained}
+use Rattle.stamp_watch.specs.Verdict.{AreOfLock, IsVerdict, NoMoreAreOfLock}
+use Rattle.stamp_watch.specs.Judging.{IsFound, IsJudging}
 
 -- a watch judges a run, whatever comes behind these events
 pub record IsStanding (limits : Bounds) (n : ℕ) (past future : List Event) (watch : Watch) : Type 0 where
@@ -63,3 +67,18 @@ pub record IsSmall (ahead : ℕ) (course : Course) : Type 0 where
 -- one event more may come then
 pub record IsNear (ahead : ℕ) (course : Course) : Type 0 where
   pub events : length course.events.items ≤ course.seen + ahead
+
+-- no event of the lock comes next
+abbrev pub IsOver : List Event → List Event → Type 0
+IsOver run later = NoMoreAreOfLock (run ++ later) (length run)
+
+-- what is found of a run that ends or breaks here; what is not explained is found whatever comes later
+abbrev pub IsRest : Bounds → List Event → ℕ → Option ℕ → Verdict → Type 0
+IsRest limits run most ahead verdict.Explained = AreOfLock run × AreExplained limits run
+IsRest limits run most ahead (verdict.Stuck k) = IsFound limits run most ahead (verdict.Stuck k)
+IsRest limits run most ahead (verdict.StuckWithin k m) = IsFound limits run most ahead (verdict.StuckWithin k m)
+IsRest limits run most ahead (verdict.Undecided k cause.TooMany) = (later : List Event) → IsOver run later →
+    IsVerdict limits (run ++ later) most ahead (verdict.Undecided k cause.TooMany)
+IsRest limits run most ahead (verdict.Undecided k cause.TooFar) =
+    IsFound limits run most ahead (verdict.Undecided k cause.TooFar)
+IsRest limits run most ahead (verdict.Broken k) = IsFound limits run most ahead (verdict.Broken k)

@@ -8,9 +8,17 @@ pub mod Verdict
 pub mod Judging
 pub mod Course
 pub mod Judge
+pub mod SoFar
+pub mod Possible
 pub mod Run
 pub mod Ahead
 pub mod Form
 pub mod Watching
 pub mod AsObserved
 pub mod WatchLaws
+pub mod Issued
+pub mod Late
+pub mod Waiting
+pub mod Delay
+pub mod LateJudge
+pub mod LateLaws

@@ -8,3 +8,7 @@ pub mod Stamps
 pub mod Foretold
 pub mod Stream
 pub mod Alike
+pub mod Delay
+pub mod Late
+pub mod Possible
+pub mod Kept

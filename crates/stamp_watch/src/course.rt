@@ -3,8 +3,9 @@ ghost use Rattle.std.specs.Prelude.{◌≡◌, ◌+◌, ◌^◌, ◌<◌, ◌≤
 ghost use Rattle.stamp_core.specs.Limits.{Bounds};
 ghost use Rattle.stamp_watch.specs.declared.event.Event.{Event};
 ghost use Rattle.stamp_watch.specs.Verdict.{AreOfLock};
-ghost use Rattle.stamp_watch.specs.Course.{HasRoom, IsCourse, IsSmall};
-ghost use Rattle.stamp_watch.specs.inner.Course.{HasGoneOn, HasLetGo, IsEndAtFront, IsFresh, IsFront, IsKnown, IsOneLonger, IsOnCourse, IsOnward, IsRest, IsUnknown};
+ghost use Rattle.stamp_watch.specs.Course.{HasRoom, IsCourse, IsRest, IsSmall};
+ghost use Rattle.stamp_watch.specs.inner.Course.{HasGoneOn, HasLetGo, IsEndAtFront, IsFresh, IsFront, IsKnown, IsOneLonger, IsOnCourse, IsOnward, IsUnknown};
+ghost use Rattle.stamp_watch.specs.inner.Kept.{StaysKept};
 
 use crate::ending::Ending;
 use crate::event::Event;
@@ -28,7 +29,7 @@ const ENOUGH: usize = 1024;
 /// place, takes the place of the first once the ends of its open calls were seen: the events before it are let go of.
 #[derive(Drop)]
 pub(crate) struct Course {
-    alloc: Global,
+    pub(crate) alloc: Global,
     pub(crate) base: Watch,
     pub(crate) first: u64,
     pub(crate) events: Vec<StreamEvent>,
@@ -129,6 +130,7 @@ impl Course {
         requires known { IsKnown event.now ends }
         ensures onward { IfOk result (λ onward. (ahead : ℕ) → IsOnward most ahead self.old self.new onward) }
         ensures small { IfOk result (λ _. (ahead : ℕ) → IsFresh ahead self.old → IsSmall ahead self.new) }
+        ensures kept { IfOk result (λ _. StaysKept self.old self.new) }
     {
         let number = self.first + self.seen as u64;
         let progress = step(&mut self.watch, event, ends, most)?;
@@ -160,6 +162,7 @@ impl Course {
         requires more { self.old.seen < length self.old.events.items }
         ensures onward { IfOk result (λ onward. IsOnward most ahead self.old self.new onward) }
         ensures small { IfOk result (λ _. IsFresh ahead self.old → IsSmall ahead self.new) }
+        ensures kept { IfOk result (λ _. StaysKept self.old self.new) }
     {
         let events = self.events.as_slice();
         let event = events[self.seen];
@@ -222,6 +225,7 @@ impl Course {
         requires room { HasRoom self.old }
         ensures found { IfOk result (λ found. HasGoneOn most ahead self.old self.new found) }
         ensures small { IfOk result (λ _. IsSmall ahead self.old → IsSmall ahead self.new) }
+        ensures kept { IfOk result (λ _. StaysKept self.old self.new) }
     {
         'unseen: while self.seen < self.events.len() {
             self.let_go()?;

@@ -4,20 +4,28 @@
 
 mod ahead;
 mod course;
+mod delay;
 mod effect;
 mod ended_call;
 mod ending;
 mod event;
+mod issued;
 mod judge;
 mod lanes;
+mod late;
+mod late_verdict;
 mod layers;
 mod lock_call;
 mod online;
 mod open_call;
+mod places;
 mod position;
+mod possible;
 mod progress;
+mod so_far;
 mod stream_event;
 mod verdict;
+mod waiting;
 mod watch;
 pub mod watch_laws;
 
@@ -25,6 +33,8 @@ pub use ended_call::EndedCall;
 pub use ending::Ending;
 pub use event::Event;
 pub use judge::judge_run;
+pub use late::LateJudge;
+pub use late_verdict::LateVerdict;
 pub use lock_call::LockCall;
 pub use online::Judge;
 pub use progress::Progress;

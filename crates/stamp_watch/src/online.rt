@@ -10,9 +10,11 @@
 //! of. A call that is open for more events than were allowed ends the judging, so few events are kept.
 ghost use Rattle.std.specs.Prelude.{◌≡◌, ◌+◌, ◌*◌, ◌≤◌, ◌↔◌, [], IfOk, None, Some, List, ℕ, false, length};
 ghost use Rattle.stamp_core.specs.Limits.{Bounds};
+ghost use Rattle.stamp_watch.specs.Course.{IsRest};
 ghost use Rattle.stamp_watch.specs.declared.event.Event.{Event};
 ghost use Rattle.stamp_watch.specs.EndedCall.{ended_from};
 ghost use Rattle.stamp_watch.specs.Judge.{HasFoundNothing, HasRoomForOne, IsFoundThen, IsGiven, IsJudge, IsJudgeOfSome};
+ghost use Rattle.stamp_watch.specs.Possible.{IsKeeping, KeepsBase, KeepsOn};
 ghost use Rattle.stamp_watch.specs.Verdict.{IsVerdict};
 ghost use Rattle.stamp_watch.specs.inner.Course.{broken_off};
 ghost use Rattle.stamp_watch.specs.inner.Judging.{MayComeIn, SetsBusy};
@@ -31,10 +33,10 @@ use std::alloc::{AllocError, Global};
 /// After an `Err` it is of no more use.
 #[derive(Drop)]
 pub struct Judge {
-    most: u64,
+    pub(crate) most: u64,
     ahead: usize,
-    busy: u64,
-    course: Course,
+    pub(crate) busy: u64,
+    pub(crate) course: Course,
     found: Option<Verdict>,
 }
 
@@ -55,6 +57,8 @@ impl Judge {
         ensures judge { IfOk result (λ judge. IsJudge limits most ahead [] judge) }
         ensures known { IfOk result (λ judge. IsJudgeOfSome judge) }
         ensures none { IfOk result HasFoundNothing }
+        ensures kept { IfOk result (λ judge. KeepsBase limits [] judge) }
+        ensures keeping { IfOk result IsKeeping }
     {
         let course = Course::new(alloc, limits)?;
         Ok(Judge {
@@ -77,6 +81,7 @@ impl Judge {
         ensures given { IfOk result (λ _. IsGiven event.now self.old self.new) }
         ensures known { IfOk result (λ _. IsJudgeOfSome self.new) }
         ensures told { IfOk result (λ found. self.new.found ≡ found) }
+        ensures kept { IfOk result (λ _. KeepsOn event.now self.old self.new) }
     {
         self.course.add(event)?;
         self.busy = busy;
@@ -94,6 +99,7 @@ impl Judge {
         ensures given { IfOk result (λ _. IsGiven event.now self.old self.new) }
         ensures known { IfOk result (λ _. IsJudgeOfSome self.new) }
         ensures told { IfOk result (λ found. self.new.found ≡ found) }
+        ensures kept { IfOk result (λ _. KeepsOn event.now self.old self.new) }
     {
         let rest = self.course.rest(self.most)?;
         let verdict = broken_off(rest, self.course.count());
@@ -110,6 +116,7 @@ impl Judge {
         ensures given { IfOk result (λ _. IsGiven event.now self.old self.new) }
         ensures known { IfOk result (λ _. IsJudgeOfSome self.new) }
         ensures told { IfOk result (λ found. self.new.found ≡ found) }
+        ensures kept { IfOk result (λ _. KeepsOn event.now self.old self.new) }
     {
         match busy_with(self.busy, event) {
             Some(busy) => self.take(event, busy),
@@ -125,11 +132,20 @@ impl Judge {
         ensures given { IfOk result (λ _. IsGiven event.now self.old self.new) }
         ensures known { IfOk result (λ _. IsJudgeOfSome self.new) }
         ensures told { IfOk result (λ found. self.new.found ≡ found) }
+        ensures kept { IfOk result (λ _. KeepsOn event.now self.old self.new) }
+        ensures keeping { IfOk result (λ _. IsKeeping self.old → IsKeeping self.new) }
     {
         match self.found {
             Some(verdict) => Ok(Some(verdict)),
             None => self.look_at(event),
         }
+    }
+
+    /// Whether it has found something.
+    pub(crate) fn has_found(&self) -> bool
+        ensures { (result ≡ false) ↔ (self.now.found ≡ None) }
+    {
+        self.found.is_some()
     }
 
     /// How many events it keeps: few, however long the run is.
@@ -171,8 +187,10 @@ impl Judge {
     /// What is found of the run if it ends here: a call that has not ended never ends.
     pub fn finish(&self) -> Result<Verdict, AllocError>
         requires { IsJudgeOfSome self.now }
-        ensures { IfOk result (λ verdict. (limits : Bounds) (most ahead : ℕ) (run : List Event)
+        ensures verdict { IfOk result (λ verdict. (limits : Bounds) (most ahead : ℕ) (run : List Event)
             → IsJudge limits most ahead run self.now → IsVerdict limits run most (Some ahead) verdict) }
+        ensures rest { IfOk result (λ verdict. (limits : Bounds) (most ahead : ℕ) (run : List Event)
+            → IsJudge limits most ahead run self.now → IsRest limits run most (Some ahead) verdict) }
     {
         match self.found {
             Some(verdict) => Ok(verdict),

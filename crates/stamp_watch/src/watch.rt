@@ -23,7 +23,7 @@ use std::alloc::{AllocError, Global};
 #[derive(Drop)]
 pub struct Watch {
     alloc: Global,
-    limits: Limits,
+    pub(crate) limits: Limits,
     table: Vec<Option<OpenCall>>,
     busy: u64,
     last: u64,

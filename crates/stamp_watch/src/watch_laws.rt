@@ -1,4 +1,6 @@
 //! Laws of runs. Each function does nothing; its contract is the law, over the definitions alone.
+ghost use Rattle.stamp_watch.specs.Late.{LaterExplainsNoMore};
+ghost use Rattle.stamp_watch.specs.LateLaws.{LateLosesNothing, LateStampLosesNothing, OlderIsTold, StampTellsVersion};
 ghost use Rattle.stamp_watch.specs.WatchLaws.{AtOnceLosesNothing, BeginsFirst, BeginsLate, BeginsSooner, EndlessAlikeFirst, ExplainedAsObserved, OpeningStands, ReturnsFirst, SetsGoOn, SetsTell, ShorterStayExplained, SoonerAlikeFirst, StuckAsObserved, StuckAsSeen, StuckIsExact, TakesEffectFirst, UnchangingNeverNeeded, WithdrawnMayBeLeftOut, WithdrawnTakesNoEffect, WithdrawsFirst};
 
 /// Where a call begins next, nothing is lost if it begins before other calls take effect.
@@ -85,6 +87,32 @@ pub fn begins_late()
 /// A way on which a call begins later is one on which it begins sooner.
 pub fn begins_sooner()
     ensures { BeginsSooner }
+{}
+
+/// A run in which calls begin later is explained only where the run is as it stands, up to each of its events.
+pub fn later_explains_no_more()
+    ensures { LaterExplainsNoMore }
+{}
+
+/// Events among which a call begins and returns go on only where the lock has no newer version than its reply tells.
+pub fn older_is_told()
+    ensures { OlderIsTold }
+{}
+
+/// Nothing is lost if a call begins later, before events that tell an older version than its own reply tells.
+pub fn late_loses_nothing()
+    ensures { LateLosesNothing }
+{}
+
+/// The stamp that a call issues is of the version that the lock has once the call has taken effect.
+pub fn stamp_tells_version()
+    ensures { StampTellsVersion }
+{}
+
+/// Nothing is lost if a call that issues a stamp begins later, before events among which another begins and returns
+/// that issues a stamp of an older version.
+pub fn late_stamp_loses_nothing()
+    ensures { LateStampLosesNothing }
 {}
 
 /// A run in form is explained exactly where it is as an observed history, whose positions are the numbers of the

@@ -1,1 +1,2 @@
 pub mod Overlaps
+mod Words

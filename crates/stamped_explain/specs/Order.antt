@@ -1,6 +1,6 @@
 -- The command line of the program that explains.
-use Rattle.std.specs.Prelude.{ℕ, ◌&&◌, List, [], ◌∷◌, Option, Some, None, Result, Ok, Err, codes, if◌then◌else◌}
-use Rattle.std.specs.Prelude.{option_map, option_and_then}
+use Rattle.std.specs.Prelude.{ℕ, List, [], ◌∷◌, Option, Some, None, Result, Ok, Err, codes, if◌then◌else◌}
+use Rattle.std.specs.Prelude.{option_map, option_and_then, unwrap_or, Bool, false}
 use Rattle.std.specs.Option.{option_map_or}
 use Rattle.std.specs.Str.{bytes_eq}
 use Rattle.stamp_cli.specs.Order.{number_in}
@@ -14,78 +14,59 @@ use Rattle.stamped_explain.specs.declared.orders.Shown.{Shown}
 use Rattle.stamped_explain.specs.declared.orders.Shown.TheVariants.{Entry, Small}
 use Rattle.stamped_explain.specs.declared.orders.ExplainOrder.{ExplainOrder}
 use Rattle.stamped_explain.specs.declared.orders.ExplainOrder.TheVariants.{Help, Explain}
+use Rattle.stamped_explain.specs.declared.orders.Options.{Options}
 
-abbrev pub asked : Form → Told → Shown → ℕ → ExplainOrder
-asked form told shown most = Explain (record { form = form; told = told; shown = shown; most = most })
+-- no option is given yet
+abbrev pub no_options : Options
+no_options = record { form = None; told = None; shown = None; most = None }
 
-abbrev pub no_word : ℕ → ExplainOrder
-no_word most = asked History Nothing Entry most
+-- a setting that is given the first time
+abbrev pub once : {T : Type 0} → Option T → T → Option (Option T)
+once None value = Some (Some value)
+once (Some earlier) value = None
 
--- --judge, --told, and --small
-abbrev pub one_word : List ℕ → ℕ → Option ExplainOrder
-one_word word most =
-    if bytes_eq word (codes "--judge") then Some (asked Judgement Nothing Entry most)
-    else if bytes_eq word (codes "--told") then Some (asked History Trials Entry most)
-    else if bytes_eq word (codes "--small") then Some (asked History Nothing Small most)
+-- with --judge, --told or --small besides
+abbrev pub with_word : Options → List ℕ → Option Options
+with_word o word =
+    if bytes_eq word (codes "--judge") then
+    option_map (λ (form : Option Form). record o { form = form }) (once o.form Judgement)
+    else if bytes_eq word (codes "--told") then
+    option_map (λ (told : Option Told). record o { told = told }) (once o.told Trials)
+    else if bytes_eq word (codes "--small") then
+    option_map (λ (shown : Option Shown). record o { shown = shown }) (once o.shown Small)
     else None
 
--- two of them, in this order
-abbrev pub two_words : List ℕ → List ℕ → ℕ → Option ExplainOrder
-two_words first second most =
-    if bytes_eq first (codes "--judge") && bytes_eq second (codes "--told") then
-    Some (asked Judgement Trials Entry most)
-    else if bytes_eq first (codes "--judge") && bytes_eq second (codes "--small") then
-    Some (asked Judgement Nothing Small most)
-    else if bytes_eq first (codes "--told") && bytes_eq second (codes "--small") then
-    Some (asked History Trials Small most)
-    else None
+-- with --most N besides
+abbrev pub with_most : Options → List ℕ → Option Options
+with_most o number = option_and_then (λ (most : ℕ). option_map (λ (set : Option ℕ). record o { most = set })
+    (once o.most most)) (number_in number)
 
--- all three
-abbrev pub three_words : List ℕ → List ℕ → List ℕ → ℕ → Option ExplainOrder
-three_words judge told small most =
-    if bytes_eq judge (codes "--judge") && bytes_eq told (codes "--told") && bytes_eq small (codes "--small") then
-    Some (asked Judgement Trials Small most)
-    else None
+-- with the options that these words give besides, each at most once in all
+abbrev pub with_words : Options → List (List ℕ) → Option Options
+with_words o [] = Some o
+with_words o (word ∷ []) = with_word o word
+with_words o (word ∷ next ∷ rest) =
+    if bytes_eq word (codes "--most") then
+    option_and_then (λ (p : Options). with_words p rest) (with_most o next)
+    else option_and_then (λ (p : Options). with_words p (next ∷ rest)) (with_word o word)
 
-abbrev pub one_arg : List ℕ → Option ExplainOrder
-one_arg arg = if bytes_eq arg (codes "--help") then Some Help else one_word arg 4000000
+-- what options ask for: a setting that none gives is the plain one
+abbrev pub asked : Options → ExplainOrder
+asked o = Explain (record {
+  form = unwrap_or o.form History;
+  told = unwrap_or o.told Nothing;
+  shown = unwrap_or o.shown Entry;
+  most = unwrap_or o.most 4000000;
+})
 
-abbrev pub two_args : List ℕ → List ℕ → Option ExplainOrder
-two_args first second =
-    if bytes_eq first (codes "--most") then option_map no_word (number_in second)
-    else two_words first second 4000000
+abbrev pub asks_for_help : List (List ℕ) → Bool
+asks_for_help (arg ∷ []) = bytes_eq arg (codes "--help")
+asks_for_help _ = false
 
--- --most N before one word, or behind it; or three words
-abbrev pub three_args : List ℕ → List ℕ → List ℕ → Option ExplainOrder
-three_args first second third =
-    if bytes_eq first (codes "--most") then option_and_then (one_word third) (number_in second)
-    else if bytes_eq second (codes "--most") then option_and_then (one_word first) (number_in third)
-    else three_words first second third 4000000
-
--- --most N before two words, or behind them
-abbrev pub four_args : List ℕ → List ℕ → List ℕ → List ℕ → Option ExplainOrder
-four_args first second third fourth =
-    if bytes_eq first (codes "--most") then option_and_then (two_words third fourth) (number_in second)
-    else if bytes_eq third (codes "--most") then option_and_then (two_words first second) (number_in fourth)
-    else None
-
--- --most N before three words, or behind them
-abbrev pub five_args : List ℕ → List ℕ → List ℕ → List ℕ → List ℕ → Option ExplainOrder
-five_args first second third fourth fifth =
-    if bytes_eq first (codes "--most") then option_and_then (three_words third fourth fifth) (number_in second)
-    else if bytes_eq fourth (codes "--most") then option_and_then (three_words first second third) (number_in fifth)
-    else None
-
--- the forms of the command line: --help; or none or more of --judge, --told and --small, in this order, and before
--- them or behind --most N
+-- the forms of the command line: --help; or some of --judge, --told, --small and --most N in any order, each at most
+-- once
 abbrev pub form_of : List (List ℕ) → Option ExplainOrder
-form_of [] = Some (no_word 4000000)
-form_of (arg ∷ []) = one_arg arg
-form_of (first ∷ second ∷ []) = two_args first second
-form_of (first ∷ second ∷ third ∷ []) = three_args first second third
-form_of (first ∷ second ∷ third ∷ fourth ∷ []) = four_args first second third fourth
-form_of (first ∷ second ∷ third ∷ fourth ∷ fifth ∷ []) = five_args first second third fourth fifth
-form_of _ = None
+form_of args = if asks_for_help args then Some Help else option_map asked (with_words no_options args)
 
 -- what arguments ask for
 abbrev pub order_in : List (List ℕ) → Result ExplainOrder CommandFault

@@ -57,137 +57,106 @@ pub enum ExplainOrder {
     Explain(Explaining),
 }
 
-fn asked(form: Form, told: Told, shown: Shown, most: u64) -> ExplainOrder
-    ensures { result ≡ order.asked form told shown most }
-{
-    ExplainOrder::Explain(Explaining {
-        form,
-        told,
-        shown,
-        most,
-    })
+/// The options that are given.
+#[derive(Clone, Copy)]
+pub(crate) struct Options {
+    form: Option<Form>,
+    told: Option<Told>,
+    shown: Option<Shown>,
+    most: Option<u64>,
 }
 
-fn no_word(most: u64) -> ExplainOrder
-    ensures { result ≡ order.no_word most }
-{
-    asked(Form::History, Told::Nothing, Shown::Entry, most)
-}
+/// No option.
+const NO_OPTIONS: Options = Options {
+    form: None,
+    told: None,
+    shown: None,
+    most: None,
+};
 
-fn one_word(word: &str, most: u64) -> Option<ExplainOrder>
-    ensures { result ≡ order.one_word word.now most }
+/// With an option of one word besides, if that isn't given before.
+fn with_word(options: Options, word: &str) -> Option<Options>
+    ensures { result ≡ order.with_word options word.now }
 {
     match word {
-        "--judge" => Some(asked(Form::Judgement, Told::Nothing, Shown::Entry, most)),
-        "--told" => Some(asked(Form::History, Told::Trials, Shown::Entry, most)),
-        "--small" => Some(asked(Form::History, Told::Nothing, Shown::Small, most)),
+        "--judge" if options.form.is_none() => Some(Options {
+            form: Some(Form::Judgement),
+            ..options
+        }),
+        "--told" if options.told.is_none() => Some(Options {
+            told: Some(Told::Trials),
+            ..options
+        }),
+        "--small" if options.shown.is_none() => Some(Options {
+            shown: Some(Shown::Small),
+            ..options
+        }),
         _ => None,
     }
 }
 
-fn two_words(first: &str, second: &str, most: u64) -> Option<ExplainOrder>
-    ensures { result ≡ order.two_words first.now second.now most }
+/// With `--most` and this number besides, if that isn't given before.
+fn with_most(options: Options, number: &str) -> Option<Options>
+    ensures { result ≡ order.with_most options number.now }
 {
-    if first == "--judge" && second == "--told" {
-        Some(asked(Form::Judgement, Told::Trials, Shown::Entry, most))
-    } else if first == "--judge" && second == "--small" {
-        Some(asked(Form::Judgement, Told::Nothing, Shown::Small, most))
-    } else if first == "--told" && second == "--small" {
-        Some(asked(Form::History, Told::Trials, Shown::Small, most))
-    } else {
-        None
+    let most = number_in(number)?;
+    match options.most {
+        None => Some(Options {
+            most: Some(most),
+            ..options
+        }),
+        Some(_) => None,
     }
 }
 
-fn three_words(judge: &str, told: &str, small: &str, most: u64) -> Option<ExplainOrder>
-    ensures { result ≡ order.three_words judge.now told.now small.now most }
+/// With the options of these words besides.
+fn with_words(options: Options, words: &[&str]) -> Option<Options>
+    ensures { result ≡ order.with_words options (map (λ word. word.now) words.now) }
 {
-    if judge == "--judge" && told == "--told" && small == "--small" {
-        Some(asked(Form::Judgement, Told::Trials, Shown::Small, most))
-    } else {
-        None
+    match words {
+        [] => Some(options),
+        [word] => with_word(options, word),
+        [option, number, rest @ ..] if *option == "--most" => {
+            with_words(with_most(options, number)?, rest)
+        }
+        [word, rest @ ..] => with_words(with_word(options, word)?, rest),
     }
 }
 
-fn one_arg(arg: &str) -> Option<ExplainOrder>
-    ensures { result ≡ order.one_arg arg.now }
+fn asked(options: Options) -> ExplainOrder
+    ensures { result ≡ order.asked options }
 {
-    match arg {
-        "--help" => Some(ExplainOrder::Help),
-        _ => one_word(arg, MOST_CONFIGURATIONS),
-    }
+    ExplainOrder::Explain(Explaining {
+        form: options.form.unwrap_or(Form::History),
+        told: options.told.unwrap_or(Told::Nothing),
+        shown: options.shown.unwrap_or(Shown::Entry),
+        most: options.most.unwrap_or(MOST_CONFIGURATIONS),
+    })
 }
 
-fn two_args(first: &str, second: &str) -> Option<ExplainOrder>
-    ensures { result ≡ order.two_args first.now second.now }
+fn asks_for_help(args: &[&str]) -> bool
+    ensures { result ≡ order.asks_for_help (map (λ arg. arg.now) args.now) }
 {
-    match first {
-        "--most" => Some(no_word(number_in(second)?)),
-        _ => two_words(first, second, MOST_CONFIGURATIONS),
-    }
-}
-
-fn three_args(first: &str, second: &str, third: &str) -> Option<ExplainOrder>
-    ensures { result ≡ order.three_args first.now second.now third.now }
-{
-    if first == "--most" {
-        one_word(third, number_in(second)?)
-    } else if second == "--most" {
-        one_word(first, number_in(third)?)
-    } else {
-        three_words(first, second, third, MOST_CONFIGURATIONS)
-    }
-}
-
-fn four_args(first: &str, second: &str, third: &str, fourth: &str) -> Option<ExplainOrder>
-    ensures { result ≡ order.four_args first.now second.now third.now fourth.now }
-{
-    if first == "--most" {
-        two_words(third, fourth, number_in(second)?)
-    } else if third == "--most" {
-        two_words(first, second, number_in(fourth)?)
-    } else {
-        None
-    }
-}
-
-fn five_args(
-    first: &str,
-    second: &str,
-    third: &str,
-    fourth: &str,
-    fifth: &str,
-) -> Option<ExplainOrder>
-    ensures { result ≡ order.five_args first.now second.now third.now fourth.now fifth.now }
-{
-    if first == "--most" {
-        three_words(third, fourth, fifth, number_in(second)?)
-    } else if fourth == "--most" {
-        three_words(first, second, third, number_in(fifth)?)
-    } else {
-        None
+    match args {
+        [arg] => *arg == "--help",
+        _ => false,
     }
 }
 
 fn form_of(args: &[&str]) -> Option<ExplainOrder>
     ensures { result ≡ order.form_of (map (λ arg. arg.now) args.now) }
 {
-    match args {
-        [] => Some(no_word(MOST_CONFIGURATIONS)),
-        [arg] => one_arg(arg),
-        [first, second] => two_args(first, second),
-        [first, second, third] => three_args(first, second, third),
-        [first, second, third, fourth] => four_args(first, second, third, fourth),
-        [first, second, third, fourth, fifth] => five_args(first, second, third, fourth, fifth),
-        _ => None,
+    if asks_for_help(args) {
+        return Some(ExplainOrder::Help);
     }
+    Some(asked(with_words(NO_OPTIONS, args)?))
 }
 
 /// What the program's arguments ask for. `--help` alone asks how it is called. Otherwise a history is
 /// explained: `--judge` asks for a judgement of what was found, `--told` for what its calls tried, `--small`
-/// for a small history of one that is stuck, in this order, and `--most N`, before them or behind, gives the
-/// most configurations, a number below 2^64 in decimal digits alone; without it they are 4,000,000. It
-/// refuses as 1 `Bad` exactly where the arguments are no such form.
+/// for a small history of one that is stuck, and `--most N` gives the most configurations, a number below
+/// 2^64 in decimal digits alone; without it they are 4,000,000. These stand in any order, each at most once.
+/// It refuses as 1 `Bad` exactly where the arguments are no such form.
 pub fn order_of(args: &[&str]) -> Result<ExplainOrder, CommandFault>
     ensures { result ≡ order.order_in (map (λ arg. arg.now) args.now) }
 {

@@ -16,4 +16,4 @@ abbrev pub picture_fault_text : PictureFault → List ℕ
 picture_fault_text (Serve fault) = named_fault_text (codes "stamped_picture") fault
 picture_fault_text NoInput = codes "stamped_picture: no input"
 picture_fault_text (TooMany n) =
-    codes "stamped_picture: " ++ decimal n ++ codes " entries to draw, over 2000: give --from A --to B"
+    codes "stamped_picture: " ++ decimal n ++ codes " entries to draw, over 2000: give --from A --to B, or --html"

@@ -70,7 +70,7 @@ pub(crate) fn fault_line(alloc: Global, fault: &PictureFault) -> Result<String, 
         PictureFault::NoInput => Ok(String::from_str(alloc, "stamped_picture: no input")?),
         PictureFault::TooMany(count) => {
             Ok(format!(in alloc;
-                "stamped_picture: {count} entries to draw, over 2000: give --from A --to B"
+                "stamped_picture: {count} entries to draw, over 2000: give --from A --to B, or --html"
             )?)
         }
     }

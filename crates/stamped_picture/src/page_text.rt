@@ -33,6 +33,7 @@ h1.bad{border-left:6px solid var(--fault);padding-left:8px}
 .key.replaced{background:var(--fault);border-top:5px solid var(--assumed)}
 .key.idle{border:1px dashed var(--faint)}
 .key.unseen{background:var(--unseen)}
+.key.within{border:2px solid var(--focus)}
 .key.point{width:10px;height:10px;background:var(--point);border:1px solid var(--rim);transform:rotate(45deg);border-radius:0}
 button,input{font:12px system-ui,sans-serif;color:var(--ink);background:var(--lane);border:1px solid var(--line);
 border-radius:4px;padding:2px 8px}
@@ -155,6 +156,24 @@ for (const c of [...calls].sort((a, b) => a.from - b.from || a.n - b.n)) {
 }
 for (const lane of lanes) lane.calls = lane.rows.flat().sort((a, b) => a.from - b.from || a.n - b.n);
 
+// A get or put of guarded data may have calls of the lock within it. Recorders give its thread another lane for
+// these, with calls of the lock alone, so any that lie within it may be its own: most often the first, and its lane's.
+const isGuarded = c => ['get', 'put', 'put_if'].includes(c.e.call[0]);
+for (const lane of lanes) lane.isMixed = new Set(lane.calls.map(isGuarded)).size > 1;
+const isMixed = c => lanes[laneOf.get(c.lane)].isMixed;
+const isWithin = (c, around) => isGuarded(around) && !isGuarded(c) && !isMixed(around) && !isMixed(c) &&
+  around.from <= c.from && c.to <= around.to && (around.open || !c.open);
+const relatedTo = c => c.related ||= isGuarded(c) ? callsWithin(c)
+  : calls.filter(d => isWithin(c, d)).sort((a, b) => b.from - a.from);
+function callsWithin(c) {
+  const within = calls.filter(d => isWithin(d, c)).sort((a, b) => a.from - b.from);
+  const order = [...new Set(within.map(d => d.lane))];
+  return within.sort((a, b) => order.indexOf(a.lane) - order.indexOf(b.lane) || a.from - b.from);
+}
+
+// So many calls within another one are named.
+const MOST_NAMED = 8;
+
 // Whether a reply was put in place of the one that it answered.
 const isReplaced = c => c.n === stuck && c.reply !== undefined;
 const answered = c => c.e.reply === undefined ? null : replyText(c.e.reply);
@@ -176,8 +195,7 @@ const whys = {
 function whyText(c) {
   if (wrong.why !== 'reply') return whys[wrong.why];
   const due = wrong.due === null ? 'it would wait here' : 'due here: ' + replyText(wrong.due);
-  const lock = !['get', 'put', 'put_if'].includes(c.e.call[0]);
-  return 'the ' + (lock ? 'lock' : 'record') + ' would have answered otherwise (' + due + ')';
+  return 'the ' + (isGuarded(c) ? 'record' : 'lock') + ' would have answered otherwise (' + due + ')';
 }
 // What the entry is at which a history isn't explained, or breaks a rule.
 const faultName = data.undecided !== undefined ? 'undecided from this return on'
@@ -202,7 +220,14 @@ function factsOf(c) {
   facts.push('from ' + c.e.first + (c.e.last === undefined ? ' on' : ' to ' + c.e.last));
   if (c.point !== undefined) facts.push('takes effect at ' + (observed ? BigInt(c.point) / 64n : c.point) +
     ', as number ' + (c.rank + 1) + ' of ' + inOrder.length);
-  return facts;
+  return [...facts, ...relatedFacts(c)];
+}
+function relatedFacts(c) {
+  const named = relatedTo(c).slice(0, MOST_NAMED), more = relatedTo(c).length - named.length;
+  const facts = !isGuarded(c) ? named.map(d => 'within entry ' + d.n + ', thread ' + d.lane + ': ' + barText(d))
+    : [...new Set(named.map(d => d.lane))].map(lane => 'within it, thread ' + lane + ': ' +
+      named.filter(d => d.lane === lane).map(d => barText(d) + ' (entry ' + d.n + ')').join(', '));
+  return more ? [...facts, 'and ' + more + ' more'] : facts;
 }
 
 const count = calls.length + (calls.length === 1 ? ' call' : ' calls');
@@ -218,6 +243,8 @@ const legend = [['call', 'call'], ['fault', faultName],
   .filter(([kind]) => calls.some(c => c.kind === kind));
 if (calls.some(isReplaced)) legend.push(['replaced', 'here: a possible reply, put in place of the answer']);
 if (inOrder.length) legend.push(['point', 'takes effect']);
+if (lanes.some(lane => !lane.isMixed && isGuarded(lane.calls[0])) &&
+  lanes.some(lane => !lane.isMixed && !isGuarded(lane.calls[0]))) legend.push(['within', 'within it, or around it']);
 for (const [kind, words] of legend) {
   const item = $('legend').appendChild(document.createElement('span'));
   item.appendChild(document.createElement('i')).className = 'key ' + kind;
@@ -262,12 +289,15 @@ let due = 0;
 function draw() {
   if (!due) due = requestAnimationFrame(() => { due = 0; paint(); });
 }
-function fit() {
+function fitAcross() {
   view.scale = whole();
   view.left = -end * 0.02;
-  view.down = 0;
   settle();
   draw();
+}
+function fit() {
+  view.down = 0;
+  fitAcross();
 }
 function centre(c, scale) {
   if (scale) view.scale = scale;
@@ -477,10 +507,19 @@ function paintEnd() {
   pen.stroke();
   pen.setLineDash([]);
 }
+function outline(c, width) {
+  const b = box(c);
+  pen.strokeStyle = colours.focus;
+  pen.lineWidth = width;
+  pen.strokeRect(b.left - 1.5, b.top - 1.5, b.width + 3, b.height + 3);
+  pen.lineWidth = 1;
+}
+function paintRelated(c) {
+  if (c !== null) relatedTo(c).forEach(d => outline(d, 2));
+}
 function paintPicked() {
   const c = picked;
   if (c === null) return;
-  const b = box(c);
   if (c.mark !== undefined) {
     pen.strokeStyle = colours.focus;
     pen.beginPath();
@@ -488,10 +527,7 @@ function paintPicked() {
     pen.lineTo(x(c.mark), view.height);
     pen.stroke();
   }
-  pen.strokeStyle = colours.focus;
-  pen.lineWidth = 3;
-  pen.strokeRect(b.left - 1.5, b.top - 1.5, b.width + 3, b.height + 3);
-  pen.lineWidth = 1;
+  outline(c, 3);
   paintPoint(c);
 }
 // Which part of the lanes is in view, where not all are.
@@ -524,6 +560,8 @@ function paint() {
     paintBar(calls[fault]);
     paintPoint(calls[fault]);
   }
+  paintRelated(picked);
+  paintRelated(under);
   paintPicked();
   paintNames();
   paintAxis();
@@ -561,6 +599,7 @@ function hint(c, px, py) {
     under = c;
     tip.style.display = c === null ? 'none' : 'block';
     if (c !== null) tip.textContent = factsOf(c).join('\n');
+    draw();
   }
   if (c === null) return;
   tip.style.left = Math.max(0, Math.min(px + 14, view.width - tip.offsetWidth - 6)) + 'px';
@@ -665,6 +704,13 @@ function toFault() {
   tell(picked);
   centre(picked, scaleAround(picked));
 }
+// At first a few calls are all in view, with the fault marked; of many, those around the fault.
+const FEW = 60;
+function begin() {
+  if (fault === null) return fit();
+  toFault();
+  if (calls.length <= FEW) fitAcross();
+}
 $('fit').onclick = fit;
 $('fault').onclick = toFault;
 $('in').onclick = () => keys['+']();
@@ -687,7 +733,7 @@ new ResizeObserver(() => { resize(); settle(); paint(); }).observe(canvas);
 matchMedia('(prefers-color-scheme:dark)').addEventListener('change', () => { readColours(); draw(); });
 readColours();
 resize();
-if (fault === null) fit(); else toFault();
+begin();
 paint();
 </script>
 </body>

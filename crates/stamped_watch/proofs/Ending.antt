@@ -1,12 +1,13 @@
 -- A stream that ends, or goes on with bytes that are no event's.
 use Rattle.std.proofs.Common.{ℕ, ◌≡◌, ◌≢◌, ◌⊎◌, ◌<◌, ◌≤◌, List, [], ◌++◌, length, Option, Some, None}
 use Rattle.std.proofs.Common.{refl, sym, ◌∙◌, ap, subst, inl, inr, arith, append-nil, append_assoc}
-use Rattle.std.specs.Prelude.{MatchOption}
+use Rattle.std.specs.Prelude.{◌-◌, MatchOption}
 use Rattle.std.proofs.lemmas.List.{length-append, length-take}
 use Rattle.stamp_core.specs.Limits.{Bounds}
 use Rattle.stamp_watch.specs.declared.event.Event.{Event}
 use Rattle.stamp_watch.specs.declared.online.Judge.{Judge}
 use Rattle.stamp_watch.specs.Judge.{HasFoundNothing, IsJudge}
+use Rattle.stamp_watch.specs.SoFar.{IsExplainedUpTo, open_calls}
 use Rattle.stamp_watch.specs.Verdict.{AreOfLock}
 use Rattle.stamp_watch.proofs.GoingOn.{way_of}
 use Rattle.stamped_watch.specs.declared.event_bytes.BadEvent.{BadEvent}
@@ -14,10 +15,12 @@ use Rattle.stamped_watch.specs.declared.event_bytes.BadEvent.TheVariants as bad
 use Rattle.stamped_watch.specs.declared.finding.Finding.{Finding}
 use Rattle.stamped_watch.specs.declared.finding.Finding.TheVariants as found
 use Rattle.stamped_watch.specs.declared.header.BadHeader.{BadHeader}
+use Rattle.stamped_watch.specs.declared.so_far.SoFar.{SoFar}
 use Rattle.stamped_watch.specs.declared.stream_judge.StreamJudge.{StreamJudge}
 use Rattle.stamped_watch.specs.EventBytes.{HasBytes, IsNoEvent}
 use Rattle.stamped_watch.specs.Finding.{IsFindingOf, IsFoundOf, IsInForm, IsSoFar, calls_in}
 use Rattle.stamped_watch.specs.Header.{IsNoHeader}
+use Rattle.stamped_watch.specs.Progress.{IsSoFarOf}
 use Rattle.stamped_watch.specs.Stream.{BeginsNoEvent, IsStream}
 use Rattle.stamped_watch.specs.StreamJudge.{IsFed, IsFresh, IsUnderWay}
 use Rattle.stamped_watch.specs.inner.StreamJudge.{IsExplainedRun, IsFoundUnless}
@@ -157,6 +160,28 @@ module _ (most ahead : ℕ) (fed : List ℕ) (judge : StreamJudge) (is : IsFed m
         place = place;
         bad = ((λ empty. some (is.keeps none ∙ empty)), short);
       })
+
+    -- how far it is judged
+    pub so_far_none : judge.judge ≡ None → length fed < 16
+    so_far_none no_judge = fresh_short (subst IsKnown no_judge way)
+
+    pub so_far_is : (inner : Judge) → judge.judge ≡ Some inner → (so_far : SoFar) →
+        so_far.calls ≡ judge.begun - judge.withdrawn →
+        ((limits : Bounds) (most ahead : ℕ) (run : List Event) → IsJudge limits most ahead run inner →
+        IsExplainedUpTo limits run ahead so_far.explained) →
+        ((limits : Bounds) (most ahead : ℕ) (run : List Event) → IsJudge limits most ahead run inner →
+        so_far.under_way ≡ open_calls run) → IsSoFarOf ahead fed so_far
+    so_far_is inner some so_far_here calls explained under_way =
+        let under = way_of_judge inner some in record {
+          limits = under.limits;
+          events = under.events;
+          rest = is.later;
+          stream = stream_here inner under;
+          short = short;
+          calls_are = rw (sym under.begun_is, sym under.withdrawn_is) calls;
+          explained_is = explained under.limits most ahead under.events under.judge_of;
+          under_way_are = under_way under.limits most ahead under.events under.judge_of;
+        }
 
     pub in_form : (length fed < 16) ⊎ IsInForm fed
     in_form = by judge.judge way

@@ -1,8 +1,8 @@
 -- Arguments that name no file.
 use Rattle.std.proofs.Common.{ℕ, ◌≡◌, ◌≢◌, List, [], ◌∷◌, length, None, refl}
-use Rattle.stamped_watch.specs.Order.{file_in}
+use Rattle.stamped_watch.specs.Order.{plain_file}
 
-pub no_file : (words : List (List ℕ)) → length words ≢ 1 → length words ≢ 3 → length words ≢ 5 → None ≡ file_in words
+pub no_file : (words : List (List ℕ)) → length words ≢ 1 → length words ≢ 3 → length words ≢ 5 → None ≡ plain_file words
 no_file [] one three five = refl
 no_file (a ∷ []) one three five = absurd (one refl)
 no_file (a ∷ b ∷ []) one three five = refl

@@ -6,3 +6,4 @@ pub mod Ending
 pub mod Taking
 pub mod ReadingOn
 pub mod Files
+pub mod LinesTold

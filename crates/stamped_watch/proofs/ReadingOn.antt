@@ -4,13 +4,15 @@ use Rattle.std.proofs.Common.{Err, refl, sym, ◌∙◌, ap, subst, arith, inl, 
 use Rattle.std.specs.Prelude.{drop, is_err, take}
 use Rattle.std.specs.Io.KnownBytes.{Consumes, IsAtEnd}
 use Rattle.std.specs.declared.io.Error.{Error}
-use Rattle.std.proofs.KnownBytes.{Consumes-nil, Consumes-trans}
+use Rattle.std.proofs.KnownBytes.{Consumes-nil, Consumes-trans, Keeps-refl}
 use Rattle.std.proofs.lemmas.Bool.{false≢true}
 use Rattle.std.proofs.lemmas.List.{length-append}
 use Rattle.std.proofs.Math.Seq.{drop-append_seam, take-append_seam}
 use Rattle.stamp_cli.specs.Results.{EachTakes, Makes, Results, bytes_of, taken_since}
 use Rattle.stamp_cli.specs.declared.faults.ServeFault.{ServeFault}
-use Rattle.stamp_cli.specs.declared.faults.ServeFault.TheVariants.{Memory, ReadFault}
+use Rattle.stamp_cli.specs.Serving.{HasWritten}
+use Rattle.stamp_cli.specs.TakesNone.{takes_none}
+use Rattle.stamp_cli.specs.declared.faults.ServeFault.TheVariants.{Memory, ReadFault, WriteFault}
 use Rattle.stamp_cli.proofs.MadeSoFar.{all_taken, fails_of_none, last_tells, none_passes, taken_with_last}
 use Rattle.stamped_watch.specs.declared.finding.Finding.{Finding}
 use Rattle.stamped_watch.specs.declared.orders.Watching.{Watching}
@@ -96,4 +98,16 @@ reads_none left old result is = record {
   took = Consumes-nil left;
   count = sym (all_taken old old 0 (makes_none old));
   failed = rw (none_passes is_err old old 0 fails_of_none (makes_none old)) (not_of_reading result is);
+}
+
+-- and nothing is written
+pub writes_none : {A : Type 0} (sent : Option (List ℕ)) (old : Results) (result : Result A ServeFault) →
+    IsErrAnd result (λ e. e ≡ Memory) → HasWritten WriteFault sent sent old old result
+writes_none sent old (Ok x) is = absurd is
+writes_none sent old (Err e) is = record {
+  failed = (
+    λ same. absurd (cc),
+    λ some. absurd (false≢true (sym (none_passes takes_none old old 0 (λ write takes. takes) (makes_none old)) ∙ some)),
+  );
+  silent = λ other. (Keeps-refl sent, refl);
 }

@@ -71,6 +71,17 @@ stream_behind taken rest limits events stream = record {
   events_are = stream.events_are;
 }
 
+-- with a longer rest
+pub stream_longer : (bytes more : List ℕ) (limits : Bounds) (events : List Event) (rest : List ℕ) →
+    IsStream bytes limits events rest → IsStream (bytes ++ more) limits events (rest ++ more)
+stream_longer bytes more limits events rest stream = record {
+  head = stream.head;
+  units = stream.units;
+  parts = ap (λ (xs : List ℕ). xs ++ more) stream.parts ∙ append_assoc (stream.head ++ stream.units) rest more;
+  limits_are = stream.limits_are;
+  events_are = stream.events_are;
+}
+
 pub stream_more : (taken : List ℕ) (limits : Bounds) (events : List Event) (e : Event) (bytes : List ℕ) →
     IsStream taken limits events [] → HasBytes e bytes → IsStream (taken ++ bytes) limits (events ++ e ∷ []) []
 stream_more taken limits events e bytes stream has = record {

@@ -1,15 +1,22 @@
 -- A judge that takes 16 bytes more.
 use Rattle.std.proofs.Common.{ℕ, ◌≡◌, ◌+◌, ◌-◌, ◌^◌, ◌<◌, true, false, List, [], ◌++◌, length, Option}
-use Rattle.std.proofs.Common.{Some, None, refl, sym, ◌∙◌, ap, subst, append_assoc, arith, lit<}
-use Rattle.std.specs.Prelude.{MatchOption, Vec, is_some, take, drop}
+use Rattle.std.proofs.Common.{◌∷◌, inl, inr, Some, None, refl, sym, ◌∙◌, ap, subst, append_assoc, arith, lit<}
+use Rattle.std.specs.Prelude.{◌⊎◌, MatchOption, Vec, is_some, take, drop, ⊤}
 use Rattle.std.specs.declared.alloc.Global.{Global}
 use Rattle.std.proofs.lemmas.Bool.{false≢true}
 use Rattle.std.proofs.lemmas.List.{length-append, length-drop, take-append-drop, take_all}
 use Rattle.stamp_core.specs.Limits.{Bounds}
+use Rattle.stamp_core.specs.declared.call.Call.{Call}
+use Rattle.stamp_core.specs.declared.lock_decision.LockReply.{LockReply}
+use Rattle.stamp_core.specs.declared.reply.Reply.{Reply}
 use Rattle.stamp_watch.specs.declared.event.Event.{Event}
 use Rattle.stamp_watch.specs.declared.event.Event.TheVariants.{Begins, Returns, Withdraws}
 use Rattle.stamp_watch.specs.declared.online.Judge.{Judge}
 use Rattle.stamp_watch.specs.Judge.{HasFoundNothing, IsJudge, IsJudgeOfSome}
+use Rattle.stamp_watch.specs.Possible.{IsTold, IsToldOf, KeepsBase, plain_replies}
+use Rattle.stamp_watch.specs.Possible.{items_in as replies_told}
+use Rattle.stamp_watch.proofs.GoingOn.{way_of}
+use Rattle.stamp_watch.proofs.Kept.{kept_of}
 use Rattle.stamped_watch.specs.declared.event_bytes.BadEvent.{BadEvent}
 use Rattle.stamped_watch.specs.declared.finding.Finding.{Finding}
 use Rattle.stamped_watch.specs.declared.finding.Finding.TheVariants as found
@@ -18,17 +25,47 @@ use Rattle.stamped_watch.specs.declared.stream_judge.StreamJudge.{StreamJudge}
 use Rattle.stamped_watch.specs.EventBytes.{HasBytes, IsNoEvent}
 use Rattle.stamped_watch.specs.Finding.{IsFoundOf}
 use Rattle.stamped_watch.specs.Header.{IsHeader, IsNoHeader}
+use Rattle.stamped_watch.specs.Possible.{ArePossibleAt, ArePossibleIn, KeepsOf, items_in}
 use Rattle.stamped_watch.specs.StreamJudge.{HasTaken, IsFed, IsFresh, IsUnderWay}
 use Rattle.stamped_watch.specs.inner.StreamJudge.{AreCounted, HasTakenFront, IsFoundUnless}
-use Rattle.stamped_watch.specs.inner.StreamJudge.{IsGivenOne, IsOneMore}
+use Rattle.stamped_watch.specs.inner.StreamJudge.{IsGivenOne, IsOneMore, KeepsSoFar}
 use Rattle.stamped_watch.proofs.Counting.{count_room, under_way_first, under_way_then}
 use Rattle.stamped_watch.proofs.Ending.{no_event, no_header}
 use Rattle.stamped_watch.proofs.Found.{found_with}
-use Rattle.stamped_watch.proofs.Streaming.{state_of}
+use Rattle.stamped_watch.proofs.Streaming.{state_of, stream_behind, stream_longer, stream_more}
 
 pub none_of : (o : Option Finding) → is_some o ≡ false → o ≡ None
 none_of (Some f) is = absurd (false≢true (sym is))
 none_of None is = refl
+
+-- what a judge of events keeps where it has found nothing
+pub keeps_now : (limits : Bounds) (most ahead : ℕ) (run : List Event) (inner : Judge) →
+    IsJudge limits most ahead run inner → HasFoundNothing inner → KeepsBase limits run inner
+keeps_now limits most ahead run inner is none =
+    let under = way_of limits most ahead run inner is none in
+    kept_of limits run inner.course under.course_of under.room
+
+-- what the judge of the events keeps where nothing was found
+keeps_under_way : (most ahead : ℕ) (taken : List ℕ) (begun withdrawn : ℕ) (inner : Judge) →
+    IsUnderWay most ahead taken begun withdrawn inner → KeepsOf taken inner
+keeps_under_way most ahead taken begun withdrawn inner way =
+    let under = way_of way.limits most ahead way.events inner way.judge_of way.none in record {
+      limits = way.limits;
+      events = way.events;
+      rest = [];
+      stream = way.stream;
+      keeps = kept_of way.limits way.events inner.course under.course_of under.room;
+    }
+
+-- it keeps that, too, of more bytes
+pub keeps_more : (bytes more : List ℕ) (inner : Judge) → KeepsOf bytes inner → KeepsOf (bytes ++ more) inner
+keeps_more bytes more inner keeps = record {
+  limits = keeps.limits;
+  events = keeps.events;
+  rest = keeps.rest ++ more;
+  stream = stream_longer bytes more keeps.limits keeps.events keeps.rest keeps.stream;
+  keeps = keeps.keeps;
+}
 
 -- nothing was found, and the judge goes on
 on_with : (most ahead : ℕ) (taken : List ℕ) (judge : StreamJudge) (inner : Judge) → judge.most ≡ most →
@@ -37,6 +74,8 @@ on_with : (most ahead : ℕ) (taken : List ℕ) (judge : StreamJudge) (inner : J
 on_with most ahead taken judge inner same far none some way = record {
   most_is = same;
   ahead_is = far;
+  kept = subst (λ (o : Option Judge). MatchOption o ⊤ (λ i. KeepsOf taken i)) (sym some)
+      (keeps_under_way most ahead taken judge.begun judge.withdrawn inner way);
   state = subst (λ (o : Option Finding). MatchOption o (MatchOption judge.judge
       (IsFresh taken judge.begun judge.withdrawn)
       (λ i. IsUnderWay most ahead taken judge.begun judge.withdrawn i))
@@ -69,6 +108,7 @@ module _ (most ahead : ℕ) (taken bytes : List ℕ) (old : StreamJudge) (has : 
     no_header_taken why many wrong = record {
       most_is = has.most_is;
       ahead_is = has.ahead_is;
+      kept = subst (λ (o : Option Judge). MatchOption o ⊤ (λ i. KeepsOf (taken ++ bytes) i)) (sym no_judge) tt;
       state = subst (λ (xs : List ℕ). IsFoundOf most ahead (xs ++ bytes) (found.BadHeader why)) (sym fresh.nothing)
           (no_header most ahead bytes why many wrong);
     }
@@ -90,9 +130,26 @@ module _ (most ahead : ℕ) (taken bytes : List ℕ) (old : StreamJudge) (has : 
     -- the bytes of an event, which was given to the judge of the events
     module _ (e : Event) (next : Judge) (o : Option Finding) (has_bytes : HasBytes e bytes)
         (given : (limits : Bounds) (m a : ℕ) (run : List Event) → IsJudge limits m a run inner →
-        IsGivenOne limits m a run e next o) where
+        IsGivenOne limits m a run e next o) (keeps : KeepsSoFar e inner next) where
       given_one : IsGivenOne way_on.limits most ahead way_on.events e next o
       given_one = given way_on.limits most ahead way_on.events way_on.judge_of
+
+      keeps_of : KeepsBase way_on.limits way_on.events next ⊎ KeepsBase way_on.limits (way_on.events ++ e ∷ []) next →
+          KeepsOf (taken ++ bytes) next
+      keeps_of (inl before) = record {
+        limits = way_on.limits;
+        events = way_on.events;
+        rest = bytes;
+        stream = stream_behind taken bytes way_on.limits way_on.events way_on.stream;
+        keeps = before;
+      }
+      keeps_of (inr then) = record {
+        limits = way_on.limits;
+        events = way_on.events ++ e ∷ [];
+        rest = [];
+        stream = stream_more taken way_on.limits way_on.events e bytes way_on.stream has_bytes;
+        keeps = then;
+      }
 
       -- something was found with it
       pub found_taken : is_some o ≡ true →
@@ -104,6 +161,7 @@ module _ (most ahead : ℕ) (taken bytes : List ℕ) (old : StreamJudge) (has : 
           by (Some f) is_one one = record {
             most_is = has.most_is;
             ahead_is = has.ahead_is;
+            kept = keeps_of (keeps way_on.limits most ahead way_on.events way_on.judge_of);
             state = found_with most ahead way_on.limits taken way_on.events e bytes way_on.stream has_bytes f one;
           }
           by None is_one one = absurd (false≢true is_one)
@@ -146,6 +204,8 @@ module _ (most ahead : ℕ) (taken bytes : List ℕ) (old : StreamJudge) (has : 
     no_event_taken k why f many wrong count unless = record {
       most_is = has.most_is;
       ahead_is = has.ahead_is;
+      kept = keeps_more taken bytes inner
+          (keeps_under_way most ahead taken old.begun old.withdrawn inner way_on);
       state = no_event most ahead taken way_on.limits way_on.events bytes why k f way_on.stream many wrong
           (count way_on.limits most ahead way_on.events way_on.judge_of)
           (unless way_on.limits most ahead way_on.events way_on.judge_of);
@@ -176,6 +236,7 @@ pub part_aside : (most ahead : ℕ) (taken : List ℕ) (judge : StreamJudge) (pa
 part_aside most ahead taken judge part has = record {
   most_is = has.most_is;
   ahead_is = has.ahead_is;
+  kept = has.kept;
   state = has.state;
 }
 
@@ -249,3 +310,30 @@ module _ (most ahead : ℕ) (fed bytes : List ℕ) (judge : StreamJudge) (is : I
       same : is.taken ++ (judge.part.items ++ front) ++ rest ≡ fed ++ bytes
       same = later ∙ apart ∙ ap (λ (xs : List ℕ). is.taken ++ is.later ++ xs) (sym parts) ∙
           ap (λ (xs : List ℕ). xs ++ bytes) (sym is.parts)
+
+-- what the judge of the events tells of a return is told of the stream
+module _ (most ahead : ℕ) (fed : List ℕ) (judge : StreamJudge) (is : IsFed most ahead fed judge) (inner : Judge)
+    (some : judge.judge ≡ Some inner) (k : ℕ) (call : Call) where
+  abbrev keeps_fed : KeepsOf fed inner
+  keeps_fed = subst (λ (xs : List ℕ). KeepsOf xs inner) (sym is.parts) (keeps_more is.taken is.later inner
+      (subst (λ (o : Option Judge). MatchOption o ⊤ (λ i. KeepsOf is.taken i)) some is.has_taken.kept))
+
+  possible_of : (found : List Reply) (o : Option (List LockReply)) →
+      plain_replies inner.course.base.limits call ≡ o →
+      MatchOption o (Some found ≡ None) (λ tried. IsTold inner k tried (Some found)) → ArePossibleAt fed k call found
+  possible_of found None same none = absurd (cc)
+  possible_of found (Some tried) same told = record {
+    limits = keeps_fed.limits;
+    events = keeps_fed.events;
+    rest = keeps_fed.rest;
+    stream = keeps_fed.stream;
+    tried = tried;
+    are = ap (λ (l : Bounds). plain_replies l call) (sym keeps_fed.keeps.from_base.judging.limits_are) ∙ same;
+    among = told keeps_fed.limits keeps_fed.events keeps_fed.keeps;
+  }
+
+  pub possible_told : (told : Option (Vec Reply Global)) → IsToldOf inner k call (replies_told told) →
+      ArePossibleIn fed k call (items_in told)
+  possible_told None is_told = tt
+  possible_told (Some found) is_told =
+      possible_of found.items (plain_replies inner.course.base.limits call) refl is_told

@@ -2,9 +2,11 @@ pub mod Order
 pub mod EventBytes
 pub mod Header
 pub mod Stream
+pub mod Possible
 pub mod Finding
 pub mod StreamJudge
 pub mod FindingText
 pub mod Note
+pub mod Progress
 pub mod Served
 pub mod inner

@@ -8,6 +8,7 @@ use Rattle.stamped_watch.specs.declared.finding.Finding.{Finding}
 use Rattle.stamped_watch.specs.declared.finding.Finding.TheVariants.{Stuck, StuckWithin, Undecided}
 use Rattle.stamp_watch.specs.declared.verdict.Why.TheVariants.{TooFar}
 use Rattle.stamped_watch.specs.declared.orders.Watching.{Watching}
+use Rattle.stamped_watch.specs.Possible.{possible_text}
 
 abbrev pub text_in : Option (String Global) → Option (List ℕ)
 text_in None = None
@@ -18,9 +19,13 @@ end_text (Some reply) = codes "answered " ++ reply_text reply
 end_text None = codes "was withdrawn"
 
 -- the call that ends at the event, and how
-abbrev pub stuck_text : ℕ → EndedCall → List ℕ
-stuck_text k ended = codes "stamped_watch: event " ++ (decimal k ++ (codes ", lane " ++ (decimal ended.lane ++
+abbrev pub ended_text : ℕ → EndedCall → List ℕ
+ended_text k ended = codes "stamped_watch: event " ++ (decimal k ++ (codes ", lane " ++ (decimal ended.lane ++
     (codes ": " ++ (call_text ended.call ++ (codes " " ++ end_text ended.reply))))))
+
+-- and which replies were possible, as far as is told
+abbrev pub stuck_text : ℕ → EndedCall → Option (List Reply) → List ℕ
+stuck_text k ended replies = ended_text k ended ++ possible_text replies
 
 abbrev pub within_text : List ℕ
 within_text = codes "stamped_watch: no order explains the run; from which event on is undecided"
@@ -30,12 +35,12 @@ ahead_text k ahead = codes "stamped_watch: the call of event " ++ (decimal k ++
     (codes " is open for more than " ++ (decimal ahead ++ codes " events")))
 
 -- what is told of a finding; this call, if it is known, ends at the event at which the stream is stuck
-abbrev pub note_text : Watching → Finding → Option EndedCall → Option (List ℕ)
-note_text asked (Stuck k) (Some ended) = Some (stuck_text k ended)
-note_text asked (StuckWithin k m) ended = Some within_text
-note_text asked (Undecided k TooFar) ended = Some (ahead_text k asked.ahead)
-note_text asked finding ended = None
+abbrev pub note_text : Watching → Finding → Option EndedCall → Option (List Reply) → Option (List ℕ)
+note_text asked (Stuck k) (Some ended) replies = Some (stuck_text k ended replies)
+note_text asked (StuckWithin k m) ended replies = Some within_text
+note_text asked (Undecided k TooFar) ended replies = Some (ahead_text k asked.ahead)
+note_text asked finding ended replies = None
 
 -- the note tells of the finding, unless memory for it was refused
-abbrev pub IsNote : Watching → Finding → Option EndedCall → Option (List ℕ) → Type 0
-IsNote asked finding ended note = (note ≡ None) ⊎ (note ≡ note_text asked finding ended)
+abbrev pub IsNote : Watching → Finding → Option EndedCall → Option (List Reply) → Option (List ℕ) → Type 0
+IsNote asked finding ended replies note = (note ≡ None) ⊎ (note ≡ note_text asked finding ended replies)

@@ -1,6 +1,6 @@
 -- The command line of the program that judges streams.
 use Rattle.std.specs.Prelude.{ℕ, List, [], ◌∷◌, Option, Some, None, Result, Ok, Err, codes, nat_le, if◌then◌else◌}
-use Rattle.std.specs.Prelude.{◌&&◌, Bool, true, not, option_map, option_and_then}
+use Rattle.std.specs.Prelude.{◌&&◌, Bool, true, false, not, drop, option_map, option_and_then}
 use Rattle.std.specs.Option.{is_some, option_map_or}
 use Rattle.std.specs.Str.{bytes_eq}
 use Rattle.std.specs.Str.Parse.{starts_with_minus}
@@ -11,12 +11,12 @@ use Rattle.stamped_watch.specs.declared.orders.Watching.{Watching}
 use Rattle.stamped_watch.specs.declared.orders.WatchOrder.{WatchOrder}
 use Rattle.stamped_watch.specs.declared.orders.WatchOrder.TheVariants.{Help, Watch}
 
-abbrev pub watching : ℕ → ℕ → Watching
-watching most ahead = record { most = most; ahead = ahead }
+abbrev pub watching : ℕ → ℕ → Bool → Watching
+watching most ahead progress = record { most = most; ahead = ahead; progress = progress }
 
 -- what is asked for without options
 abbrev pub plain : Watching
-plain = watching 1000000 4194304
+plain = watching 1000000 4194304 false
 
 -- at most 2^32 events
 abbrev pub no_more : ℕ → Option ℕ
@@ -28,9 +28,9 @@ ahead_in text = option_and_then no_more (number_in text)
 -- --most N, or --ahead N
 abbrev pub with_option : Watching → List ℕ → List ℕ → Option Watching
 with_option asked option number =
-    if bytes_eq option (codes "--most") then option_map (λ (most : ℕ). watching most asked.ahead) (number_in number)
+    if bytes_eq option (codes "--most") then option_map (λ (most : ℕ). watching most asked.ahead asked.progress) (number_in number)
     else if bytes_eq option (codes "--ahead") then
-    option_map (λ (ahead : ℕ). watching asked.most ahead) (ahead_in number)
+    option_map (λ (ahead : ℕ). watching asked.most ahead asked.progress) (ahead_in number)
     else None
 
 abbrev pub one_option : List ℕ → List ℕ → Option WatchOrder
@@ -52,15 +52,29 @@ one_word word =
     if bytes_eq word (codes "--help") then Some Help else if is_file word then Some (Watch plain) else None
 
 -- the forms of the command line: --help; or none, one or both of --most N and --ahead N, and then a file or none
-abbrev pub form_of : List (List ℕ) → Option WatchOrder
-form_of [] = Some (Watch plain)
-form_of (word ∷ []) = one_word word
-form_of (option ∷ number ∷ []) = one_option option number
-form_of (option ∷ number ∷ file ∷ []) = if is_file file then one_option option number else None
-form_of (first ∷ number ∷ second ∷ other ∷ []) = two_options first number second other
-form_of (first ∷ number ∷ second ∷ other ∷ file ∷ []) =
+abbrev pub plain_form : List (List ℕ) → Option WatchOrder
+plain_form [] = Some (Watch plain)
+plain_form (word ∷ []) = one_word word
+plain_form (option ∷ number ∷ []) = one_option option number
+plain_form (option ∷ number ∷ file ∷ []) = if is_file file then one_option option number else None
+plain_form (first ∷ number ∷ second ∷ other ∷ []) = two_options first number second other
+plain_form (first ∷ number ∷ second ∷ other ∷ file ∷ []) =
     if is_file file then two_options first number second other else None
-form_of _ = None
+plain_form _ = None
+
+abbrev pub with_progress : WatchOrder → Option WatchOrder
+with_progress Help = None
+with_progress (Watch asked) = Some (Watch (record asked { progress = true }))
+
+-- --progress is the first of them
+abbrev pub begins_with_progress : List (List ℕ) → Bool
+begins_with_progress [] = false
+begins_with_progress (word ∷ words) = bytes_eq word (codes "--progress")
+
+-- or --progress, and then any of those but --help
+abbrev pub form_of : List (List ℕ) → Option WatchOrder
+form_of words =
+    if begins_with_progress words then option_and_then with_progress (plain_form (drop 1 words)) else plain_form words
 
 -- what arguments ask for
 abbrev pub order_in : List (List ℕ) → Result WatchOrder CommandFault
@@ -71,9 +85,12 @@ abbrev pub file_behind : Bool → List ℕ → Option (List ℕ)
 file_behind is_form word = if is_form && is_file word then Some word else None
 
 -- the file, if they are such a form with one
-abbrev pub file_in : List (List ℕ) → Option (List ℕ)
-file_in (file ∷ []) = file_behind true file
-file_in (option ∷ number ∷ file ∷ []) = file_behind (is_some (one_option option number)) file
-file_in (first ∷ number ∷ second ∷ other ∷ file ∷ []) =
+abbrev pub plain_file : List (List ℕ) → Option (List ℕ)
+plain_file (file ∷ []) = file_behind true file
+plain_file (option ∷ number ∷ file ∷ []) = file_behind (is_some (one_option option number)) file
+plain_file (first ∷ number ∷ second ∷ other ∷ file ∷ []) =
     file_behind (is_some (two_options first number second other)) file
-file_in _ = None
+plain_file _ = None
+
+abbrev pub file_in : List (List ℕ) → Option (List ℕ)
+file_in words = if begins_with_progress words then plain_file (drop 1 words) else plain_file words

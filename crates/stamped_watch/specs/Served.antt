@@ -7,6 +7,7 @@ use Rattle.stamp_cli.specs.Shell.{EndsView}
 use Rattle.stamp_cli.specs.declared.faults.ServeFault.{ServeFault}
 use Rattle.stamp_cli.specs.declared.faults.ServeFault.TheVariants.{Memory, ReadFault, WriteFault}
 use Rattle.stamp_cli.specs.declared.shell.Answered.{Answered}
+use Rattle.stamp_core.specs.declared.reply.Reply.{Reply}
 use Rattle.stamp_watch.specs.declared.ended_call.EndedCall.{EndedCall}
 use Rattle.stamped_watch.specs.declared.finding.Finding.{Finding}
 use Rattle.stamped_watch.specs.declared.orders.Watching.{Watching}
@@ -15,6 +16,7 @@ use Rattle.stamped_watch.specs.declared.orders.WatchOrder.TheVariants.{Help, Wat
 use Rattle.stamped_watch.specs.Finding.{IsFindingOf, IsFoundOf}
 use Rattle.stamped_watch.specs.FindingText.{finding_text, finding_verdict}
 use Rattle.stamped_watch.specs.Note.{IsNote, text_in}
+use Rattle.stamped_watch.specs.Possible.{ArePossibleFor}
 
 -- reads were made, none after one that took no byte, and these are the bytes that they took. It ended in the fault of
 -- reading exactly where a read failed
@@ -53,17 +55,24 @@ AnswersStream asked left left' old new (Err fault) = ⊥
 abbrev pub line_of : Finding → List ℕ
 line_of finding = finding_text finding ++ 10 ∷ []
 
--- the verdict and the note are of this finding; the note may tell of a call that ended
-pub record IsAnsweredBy (asked : Watching) (finding : Finding) (answered : Answered) : Type 0 where
+-- the verdict and the note are of this finding; the note may tell of a call that ended, and which replies it could have
+-- had in the stream that was read
+pub record IsAnsweredBy (asked : Watching) (left left' : Option (List ℕ)) (old new : Results) (finding : Finding)
+    (answered : Answered) : Type 0 where
   pub verdict : answered.verdict ≡ finding_verdict finding
   pub ended : Option EndedCall
-  pub note : IsNote asked finding ended (text_in answered.note)
+  pub replies : Option (List Reply)
+  pub note : IsNote asked finding ended replies (text_in answered.note)
+  pub bytes : List ℕ
+  pub took : Consumes left left' bytes
+  pub count : length bytes ≡ taken_since old new
+  pub possible : ArePossibleFor bytes finding ended replies
 
 -- a stream was judged: the reads, the line written, no refusal but for memory and the ends, and the writes
 pub record HasWatched (asked : Watching) (old new : EndsView) (result : Result Answered ServeFault) : Type 0 where
   pub reads : HasReadOn ReadFault old.left new.left old.reads new.reads result
-  pub ok : WritesAnswer (AnswersStream asked old.left new.left old.reads new.reads) (IsAnsweredBy asked) line_of
-      old.sent new.sent old.writes new.writes result
+  pub ok : WritesAnswer (AnswersStream asked old.left new.left old.reads new.reads) (IsAnsweredBy asked old.left new.left old.reads new.reads)
+      line_of old.sent new.sent old.writes new.writes result
   pub refused : RefusesAsDue ReadFault WriteFault Memory
       (AnswersStream asked old.left new.left old.reads new.reads) result
   pub writes : HasWritten WriteFault old.sent new.sent old.writes new.writes result

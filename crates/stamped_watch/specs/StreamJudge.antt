@@ -1,5 +1,5 @@
 -- What a judge knows of a stream whose bytes come.
-use Rattle.std.specs.Prelude.{ℕ, ◌≡◌, ◌<◌, ◌++◌, List, [], length, Option, Some, None, MatchOption}
+use Rattle.std.specs.Prelude.{ℕ, ◌≡◌, ◌<◌, ◌++◌, List, [], length, Option, Some, None, MatchOption, ⊤}
 use Rattle.std.specs.List.{count_by}
 use Rattle.stamp_core.specs.Limits.{Bounds}
 use Rattle.stamp_watch.specs.declared.ended_call.EndedCall.{EndedCall}
@@ -9,6 +9,7 @@ use Rattle.stamp_watch.specs.EndedCall.{ended_from}
 use Rattle.stamp_watch.specs.Judge.{HasFoundNothing, IsJudge}
 use Rattle.stamped_watch.specs.declared.stream_judge.StreamJudge.{StreamJudge}
 use Rattle.stamped_watch.specs.Finding.{IsFoundOf, is_beginning, is_withdrawal}
+use Rattle.stamped_watch.specs.Possible.{KeepsOf}
 use Rattle.stamped_watch.specs.Stream.{IsStream}
 
 -- these bytes are a header and events, which were given to this judge; nothing was found of them, and so many calls
@@ -35,6 +36,7 @@ pub record HasTaken (most ahead : ℕ) (taken : List ℕ) (judge : StreamJudge) 
   pub state : MatchOption judge.found (MatchOption judge.judge (IsFresh taken judge.begun judge.withdrawn)
       (λ inner. IsUnderWay most ahead taken judge.begun judge.withdrawn inner))
       (λ finding. IsFoundOf most ahead taken finding)
+  pub kept : MatchOption judge.judge ⊤ (λ inner. KeepsOf taken inner)
 
 -- it was fed these bytes: some of them it has taken, and it keeps those behind them, if nothing was found
 pub record IsFed (most ahead : ℕ) (fed : List ℕ) (judge : StreamJudge) : Type 0 where

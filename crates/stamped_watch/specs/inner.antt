@@ -1,3 +1,4 @@
 pub mod EventBytes
 pub mod StreamJudge
+pub mod Progress
 pub mod Served

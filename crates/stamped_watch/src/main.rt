@@ -12,16 +12,21 @@ mod help;
 mod misplaced;
 mod note;
 mod orders;
+mod possible;
 mod serving;
+mod so_far;
 mod stream_judge;
+mod telling;
 
 use crate::help::HELP;
 use crate::orders::{WatchOrder, file_in, order_of};
 use crate::serving::serve_asked;
 use stamp_cli::{
-    Answered, CommandFault, Program, ServeFault, Sink, Source, named_fault_line, run, serve_help,
+    Answered, CommandFault, Program, ServeFault, Sink, Source, WriteSink, named_fault_line, run,
+    serve_help,
 };
 use std::alloc::Global;
+use std::io;
 use std::process::ExitCode;
 
 /// Tells how the program is called.
@@ -58,14 +63,29 @@ impl Program for StampedWatch {
         source: &mut S,
         sink: &mut K,
     ) -> Result<Answered, ServeFault> {
+        let mut told = WriteSink::new(io::sink());
+        Self::answer_telling(alloc, order, source, sink, &mut told)
+    }
+
+    fn answer_telling<S: Source, K: Sink, T: Sink>(
+        alloc: Global,
+        order: WatchOrder,
+        source: &mut S,
+        sink: &mut K,
+        told: &mut T,
+    ) -> Result<Answered, ServeFault> {
         match order {
             WatchOrder::Help => tell_help(sink),
-            WatchOrder::Watch(asked) => serve_asked(alloc, asked, source, sink),
+            WatchOrder::Watch(asked) => serve_asked(alloc, asked, source, sink, told),
         }
     }
 
     fn bad_command_line() -> &'static str {
         "stamped_watch: bad command line"
+    }
+
+    fn unopened_file() -> &'static str {
+        "stamped_watch: can't open the file"
     }
 
     fn fault_line(alloc: Global, fault: &ServeFault) -> Option<String> {

@@ -1,11 +1,13 @@
-//! The note of what is found, for standard error: of a stream that is stuck which call ended there, and else why it is
-//! not judged further.
+//! The note of what is found, for standard error: of a stream that is stuck which call ended there, and which replies
+//! were possible; and else why it is not judged further.
 
 ghost use Rattle.std.specs.Prelude.{◌≡◌, IfOk, Some, string_bytes};
-ghost use Rattle.stamped_watch.specs.Note.{IsNote, ahead_text, end_text, note_text, stuck_text, text_in, within_text};
+ghost use Rattle.stamped_watch.specs.Note.{IsNote, ahead_text, end_text, ended_text, note_text, stuck_text, text_in, within_text};
+ghost use Rattle.stamped_watch.specs.Possible.{items_in};
 
 use crate::finding::Finding;
 use crate::orders::Watching;
+use crate::possible::possible_text;
 use stamp_core::Reply;
 use stamp_watch::{EndedCall, Why};
 use std::alloc::{AllocError, Global};
@@ -27,13 +29,29 @@ impl fmt::Display for EndText {
 }
 
 /// Which call ends at the event at which a stream is stuck, and how.
-fn stuck_text(alloc: Global, event: u64, ended: &EndedCall) -> Result<String, AllocError>
-    ensures { IfOk result (λ text. string_bytes text ≡ stuck_text event ended.now) }
+fn ended_text(alloc: Global, event: u64, ended: &EndedCall) -> Result<String, AllocError>
+    ensures { IfOk result (λ text. string_bytes text ≡ ended_text event ended.now) }
 {
     let lane = ended.lane;
     let call = ended.call;
     let end = EndText(ended.reply);
     format!(in alloc; "stamped_watch: event {event}, lane {lane}: {call} {end}")
+}
+
+/// The same, and which replies were possible, as far as is told.
+fn stuck_text(
+    alloc: Global,
+    event: u64,
+    ended: &EndedCall,
+    replies: &Option<Vec<Reply>>,
+) -> Result<String, AllocError>
+    ensures { IfOk result (λ text. string_bytes text ≡ stuck_text event ended.now (items_in replies.now)) }
+{
+    let mut text = ended_text(alloc, event, ended)?;
+    if let Some(replies) = replies {
+        text.push_str(&possible_text(alloc, replies.as_slice())?)?;
+    }
+    Ok(text)
 }
 
 /// That no order explains the run, where it is undecided at which event it is stuck.
@@ -61,11 +79,15 @@ fn note_of(
     asked: Watching,
     finding: &Finding,
     ended: &Option<EndedCall>,
+    replies: &Option<Vec<Reply>>,
 ) -> Result<Option<String>, AllocError>
-    ensures { IfOk result (λ note. text_in note ≡ note_text asked finding.now ended.now) }
+    ensures { IfOk result (λ note. text_in note
+        ≡ note_text asked finding.now ended.now (items_in replies.now)) }
 {
     match (finding, ended) {
-        (Finding::Stuck(event), Some(ended)) => Ok(Some(stuck_text(alloc, *event, ended)?)),
+        (Finding::Stuck(event), Some(ended)) => {
+            Ok(Some(stuck_text(alloc, *event, ended, replies)?))
+        }
         (Finding::StuckWithin(_, _), _) => Ok(Some(within_text(alloc)?)),
         (Finding::Undecided(event, Why::TooFar), _) => {
             Ok(Some(ahead_text(alloc, *event, asked.ahead)?))
@@ -80,10 +102,11 @@ pub(crate) fn note_if_room(
     asked: Watching,
     finding: &Finding,
     ended: &Option<EndedCall>,
+    replies: &Option<Vec<Reply>>,
 ) -> Option<String>
-    ensures { IsNote asked finding.now ended.now (text_in result) }
+    ensures { IsNote asked finding.now ended.now (items_in replies.now) (text_in result) }
 {
-    match note_of(alloc, asked, finding, ended) {
+    match note_of(alloc, asked, finding, ended, replies) {
         Ok(note) => note,
         Err(_) => None,
     }

@@ -21,6 +21,8 @@ pub struct Watching {
     pub most: u64,
     /// Among so many events the end of a call is looked for.
     pub ahead: usize,
+    /// Whether it is told how far the stream is judged.
+    pub progress: bool,
 }
 
 /// What the program is asked to do.
@@ -36,6 +38,7 @@ pub enum WatchOrder {
 const PLAIN: Watching = Watching {
     most: MOST_CONFIGURATIONS,
     ahead: EVENTS_AHEAD,
+    progress: false,
 };
 
 /// So many events, if they are not too many.
@@ -57,10 +60,12 @@ fn with_option(asked: Watching, option: &str, number: &str) -> Option<Watching>
         "--most" => Some(Watching {
             most: number_in(number)?,
             ahead: asked.ahead,
+            progress: asked.progress,
         }),
         "--ahead" => Some(Watching {
             most: asked.most,
             ahead: ahead_in(number)?,
+            progress: asked.progress,
         }),
         _ => None,
     }
@@ -105,8 +110,9 @@ fn one_word(word: &str) -> Option<WatchOrder>
     }
 }
 
-fn form_of(args: &[&str]) -> Option<WatchOrder>
-    ensures { result ≡ order.form_of (map (λ arg. arg.now) args.now) }
+/// What is asked for by these arguments, none of which is `--progress`.
+fn plain_form(args: &[&str]) -> Option<WatchOrder>
+    ensures { result ≡ order.plain_form (map (λ arg. arg.now) args.now) }
 {
     match args {
         [] => Some(WatchOrder::Watch(PLAIN)),
@@ -121,8 +127,41 @@ fn form_of(args: &[&str]) -> Option<WatchOrder>
     }
 }
 
-/// What the program's arguments ask for. `--help` alone asks how it is called. Otherwise a stream is judged:
-/// `--most N` gives the most configurations before an event, and `--ahead N` among how many events the end of a call
+/// The same judgement, of which it is told how far it is.
+fn with_progress(judged: WatchOrder) -> Option<WatchOrder>
+    ensures { result ≡ order.with_progress judged }
+{
+    match judged {
+        WatchOrder::Help => None,
+        WatchOrder::Watch(asked) => Some(WatchOrder::Watch(Watching {
+            progress: true,
+            ..asked
+        })),
+    }
+}
+
+/// Whether `--progress` is the first of the arguments.
+fn begins_with_progress(args: &[&str]) -> bool
+    ensures { result ≡ order.begins_with_progress (map (λ arg. arg.now) args.now) }
+{
+    match args.first() {
+        Some(first) => *first == "--progress",
+        None => false,
+    }
+}
+
+fn form_of(args: &[&str]) -> Option<WatchOrder>
+    ensures { result ≡ order.form_of (map (λ arg. arg.now) args.now) }
+{
+    if begins_with_progress(args) {
+        with_progress(plain_form(&args[1..])?)
+    } else {
+        plain_form(args)
+    }
+}
+
+/// What the program's arguments ask for. `--help` alone asks how it is called. Otherwise a stream is judged.
+/// `--progress`, before all others, asks to be told how far. `--most N` gives the most configurations before an event, and `--ahead N` among how many events the end of a call
 /// is looked for, up to 2^32; each once, in any order, numbers below 2^64 in decimal digits alone. Without them they
 /// are 1,000,000 and 4,194,304. Behind them a file may be named, by a word that doesn't begin with `-`. It refuses as
 /// 1 `Bad` exactly where the arguments are no such form.
@@ -143,9 +182,9 @@ fn file_behind(is_form: bool, word: &str) -> Option<&str>
     }
 }
 
-/// The file that the arguments name, if they are such a form with a file.
-pub fn file_in<'a>(args: &[&'a str]) -> Option<&'a str>
-    ensures { option_map (λ file. file.now) result ≡ order.file_in (map (λ arg. arg.now) args.now) }
+/// The file that these arguments name, none of which is `--progress`.
+fn plain_file<'a>(args: &[&'a str]) -> Option<&'a str>
+    ensures { option_map (λ file. file.now) result ≡ order.plain_file (map (λ arg. arg.now) args.now) }
 {
     match args {
         [] => None,
@@ -157,5 +196,16 @@ pub fn file_in<'a>(args: &[&'a str]) -> Option<&'a str>
             file_behind(two_options(first, number, second, other).is_some(), file)
         }
         _ => None,
+    }
+}
+
+/// The file that the arguments name, if they are such a form with a file.
+pub fn file_in<'a>(args: &[&'a str]) -> Option<&'a str>
+    ensures { option_map (λ file. file.now) result ≡ order.file_in (map (λ arg. arg.now) args.now) }
+{
+    if begins_with_progress(args) {
+        plain_file(&args[1..])
+    } else {
+        plain_file(args)
     }
 }

@@ -1,18 +1,24 @@
 //! A stream from the bytes that come in to the line that goes out.
 
-ghost use Rattle.std.specs.Prelude.{◌≡◌, ◌<◌, [], IfOk, None, length, vec_len};
+ghost use Rattle.std.specs.Prelude.{◌≡◌, ◌<◌, ◌≤◌, [], IfOk, List, None, length, vec_len, ℕ};
 ghost use Rattle.stamp_cli.specs.Results.{IsReadOrMemoryFault};
 ghost use Rattle.stamp_cli.specs.Serving.{HasWritten, RefusesAsDue, WritesAnswer, WritesFront};
 ghost use Rattle.stamp_cli.specs.declared.faults.ServeFault.TheVariants.{Memory, ReadFault, WriteFault};
-ghost use Rattle.stamped_watch.specs.StreamJudge.{IsFed};
+ghost use Rattle.stamped_watch.specs.Progress.{HasTold};
+ghost use Rattle.stamped_watch.specs.Possible.{ArePossibleFor, ArePossibleIn, items_in};
+ghost use Rattle.stamped_watch.specs.StreamJudge.{IsFed, IsFedSome};
 ghost use Rattle.stamped_watch.specs.Served.{AnswersStream, HasReadOn, HasWatched, IsAnsweredBy, IsFoundOfSource, line_of};
+ghost use Rattle.stamped_watch.specs.Progress.{IsNewTelling};
+ghost use Rattle.stamped_watch.specs.inner.Served.{IsFedAll};
 
 use crate::finding::Finding;
 use crate::finding_text::line_of_finding;
 use crate::note::note_if_room;
 use crate::orders::Watching;
 use crate::stream_judge::StreamJudge;
+use crate::telling::Telling;
 use stamp_cli::{Answered, Line, ServeFault, Sink, Source, write_text};
+use stamp_core::Reply;
 use stamp_watch::EndedCall;
 use std::alloc::{AllocError, Global};
 
@@ -25,21 +31,29 @@ fn zeros(alloc: Global) -> Result<Vec<u8>, AllocError>
     vec![in alloc; 0u8; CHUNK]
 }
 
-/// Feeds a new judge what the source gives, until something is found of it or it ends.
-fn fed_from<S: Source>(
+/// Feeds a new judge what the source gives, until something is found of it or it ends, and tells how far it is judged.
+fn fed_from<S: Source, T: Sink>(
     source: &mut S,
     chunk: &mut [u8],
     judge: &mut StreamJudge,
+    telling: &mut Telling,
+    told: &mut T,
     asked: Watching,
 ) -> Result<Finding, ServeFault>
     requires room { 0 < length chunk.old }
+    requires few { length chunk.old ≤ 65536 }
     requires new { IsFed asked.most asked.ahead [] judge.old }
     requires none { judge.old.found ≡ None }
+    requires telling { IsNewTelling asked.progress telling.old }
     ensures reads { HasReadOn ReadFault (S.left source.old) (S.left source.new)
         (S.reads source.old) (S.reads source.new) result }
     ensures found { IfOk result (λ finding. IsFoundOfSource asked (S.left source.old) (S.left source.new)
         (S.reads source.old) (S.reads source.new) finding) }
     ensures only { IsReadOrMemoryFault result }
+    ensures told { HasTold asked (S.left source.old) (S.left source.new) (S.reads source.old) (S.reads source.new)
+        (T.sent told.old) (T.sent told.new) (T.writes told.old) (T.writes told.new) result }
+    ensures fed { IfOk result (λ _. IsFedAll asked (S.left source.old) (S.left source.new)
+        (S.reads source.old) (S.reads source.new) judge.new) }
 {
     'source: loop {
         let Ok(taken) = source.read(chunk) else {
@@ -48,7 +62,7 @@ fn fed_from<S: Source>(
         if taken == 0 {
             return Ok(judge.end()?);
         }
-        if let Some(finding) = judge.feed(&chunk[..taken])? {
+        if let Some(finding) = telling.feed(judge, &chunk[..taken], told)? {
             return Ok(finding);
         }
     }
@@ -62,16 +76,47 @@ fn ended_at(finding: &Finding, judge: &StreamJudge) -> Option<EndedCall> {
     }
 }
 
+/// The replies that this call could have had, which returns at the event with this number. None where they can't be
+/// told, or memory for them is refused.
+fn possible_there(judge: &StreamJudge, event: u64, ended: &EndedCall) -> Option<Vec<Reply>>
+    requires { IsFedSome judge.now }
+    ensures { (most ahead : ℕ) (fed : List ℕ) → IsFed most ahead fed judge.now
+        → ArePossibleIn fed event ended.now.call (items_in result) }
+{
+    match judge.possible_at(event, &ended.call) {
+        Ok(replies) => replies,
+        Err(_) => None,
+    }
+}
+
+/// So it is with the call that ends where the stream is stuck.
+fn possible_for(
+    finding: &Finding,
+    ended: &Option<EndedCall>,
+    judge: &StreamJudge,
+) -> Option<Vec<Reply>>
+    requires { IsFedSome judge.now }
+    ensures { (most ahead : ℕ) (fed : List ℕ) → IsFed most ahead fed judge.now
+        → ArePossibleFor fed finding.now ended.now (items_in result) }
+{
+    match (finding, ended) {
+        (Finding::Stuck(event), Some(ended)) => possible_there(judge, *event, ended),
+        _ => None,
+    }
+}
+
 /// Judges the stream that it reads of the source, of any length, and writes one line of that. Once something is found
 /// of the stream it reads no more. What it answers besides is for standard error: of a stream that is stuck which call
-/// ended there, and else why it is not judged further, if it is not. It refuses as 1 `ReadFault` exactly where a read
+/// ended there and which replies were possible, and else why it is not judged further, if it is not. It refuses as 1 `ReadFault` exactly where a read
 /// answers an error, as 6 `WriteFault` exactly where a write does or takes no byte, and as 5 `Memory`; what was read is
-/// gone also after a refusal.
-pub fn serve_stream<S: Source, K: Sink>(
+/// gone also after a refusal. If it is asked for, it tells on the way how far the stream is judged, by a line behind
+/// each 2^24 events. A write of such a line that fails, or takes no byte, is the last of those, and changes nothing else.
+pub fn serve_stream<S: Source, K: Sink, T: Sink>(
     alloc: Global,
     asked: Watching,
     source: &mut S,
     sink: &mut K,
+    told: &mut T,
 ) -> Result<Answered, ServeFault>
     // However it ends, there is no read after one that took no byte.
     ensures reads { HasReadOn ReadFault (S.left source.old) (S.left source.new)
@@ -79,7 +124,8 @@ pub fn serve_stream<S: Source, K: Sink>(
 
     // The line of what is found of all that was read is written, and nothing else; the verdict and the note are its.
     ensures ok { WritesAnswer (AnswersStream asked (S.left source.old) (S.left source.new)
-        (S.reads source.old) (S.reads source.new)) (IsAnsweredBy asked) line_of
+        (S.reads source.old) (S.reads source.new)) (IsAnsweredBy asked (S.left source.old)
+        (S.left source.new) (S.reads source.old) (S.reads source.new)) line_of
         (K.sent sink.old) (K.sent sink.new) (K.writes sink.old) (K.writes sink.new) result }
 
     // No stream is refused.
@@ -92,29 +138,36 @@ pub fn serve_stream<S: Source, K: Sink>(
     ensures front { WritesFront WriteFault (AnswersStream asked (S.left source.old) (S.left source.new)
         (S.reads source.old) (S.reads source.new)) line_of
         (K.sent sink.old) (K.sent sink.new) (K.writes sink.old) (K.writes sink.new) result }
+
+    // The lines of how far it was judged are told, whatever is answered; where it was judged to the end, each of them.
+    ensures told { HasTold asked (S.left source.old) (S.left source.new) (S.reads source.old) (S.reads source.new)
+        (T.sent told.old) (T.sent told.new) (T.writes told.old) (T.writes told.new) result }
 {
     let mut judge = StreamJudge::new(alloc, asked.most, asked.ahead);
+    let mut telling = Telling::new(alloc, asked.progress);
     let mut chunk = zeros(alloc)?;
-    let finding = fed_from(source, &mut chunk, &mut judge, asked)?;
+    let finding = fed_from(source, &mut chunk, &mut judge, &mut telling, told, asked)?;
     let Line { mut text, verdict } = line_of_finding(alloc, &finding)?;
     text.push(b'\n')?;
     write_text(sink, &text)?;
     let ended = ended_at(&finding, &judge);
-    let note = note_if_room(alloc, asked, &finding, &ended);
+    let replies = possible_for(&finding, &ended, &judge);
+    let note = note_if_room(alloc, asked, &finding, &ended, &replies);
     Ok(Answered { verdict, note })
 }
 
 /// Serves a judgement, as `serve_stream` does.
-pub(crate) fn serve_asked<S: Source, K: Sink>(
+pub(crate) fn serve_asked<S: Source, K: Sink, T: Sink>(
     alloc: Global,
     asked: Watching,
     source: &mut S,
     sink: &mut K,
+    told: &mut T,
 ) -> Result<Answered, ServeFault>
     ensures { HasWatched asked
         (record { left = S.left source.old; reads = S.reads source.old; sent = K.sent sink.old; writes = K.writes sink.old })
         (record { left = S.left source.new; reads = S.reads source.new; sent = K.sent sink.new; writes = K.writes sink.new })
         result }
 {
-    serve_stream(alloc, asked, source, sink)
+    serve_stream(alloc, asked, source, sink, told)
 }

@@ -3,19 +3,23 @@
 //! Bytes are taken 16 by 16: the header, by which the judge of the events is made, and then event after event. Those
 //! of a header or an event that is not whole yet are kept.
 
-ghost use Rattle.std.specs.Prelude.{◌≡◌, ◌+◌, ◌^◌, ◌<◌, ◌++◌, [], IfOk, IsSome, OnOk, List, None, length, ℕ};
+ghost use Rattle.std.specs.Prelude.{◌≡◌, ◌+◌, ◌^◌, ◌<◌, ◌++◌, [], IfOk, IsSome, MatchOption, OnOk, List, None, length, ℕ};
 ghost use Rattle.stamp_core.specs.Limits.{Bounds};
 ghost use Rattle.stamp_watch.specs.declared.event.Event.{Event};
 ghost use Rattle.stamp_watch.specs.Judge.{HasFoundNothing, IsJudge, IsJudgeOfSome};
 ghost use Rattle.stamped_watch.specs.EventBytes.{kind_of};
 ghost use Rattle.stamped_watch.specs.Finding.{IsFindingOf, IsSoFar};
+ghost use Rattle.stamped_watch.specs.Possible.{ArePossibleIn, items_in};
+ghost use Rattle.stamped_watch.specs.Progress.{IsSoFarOf};
 ghost use Rattle.stamped_watch.specs.StreamJudge.{ended_in, HasTaken, IsFed, IsFedSome};
-ghost use Rattle.stamped_watch.specs.inner.StreamJudge.{AreCounted, HasTakenSome, IsFoundUnless, IsGivenOne, IsOneMore, KeepsPart};
+ghost use Rattle.stamped_watch.specs.inner.StreamJudge.{AreCounted, HasTakenSome, IsFoundUnless, IsGivenOne, IsOneMore, KeepsPart, KeepsSoFar};
 
 use crate::event_bytes::event_in;
 use crate::finding::{Finding, finding_of};
 use crate::header::header_in;
 use crate::misplaced::why_misplaced;
+use crate::so_far::SoFar;
+use stamp_core::{Call, Reply};
 use stamp_watch::{EndedCall, Event, Judge, StreamEvent, Verdict};
 use std::alloc::{AllocError, Global};
 
@@ -44,9 +48,10 @@ fn given(judge: &mut Judge, event: &StreamEvent) -> Result<Option<Finding>, Allo
     requires some { IsJudgeOfSome judge.old }
     requires none { HasFoundNothing judge.old }
     requires kind { IsSome (kind_of event.now) }
-    ensures { IfOk result (λ found. (limits : Bounds) (most ahead : ℕ) (run : List Event)
+    ensures found { IfOk result (λ found. (limits : Bounds) (most ahead : ℕ) (run : List Event)
         → IsJudge limits most ahead run judge.old
         → IsGivenOne limits most ahead run event.now judge.new found) }
+    ensures kept { IfOk result (λ _. KeepsSoFar event.now judge.old judge.new) }
 {
     if judge.is_full() {
         return Ok(Some(Finding::Full));
@@ -228,6 +233,21 @@ impl StreamJudge {
         found_unless(judge, Finding::Explained(calls))
     }
 
+    /// How far the stream is judged, once there is a header.
+    pub(crate) fn so_far(&self) -> Option<SoFar>
+        requires some { IsFedSome self.now }
+        requires none { self.now.found ≡ None }
+        ensures { (most ahead : ℕ) (fed : List ℕ) → IsFed most ahead fed self.now
+            → MatchOption result (length fed < 16) (λ so_far. IsSoFarOf ahead fed so_far) }
+    {
+        let judge = self.judge.as_ref()?;
+        Some(SoFar {
+            calls: self.begun.saturating_sub(self.withdrawn),
+            explained: judge.explained(),
+            under_way: judge.open_calls(),
+        })
+    }
+
     /// The call that the event with this number ends, if it begins among the events that the judge keeps.
     pub(crate) fn ended_at(&self, number: u64) -> Option<EndedCall>
         ensures { result ≡ ended_in self.now.judge number }
@@ -235,6 +255,22 @@ impl StreamJudge {
         match &self.judge {
             Some(judge) => judge.ended_at(number),
             None => None,
+        }
+    }
+
+    /// Which replies the call could have had that returns at the event with this number, if that can be told.
+    pub(crate) fn possible_at(
+        &self,
+        number: u64,
+        call: &Call,
+    ) -> Result<Option<Vec<Reply>>, AllocError>
+        requires { IsFedSome self.now }
+        ensures { IfOk result (λ told. (most ahead : ℕ) (fed : List ℕ) → IsFed most ahead fed self.now
+            → ArePossibleIn fed number call.now (items_in told)) }
+    {
+        match &self.judge {
+            Some(judge) => judge.possible_at(number, call),
+            None => Ok(None),
         }
     }
 }

@@ -1,5 +1,5 @@
 -- What comes of one more event of a run that is judged.
-use Rattle.std.specs.Prelude.{ℕ, ◌≡◌, ◌≢◌, ◌+◌, ◌-◌, ◌<◌, ◌++◌, List, length, drop, slice_index_or}
+use Rattle.std.specs.Prelude.{ℕ, ◌≡◌, ◌≢◌, ◌+◌, ◌-◌, ◌<◌, List, length, drop, slice_index_or}
 use Rattle.std.specs.Prelude.{Option, Some, None}
 use Rattle.stamp_core.specs.Limits.{Bounds}
 use Rattle.stamp_watch.specs.declared.event.Event.{Event}
@@ -8,12 +8,9 @@ use Rattle.stamp_watch.specs.declared.ending.Ending.{Ending}
 use Rattle.stamp_watch.specs.declared.ending.Ending.TheVariants.{Never}
 use Rattle.stamp_watch.specs.declared.verdict.Verdict.{Verdict}
 use Rattle.stamp_watch.specs.declared.verdict.Verdict.TheVariants as verdict
-use Rattle.stamp_watch.specs.declared.verdict.Why.TheVariants as cause
 use Rattle.stamp_watch.specs.declared.course.Course.{Course}
 use Rattle.stamp_watch.specs.declared.course.Onward.{Onward}
 use Rattle.stamp_watch.specs.declared.course.Onward.TheVariants.{Waits, Steps, Finds}
-use Rattle.stamp_watch.specs.Run.{AreExplained}
-use Rattle.stamp_watch.specs.Verdict.{AreOfLock, IsVerdict, NoMoreAreOfLock}
 use Rattle.stamp_watch.specs.Judging.{IsFound}
 use Rattle.stamp_watch.specs.Course.{IsCourse, IsNear, IsSmall}
 use Rattle.stamp_watch.specs.inner.Judging.{IsEndTold}
@@ -97,21 +94,6 @@ IsOnward most ahead old new (Finds verdict) = IsFoundOn most (Some ahead) old ve
 abbrev pub HasGoneOn : ℕ → ℕ → Course → Course → Option Verdict → Type 0
 HasGoneOn most ahead old new None = HasWaited ahead old new
 HasGoneOn most ahead old new (Some verdict) = IsFoundOn most (Some ahead) old verdict
-
--- no event of the lock comes next
-abbrev pub IsOver : List Event → List Event → Type 0
-IsOver run later = NoMoreAreOfLock (run ++ later) (length run)
-
--- what is found of a run that ends or breaks here; what is not explained is found whatever comes later
-abbrev pub IsRest : Bounds → List Event → ℕ → Option ℕ → Verdict → Type 0
-IsRest limits run most ahead verdict.Explained = AreOfLock run × AreExplained limits run
-IsRest limits run most ahead (verdict.Stuck k) = IsFound limits run most ahead (verdict.Stuck k)
-IsRest limits run most ahead (verdict.StuckWithin k m) = IsFound limits run most ahead (verdict.StuckWithin k m)
-IsRest limits run most ahead (verdict.Undecided k cause.TooMany) = (later : List Event) → IsOver run later →
-    IsVerdict limits (run ++ later) most ahead (verdict.Undecided k cause.TooMany)
-IsRest limits run most ahead (verdict.Undecided k cause.TooFar) =
-    IsFound limits run most ahead (verdict.Undecided k cause.TooFar)
-IsRest limits run most ahead (verdict.Broken k) = IsFound limits run most ahead (verdict.Broken k)
 
 -- what is found of a run that goes on with an event that may not come there
 abbrev pub broken_off : Verdict → ℕ → Verdict

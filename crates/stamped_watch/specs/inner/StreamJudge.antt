@@ -8,6 +8,7 @@ use Rattle.stamp_watch.specs.declared.online.Judge.{Judge}
 use Rattle.stamp_watch.specs.declared.verdict.Verdict.{Verdict}
 use Rattle.stamp_watch.specs.Judge.{HasFoundNothing, IsJudge}
 use Rattle.stamp_watch.specs.Judging.{IsFound}
+use Rattle.stamp_watch.specs.Possible.{KeepsBase}
 use Rattle.stamp_watch.specs.Run.{AreExplained}
 use Rattle.stamp_watch.specs.Verdict.{AreOfLock, IsVerdict}
 use Rattle.stamped_watch.specs.declared.finding.Finding.{Finding}
@@ -51,6 +52,11 @@ pub record IsGoingOn (limits : Bounds) (most ahead : ℕ) (run : List Event) (ju
 abbrev pub IsGivenOne : Bounds → ℕ → ℕ → List Event → Event → Judge → Option Finding → Type 0
 IsGivenOne limits most ahead run e judge None = IsGoingOn limits most ahead (run ++ e ∷ []) judge
 IsGivenOne limits most ahead run e judge (Some finding) = IsFoundWith limits most ahead run e finding
+
+-- what the judge keeps is of the run, or of the run with the event
+abbrev pub KeepsSoFar : Event → Judge → Judge → Type 0
+KeepsSoFar e old new = (limits : Bounds) (most ahead : ℕ) (run : List Event) → IsJudge limits most ahead run old →
+    KeepsBase limits run new ⊎ KeepsBase limits (run ++ e ∷ []) new
 
 -- the run is explained, and this is found; or a verdict is
 pub record IsExplainedRun (limits : Bounds) (run : List Event) : Type 0 where

@@ -1,5 +1,5 @@
 use Rattle.std.proofs.Common.{ℕ, ◌≡◌, ◌++◌, [], Ok, false, List, Option}
-use Rattle.std.proofs.Common.{append-nil, arith, refl, subst, sym, ◌∙◌, ap, take}
+use Rattle.std.proofs.Common.{append-nil, arith, refl, rules, subst, sym, ◌∙◌, ap, take}
 use Rattle.std.specs.declared.io.Error.{Error}
 use Rattle.std.proofs.KnownBytes.{Consumes-kept, Consumes-nil, Consumes-trans}
 use Rattle.std.proofs.lemmas.Bool.Decides.{nat_tests}
@@ -9,35 +9,56 @@ use Rattle.stamp_cli.specs.TakesNone.{takes_none}
 use Rattle.stamp_cli.proofs.MadeSoFar as so_far
 use Rattle.stamped_watch.specs.declared.finding.Finding.{Finding}
 use Rattle.stamped_watch.specs.Finding.{IsFindingOf, IsSoFar}
-use Rattle.stamped_watch.proofs.ReadingOn.{found_at_end, found_of_all, has_read_on, makes_none, not_of_reading}
+use Rattle.stamped_watch.specs.StreamJudge.{IsFed}
+use Rattle.stamped_watch.proofs.ReadingOn.{all_counted, all_took, found_at_end, found_of_all, has_read_on, makes_none}
+use Rattle.stamped_watch.proofs.ReadingOn.{not_of_reading}
 use Rattle.stamped_watch.proofs.Streaming.{fed_short}
+use Rattle.stamped_watch.proofs.LinesTold.{all_of_err, has_told, tells_more, told_at_first, told_to_end}
 use Rattle.stamped_watch.proofs.serving.fed_from.Goals as goal
 
 pub source-init : goal.source-init
 source-init g c = record {
-  bytes = [];
-  took = Consumes-nil (g.S.Source.left c.args.source.now);
-  reads = makes_none (g.S.Source.reads c.args.source.now);
-  fed = c.requires.new;
-  none = c.requires.none;
-  room = c.requires.room;
+  fed_so = record {
+    bytes = [];
+    took = Consumes-nil (g.S.Source.left c.args.source.now);
+    reads = makes_none (g.S.Source.reads c.args.source.now);
+    fed = c.requires.new;
+    none = c.requires.none;
+    room = c.requires.room;
+  };
+  few = c.requires.few;
+  told = told_at_first c.args.asked c.args.telling.now (g.T.Sink.sent c.args.told.now)
+      (g.T.Sink.writes c.args.told.now) c.requires.telling;
 }
+
+pub returns-in_default-clause-told : goal.returns-in_default-clause-told
+returns-in_default-clause-told g c =
+    let inv = c.source.invariant.fed_so in
+    has_told c.args.asked _ _ _ _ (g.T.Sink.sent c.args.told.now)
+    (g.T.Sink.sent c.source.told) _ _ (inv.bytes ++ []) _
+    (all_took _ (g.S.Source.left c.source.source) _ _ (g.S.Source.reads c.source.source) _ inv.bytes [] _ inv.reads
+    inv.took c.in_default.ensures.kept (Consumes-kept _ _ _ [] (Consumes-nil (g.S.Source.left c.source.source))
+    c.in_default.ensures.bytes) refl)
+    (all_counted _ (g.S.Source.left c.source.source) _ _ (g.S.Source.reads c.source.source) _ inv.bytes [] _ inv.reads
+    inv.took c.in_default.ensures.kept (Consumes-kept _ _ _ [] (Consumes-nil (g.S.Source.left c.source.source))
+    c.in_default.ensures.bytes) refl)
+    (tells_more c.args.asked inv.bytes [] _ _ _ _ c.source.invariant.told.tells) tt
 
 pub returns-in_default-clause-reads : goal.returns-in_default-clause-reads
 returns-in_default-clause-reads g c =
-    let inv = c.source.invariant in
+    let inv = c.source.invariant.fed_so in
     has_read_on _ (g.S.Source.left c.source.source) _ _ (g.S.Source.reads c.source.source) _ inv.bytes [] _ inv.reads
     inv.took c.in_default.ensures.kept
     (Consumes-kept _ _ _ [] (Consumes-nil (g.S.Source.left c.source.source)) c.in_default.ensures.bytes) refl _ _
     ((λ same. refl), (λ same. refl))
 
 pub end-requires : goal.end-requires
-end-requires g c = let inv = c.source.invariant in
+end-requires g c = let inv = c.source.invariant.fed_so in
     record { most = c.args.asked.most; ahead = c.args.asked.ahead; fed = inv.bytes; is = inv.fed }
 
 pub returns-in_err-end-clause-reads : goal.returns-in_err-end-clause-reads
 returns-in_err-end-clause-reads g c =
-    let inv = c.source.invariant in
+    let inv = c.source.invariant.fed_so in
     has_read_on _ (g.S.Source.left c.source.source) _ _ (g.S.Source.reads c.source.source) _ inv.bytes
     (take c.in-Ok.taken c.read.new.buffer) _ inv.reads inv.took c.in-Ok.ensures.kept c.in-Ok.ensures.bytes.0
     (sym c.in-Ok.ensures.bound.1) _ _
@@ -45,7 +66,7 @@ returns-in_err-end-clause-reads g c =
 
 pub returns-then-taken-eq0-clause-reads : goal.returns-then-taken-eq0-clause-reads
 returns-then-taken-eq0-clause-reads g c =
-    let inv = c.source.invariant in
+    let inv = c.source.invariant.fed_so in
     has_read_on _ (g.S.Source.left c.source.source) _ _ (g.S.Source.reads c.source.source) _ inv.bytes
     (take c.in-Ok.taken c.read.new.buffer) _ inv.reads inv.took c.in-Ok.ensures.kept c.in-Ok.ensures.bytes.0
     (sym c.in-Ok.ensures.bound.1) _ _
@@ -53,7 +74,7 @@ returns-then-taken-eq0-clause-reads g c =
 
 pub returns-then-taken-eq0-clause-found : goal.returns-then-taken-eq0-clause-found
 returns-then-taken-eq0-clause-found g c =
-    let inv = c.source.invariant in
+    let inv = c.source.invariant.fed_so in
     let none : take c.in-Ok.taken c.read.new.buffer ≡ [] = rw c.if-taken-eq0.true refl in
     found_at_end _ (g.S.Source.left c.source.source) _ _ (g.S.Source.reads c.source.source) _ inv.bytes
     (take c.in-Ok.taken c.read.new.buffer) _ inv.reads inv.took c.in-Ok.ensures.kept c.in-Ok.ensures.bytes.0
@@ -63,14 +84,23 @@ returns-then-taken-eq0-clause-found g c =
     (sym (append-nil inv.bytes) ∙ ap (λ (xs : List ℕ). inv.bytes ++ xs) (sym none))
     (c.in_ok-end.ensures c.args.asked.most c.args.asked.ahead inv.bytes inv.fed))
 
-pub feed-requires : goal.feed-requires
-feed-requires g c = let inv = c.source.invariant in record {
-  some = record { most = c.args.asked.most; ahead = c.args.asked.ahead; fed = inv.bytes; is = inv.fed };
-}
+pub feed-requires-clause-before : goal.feed-requires-clause-before
+feed-requires-clause-before g c =
+    let inv = c.source.invariant.fed_so in
+    let told = c.source.invariant.told in record {
+      most = c.args.asked.most;
+      ahead = c.args.asked.ahead;
+      fed = inv.bytes;
+      is = inv.fed;
+      none = inv.none;
+      marks = told.tells.marks;
+      place = λ on. told.place (sym told.asked_is ∙ on);
+      missing = told.missing;
+    }
 
 pub returns-in_err-finding-clause-reads : goal.returns-in_err-finding-clause-reads
 returns-in_err-finding-clause-reads g c =
-    let inv = c.source.invariant in
+    let inv = c.source.invariant.fed_so in
     has_read_on _ (g.S.Source.left c.source.source) _ _ (g.S.Source.reads c.source.source) _ inv.bytes
     (take c.in-Ok.taken c.read.new.buffer) _ inv.reads inv.took c.in-Ok.ensures.kept c.in-Ok.ensures.bytes.0
     (sym c.in-Ok.ensures.bound.1) _ _
@@ -78,7 +108,7 @@ returns-in_err-finding-clause-reads g c =
 
 pub returns-in-Some-clause-reads : goal.returns-in-Some-clause-reads
 returns-in-Some-clause-reads g c =
-    let inv = c.source.invariant in
+    let inv = c.source.invariant.fed_so in
     has_read_on _ (g.S.Source.left c.source.source) _ _ (g.S.Source.reads c.source.source) _ inv.bytes
     (take c.in-Ok.taken c.read.new.buffer) _ inv.reads inv.took c.in-Ok.ensures.kept c.in-Ok.ensures.bytes.0
     (sym c.in-Ok.ensures.bound.1) _ _
@@ -86,7 +116,7 @@ returns-in-Some-clause-reads g c =
 
 pub returns-in-Some-clause-found : goal.returns-in-Some-clause-found
 returns-in-Some-clause-found g c =
-    let inv = c.source.invariant in
+    let inv = c.source.invariant.fed_so in
     found_of_all _ (g.S.Source.left c.source.source) _ _ (g.S.Source.reads c.source.source) _ inv.bytes
     (take c.in-Ok.taken c.read.new.buffer) _ inv.reads inv.took c.in-Ok.ensures.kept c.in-Ok.ensures.bytes.0
     (sym c.in-Ok.ensures.bound.1) c.args.asked c.in-Some.finding
@@ -96,7 +126,7 @@ returns-in-Some-clause-found g c =
 
 pub source-smaller : goal.source-smaller
 source-smaller g c =
-    let inv = c.source.invariant in
+    let inv = c.source.invariant.fed_so in
     let before = so_far.all_taken _ _ _ inv.reads in
     let after = so_far.taken_with_last _ _ _ _ _ inv.reads c.in-Ok.ensures.kept in
     let short = fed_short c.args.asked.most c.args.asked.ahead inv.bytes c.source.judge inv.none inv.fed in
@@ -104,14 +134,109 @@ source-smaller g c =
 
 pub source-preserved : goal.source-preserved
 source-preserved g c =
-    let inv = c.source.invariant in
+    let inv = c.source.invariant.fed_so in
     let many = sym c.in-Ok.ensures.bound.1 in
     let long = length-append inv.bytes (take c.in-Ok.taken c.read.new.buffer) in
     let takes : takes_none {E = Error} (Ok c.in-Ok.taken) ≡ false = grind (arith, nat_tests) in record {
+      fed_so = record {
+        bytes = inv.bytes ++ take c.in-Ok.taken c.read.new.buffer;
+        took = Consumes-trans _ (g.S.Source.left c.source.source) _ inv.bytes _ inv.took c.in-Ok.ensures.bytes.0;
+        reads = so_far.more _ _ _ _ _ _ inv.reads c.in-Ok.ensures.kept takes (omega (arith, long, many));
+        fed = c.in_ok-finding.ensures.fed c.args.asked.most c.args.asked.ahead inv.bytes inv.fed;
+        none = c.in_ok-finding.ensures.state ∙ c.in_default-2.is;
+        room = grind (arith, common_steps);
+      };
+      few = grind (arith, common_steps);
+      told = (c.feed.ensures.told c.args.asked inv.bytes (g.T.Sink.sent c.args.told.now) (g.T.Sink.writes c.args.told.now)
+          inv.fed c.source.invariant.told).going (cc);
+    }
+
+pub returns-in_err-end-clause-told : goal.returns-in_err-end-clause-told
+returns-in_err-end-clause-told g c =
+    let inv = c.source.invariant.fed_so in
+    has_told c.args.asked _ _ _ _ (g.T.Sink.sent c.args.told.now) _ _ _
+    (inv.bytes ++ take c.in-Ok.taken c.read.new.buffer) _
+    (all_took _ (g.S.Source.left c.source.source) _ _ (g.S.Source.reads c.source.source) _ inv.bytes
+    (take c.in-Ok.taken c.read.new.buffer) _ inv.reads inv.took c.in-Ok.ensures.kept c.in-Ok.ensures.bytes.0
+    (sym c.in-Ok.ensures.bound.1))
+    (all_counted _ (g.S.Source.left c.source.source) _ _ (g.S.Source.reads c.source.source) _ inv.bytes
+    (take c.in-Ok.taken c.read.new.buffer) _ inv.reads inv.took c.in-Ok.ensures.kept c.in-Ok.ensures.bytes.0
+    (sym c.in-Ok.ensures.bound.1))
+    (tells_more c.args.asked inv.bytes (take c.in-Ok.taken c.read.new.buffer) _ _ _ _ c.source.invariant.told.tells)
+    (all_of_err _ _ c.from_residual.result c.from_residual.ensures.1)
+
+pub returns-then-taken-eq0-clause-told : goal.returns-then-taken-eq0-clause-told
+returns-then-taken-eq0-clause-told g c =
+    let inv = c.source.invariant.fed_so in
+    has_told c.args.asked _ _ _ _ (g.T.Sink.sent c.args.told.now) _ _ _
+    (inv.bytes ++ take c.in-Ok.taken c.read.new.buffer) _
+    (all_took _ (g.S.Source.left c.source.source) _ _ (g.S.Source.reads c.source.source) _ inv.bytes
+    (take c.in-Ok.taken c.read.new.buffer) _ inv.reads inv.took c.in-Ok.ensures.kept c.in-Ok.ensures.bytes.0
+    (sym c.in-Ok.ensures.bound.1))
+    (all_counted _ (g.S.Source.left c.source.source) _ _ (g.S.Source.reads c.source.source) _ inv.bytes
+    (take c.in-Ok.taken c.read.new.buffer) _ inv.reads inv.took c.in-Ok.ensures.kept c.in-Ok.ensures.bytes.0
+    (sym c.in-Ok.ensures.bound.1))
+    (tells_more c.args.asked inv.bytes (take c.in-Ok.taken c.read.new.buffer) _ _ _ _ c.source.invariant.told.tells)
+    (told_to_end c.args.asked inv.bytes (take c.in-Ok.taken c.read.new.buffer) c.source.telling _ _ _ _
+    c.source.invariant.told (rw c.if-taken-eq0.true refl))
+
+pub returns-in_err-finding-clause-told : goal.returns-in_err-finding-clause-told
+returns-in_err-finding-clause-told g c =
+    let inv = c.source.invariant.fed_so in
+    has_told c.args.asked _ _ _ _ (g.T.Sink.sent c.args.told.now) _ _ _
+    (inv.bytes ++ take c.in-Ok.taken c.read.new.buffer) _
+    (all_took _ (g.S.Source.left c.source.source) _ _ (g.S.Source.reads c.source.source) _ inv.bytes
+    (take c.in-Ok.taken c.read.new.buffer) _ inv.reads inv.took c.in-Ok.ensures.kept c.in-Ok.ensures.bytes.0
+    (sym c.in-Ok.ensures.bound.1))
+    (all_counted _ (g.S.Source.left c.source.source) _ _ (g.S.Source.reads c.source.source) _ inv.bytes
+    (take c.in-Ok.taken c.read.new.buffer) _ inv.reads inv.took c.in-Ok.ensures.kept c.in-Ok.ensures.bytes.0
+    (sym c.in-Ok.ensures.bound.1))
+    (c.feed.ensures.told c.args.asked inv.bytes (g.T.Sink.sent c.args.told.now) (g.T.Sink.writes c.args.told.now)
+    inv.fed c.source.invariant.told).tells
+    (all_of_err _ _ c.from_residual-in_err-finding.result c.from_residual-in_err-finding.ensures.1)
+
+pub returns-in-Some-clause-told : goal.returns-in-Some-clause-told
+returns-in-Some-clause-told g c =
+    let inv = c.source.invariant.fed_so in
+    has_told c.args.asked _ _ _ _ (g.T.Sink.sent c.args.told.now) _ _ _
+    (inv.bytes ++ take c.in-Ok.taken c.read.new.buffer) _
+    (all_took _ (g.S.Source.left c.source.source) _ _ (g.S.Source.reads c.source.source) _ inv.bytes
+    (take c.in-Ok.taken c.read.new.buffer) _ inv.reads inv.took c.in-Ok.ensures.kept c.in-Ok.ensures.bytes.0
+    (sym c.in-Ok.ensures.bound.1))
+    (all_counted _ (g.S.Source.left c.source.source) _ _ (g.S.Source.reads c.source.source) _ inv.bytes
+    (take c.in-Ok.taken c.read.new.buffer) _ inv.reads inv.took c.in-Ok.ensures.kept c.in-Ok.ensures.bytes.0
+    (sym c.in-Ok.ensures.bound.1))
+    (c.feed.ensures.told c.args.asked inv.bytes (g.T.Sink.sent c.args.told.now) (g.T.Sink.writes c.args.told.now)
+    inv.fed c.source.invariant.told).tells
+    ((c.feed.ensures.told c.args.asked inv.bytes (g.T.Sink.sent c.args.told.now) (g.T.Sink.writes c.args.told.now)
+    inv.fed c.source.invariant.told).found c.in-Some.finding (search rules))
+
+pub returns-then-taken-eq0-clause-fed : goal.returns-then-taken-eq0-clause-fed
+returns-then-taken-eq0-clause-fed g c =
+    let inv = c.source.invariant.fed_so in
+    record {
       bytes = inv.bytes ++ take c.in-Ok.taken c.read.new.buffer;
-      took = Consumes-trans _ (g.S.Source.left c.source.source) _ inv.bytes _ inv.took c.in-Ok.ensures.bytes.0;
-      reads = so_far.more _ _ _ _ _ _ inv.reads c.in-Ok.ensures.kept takes (omega (arith, long, many));
+      took = all_took _ (g.S.Source.left c.source.source) _ _ (g.S.Source.reads c.source.source) _ inv.bytes
+          (take c.in-Ok.taken c.read.new.buffer) _ inv.reads inv.took c.in-Ok.ensures.kept c.in-Ok.ensures.bytes.0
+          (sym c.in-Ok.ensures.bound.1);
+      count = all_counted _ (g.S.Source.left c.source.source) _ _ (g.S.Source.reads c.source.source) _ inv.bytes
+          (take c.in-Ok.taken c.read.new.buffer) _ inv.reads inv.took c.in-Ok.ensures.kept c.in-Ok.ensures.bytes.0
+          (sym c.in-Ok.ensures.bound.1);
+      fed = let none : take c.in-Ok.taken c.read.new.buffer ≡ [] = rw c.if-taken-eq0.true refl in
+          subst (λ (xs : List ℕ). IsFed c.args.asked.most c.args.asked.ahead xs c.source.judge)
+          (sym (append-nil inv.bytes) ∙ ap (λ (xs : List ℕ). inv.bytes ++ xs) (sym none)) inv.fed;
+    }
+
+pub returns-in-Some-clause-fed : goal.returns-in-Some-clause-fed
+returns-in-Some-clause-fed g c =
+    let inv = c.source.invariant.fed_so in
+    record {
+      bytes = inv.bytes ++ take c.in-Ok.taken c.read.new.buffer;
+      took = all_took _ (g.S.Source.left c.source.source) _ _ (g.S.Source.reads c.source.source) _ inv.bytes
+          (take c.in-Ok.taken c.read.new.buffer) _ inv.reads inv.took c.in-Ok.ensures.kept c.in-Ok.ensures.bytes.0
+          (sym c.in-Ok.ensures.bound.1);
+      count = all_counted _ (g.S.Source.left c.source.source) _ _ (g.S.Source.reads c.source.source) _ inv.bytes
+          (take c.in-Ok.taken c.read.new.buffer) _ inv.reads inv.took c.in-Ok.ensures.kept c.in-Ok.ensures.bytes.0
+          (sym c.in-Ok.ensures.bound.1);
       fed = c.in_ok-finding.ensures.fed c.args.asked.most c.args.asked.ahead inv.bytes inv.fed;
-      none = c.in_ok-finding.ensures.told ∙ c.in_default-2.is;
-      room = grind (arith, common_steps);
     }

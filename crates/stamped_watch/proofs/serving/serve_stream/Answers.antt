@@ -1,6 +1,50 @@
-use Rattle.stamped_watch.proofs.ReadingOn.{reads_none}
+use Rattle.std.proofs.Common.{◌≡◌, rules}
+use Rattle.std.specs.Prelude.{IsErrAnd}
+use Rattle.stamp_cli.specs.declared.faults.ServeFault.{ServeFault}
+use Rattle.stamp_cli.specs.declared.faults.ServeFault.TheVariants.{Memory}
+use Rattle.stamped_watch.specs.Possible.{items_in}
+use Rattle.stamped_watch.proofs.ReadingOn.{reads_none, writes_none}
+use Rattle.stamped_watch.proofs.LinesTold.{told_nothing, told_of_answer}
 use Rattle.stamped_watch.proofs.serving.serve_stream.Goals as goal
 
 pub returns-in_err-chunk-clause-reads : goal.returns-in_err-chunk-clause-reads
 returns-in_err-chunk-clause-reads g c = reads_none (g.S.Source.left c.args.source.now)
     (g.S.Source.reads c.args.source.now) c.from_residual.result c.from_residual.ensures.1
+
+pub returns-in_err-chunk-clause-told : goal.returns-in_err-chunk-clause-told
+returns-in_err-chunk-clause-told g c = told_nothing _ c.args.asked (g.S.Source.left c.args.source.now)
+    (g.S.Source.reads c.args.source.now) (g.T.Sink.sent c.args.told.now) (g.T.Sink.writes c.args.told.now)
+    c.from_residual.result c.from_residual.ensures.1
+
+pub returns-clause-told : goal.returns-clause-told
+returns-clause-told g c = told_of_answer c.args.asked _ _ _ _ _ _ _ _ c.in_ok-finding.finding _
+    (rw c.in_ok-finding.was at c.fed_from.ensures.told)
+
+pub returns-in_err-text-clause-writes : goal.returns-in_err-text-clause-writes
+returns-in_err-text-clause-writes g c =
+    let is : IsErrAnd c.from_residual-in_err-text.result (λ (e : ServeFault). e ≡ Memory) = search rules in
+    writes_none (g.K.Sink.sent c.args.sink.now) (g.K.Sink.writes c.args.sink.now) c.from_residual-in_err-text.result is
+
+pub returns-in_err-push-clause-writes : goal.returns-in_err-push-clause-writes
+returns-in_err-push-clause-writes g c =
+    let is : IsErrAnd c.from_residual-in_err-push.result (λ (e : ServeFault). e ≡ Memory) = search rules in
+    writes_none (g.K.Sink.sent c.args.sink.now) (g.K.Sink.writes c.args.sink.now) c.from_residual-in_err-push.result is
+
+pub returns-clause-ok : goal.returns-clause-ok
+returns-clause-ok g c =
+    let all = c.in_ok-finding.ensures.fed in (
+      c.in_ok-finding.finding,
+      c.in_ok-finding.ensures.found,
+      record {
+        verdict = search rules;
+        ended = c.ended_at-ended.result;
+        replies = items_in c.possible_for-replies.result;
+        note = search rules;
+        bytes = all.bytes;
+        took = all.took;
+        count = all.count;
+        possible = c.possible_for-replies.ensures c.args.asked.most c.args.asked.ahead all.bytes all.fed;
+      },
+      search rules,
+      search rules,
+    )

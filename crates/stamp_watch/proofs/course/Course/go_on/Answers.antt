@@ -1,6 +1,7 @@
 use Rattle.std.proofs.Common.{arith, refl}
 use Rattle.stamp_watch.specs.inner.Course.{IsSameRun}
 use Rattle.stamp_watch.proofs.SameRuns.{same_run_on, on_course_still, room_still}
+use Rattle.stamp_watch.proofs.Kept.{kept_of}
 use Rattle.stamp_watch.proofs.course.Course.go_on.Goals as goal
 use Rattle.stamp_watch.proofs.course.Course.go_on.Goals.{In_ok-let_go, In_ok-onward}
 
@@ -78,3 +79,15 @@ returns-clause-found c = record {
   same = c.unseen.invariant.same;
   near = record { events = omega (arith, c.unseen-test.false, c.len.ensures, c.unseen.self.events.ok.0) };
 }
+
+pub returns-in-Waits-clause-kept : goal.returns-in-Waits-clause-kept
+returns-in-Waits-clause-kept c limits run is = c.in_ok-onward.ensures.kept limits run
+    ((let_go_here (goal.at.returns-in-Waits-clause-kept c).In_ok-let_go).courses limits run is)
+
+pub returns-in-Finds-clause-kept : goal.returns-in-Finds-clause-kept
+returns-in-Finds-clause-kept c limits run is = c.in_ok-onward.ensures.kept limits run
+    ((let_go_here (goal.at.returns-in-Finds-clause-kept c).In_ok-let_go).courses limits run is)
+
+pub returns-clause-kept : goal.returns-clause-kept
+returns-clause-kept c limits run is = kept_of limits run c.unseen.self (c.unseen.invariant.same.courses limits run is)
+    (room_still c.args.self.now c.unseen.self c.unseen.invariant.same c.requires.room)

@@ -7,6 +7,8 @@ use Rattle.stamp_watch.specs.inner.Judging.{IsStep}
 use Rattle.stamp_watch.proofs.Judged.{never_refused}
 use Rattle.stamp_watch.proofs.Looking.{looked_none}
 use Rattle.stamp_watch.proofs.Running.{run_here, run_steps, run_dead, run_too_many, run_stuck_from, run_finds}
+use Rattle.stamp_watch.proofs.Kept.{kept_of, kept_same}
+use Rattle.stamp_watch.proofs.SameRuns.{room_still}
 use Rattle.stamp_watch.proofs.course.Course.see.Goals as goal
 use Rattle.stamp_watch.proofs.course.Course.see.Goals.{In_ok-progress}
 
@@ -109,3 +111,18 @@ returns-in-TooMany-clause-small c ahead fresh = record {
   seen = fresh.small.seen;
   events = fresh.small.events;
 }
+
+pub returns-in-Going-clause-kept : goal.returns-in-Going-clause-kept
+returns-in-Going-clause-kept c limits run is =
+    let same = (returns-in-Going-clause-onward c 0).same in
+    kept_of limits run _ (same.courses limits run is) (room_still c.args.self.now _ same c.requires.room)
+
+pub returns-in_ok-verdict-in-Dead-clause-kept : goal.returns-in_ok-verdict-in-Dead-clause-kept
+returns-in_ok-verdict-in-Dead-clause-kept c limits run is =
+    kept_same limits run c.args.self.now _ (record { base = refl; first = refl; events = refl; seen = refl })
+    (kept_of limits run c.args.self.now is c.requires.room)
+
+pub returns-in-TooMany-clause-kept : goal.returns-in-TooMany-clause-kept
+returns-in-TooMany-clause-kept c limits run is =
+    kept_same limits run c.args.self.now _ (record { base = refl; first = refl; events = refl; seen = refl })
+    (kept_of limits run c.args.self.now is c.requires.room)

@@ -4,6 +4,7 @@ use Rattle.std.proofs.lemmas.Result.{IfOk-weaker}
 use Rattle.stamp_watch.specs.declared.event.Event.{Event}
 use Rattle.stamp_watch.proofs.Looking.{looked_all}
 use Rattle.stamp_watch.proofs.TooFar.{run_too_far}
+use Rattle.stamp_watch.proofs.Kept.{kept_of, kept_same}
 use Rattle.stamp_watch.proofs.course.Course.step_on.Goals as goal
 
 pub end_at_front-ends-requires-clause-front : goal.end_at_front-ends-requires-clause-front
@@ -79,3 +80,13 @@ returns-clause-small c fresh = record {
   seen = fresh.small.seen;
   events = fresh.small.events;
 }
+
+pub returns-then-self-ahead-clause-kept : goal.returns-then-self-ahead-clause-kept
+returns-then-self-ahead-clause-kept c limits run is =
+    kept_same limits run c.args.self.now _ (record { base = refl; first = refl; events = refl; seen = refl })
+    (kept_of limits run c.args.self.now is c.requires.room)
+
+pub returns-clause-kept : goal.returns-clause-kept
+returns-clause-kept c limits run is =
+    kept_same limits run c.args.self.now _ (record { base = refl; first = refl; events = refl; seen = refl })
+    (kept_of limits run c.args.self.now is c.requires.room)

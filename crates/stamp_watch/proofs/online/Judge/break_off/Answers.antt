@@ -2,6 +2,7 @@ use Rattle.std.proofs.Common.{[], ◌∷◌, ◌++◌, Some, refl, sym, subst}
 use Rattle.stamp_watch.specs.declared.verdict.Verdict.{Verdict}
 use Rattle.stamp_watch.specs.Judging.{IsFound}
 use Rattle.stamp_watch.proofs.GoingOn.{course_on, course_room, found_broken, judge_broken}
+use Rattle.stamp_watch.proofs.Kept.{kept_beside}
 use Rattle.stamp_watch.proofs.online.Judge.break_off.Goals as goal
 
 pub rest-requires-clause-on : goal.rest-requires-clause-on
@@ -36,3 +37,7 @@ returns-clause-known c =
       run = some.run ++ c.args.event.now ∷ [];
       judge_of = returns-clause-given c some.limits some.most some.ahead some.run some.judge_of;
     }
+
+pub returns-clause-kept : goal.returns-clause-kept
+returns-clause-kept c limits most ahead run is keeps =
+    kept_beside limits run c.args.self.now.course c.args.event.now keeps

@@ -1,8 +1,8 @@
 use Rattle.std.proofs.Common.{ℕ, Some, subst}
 use Rattle.std.proofs.lemmas.Result.{IfOk-weaker}
-use Rattle.stamp_watch.specs.inner.Course.{IsRest}
+use Rattle.stamp_watch.specs.Course.{IsRest}
 use Rattle.stamp_watch.proofs.GoingOn.{course_on, course_room, found_of, way_of}
-use Rattle.stamp_watch.proofs.Running.{found_now, rest_now}
+use Rattle.stamp_watch.proofs.Running.{found_now, rest_found, rest_now}
 use Rattle.stamp_watch.proofs.online.Judge.finish.Goals as goal
 
 pub rest-requires-clause-on : goal.rest-requires-clause-on
@@ -11,12 +11,22 @@ rest-requires-clause-on c = course_on c.args.self.now c.requires c.in-None.is
 pub rest-requires-clause-room : goal.rest-requires-clause-room
 rest-requires-clause-room c = course_room c.args.self.now c.requires c.in-None.is
 
-pub returns-in-Some : goal.returns-in-Some
-returns-in-Some c limits most ahead run is = found_now limits run most (Some ahead) c.in-Some.verdict
+pub returns-in-Some-clause-verdict : goal.returns-in-Some-clause-verdict
+returns-in-Some-clause-verdict c limits most ahead run is = found_now limits run most (Some ahead) c.in-Some.verdict
     (found_of limits most ahead run c.args.self.now is c.in-Some.verdict c.in-Some.is)
 
-pub returns-in-None : goal.returns-in-None
-returns-in-None c = IfOk-weaker c.rest.result _ _
+pub returns-in-Some-clause-rest : goal.returns-in-Some-clause-rest
+returns-in-Some-clause-rest c limits most ahead run is = rest_found limits run most (Some ahead) c.in-Some.verdict
+    (found_of limits most ahead run c.args.self.now is c.in-Some.verdict c.in-Some.is)
+
+pub returns-in-None-clause-verdict : goal.returns-in-None-clause-verdict
+returns-in-None-clause-verdict c = IfOk-weaker c.rest.result _ _
     (λ verdict rest limits most ahead run is. rest_now limits run most (Some ahead) verdict
     (subst (λ (m : ℕ). IsRest limits run m (Some ahead) verdict) is.most_is (rest (Some ahead) limits run
     (way_of limits most ahead run c.args.self.now is c.in-None.is).course_of))) c.rest.ensures
+
+pub returns-in-None-clause-rest : goal.returns-in-None-clause-rest
+returns-in-None-clause-rest c = IfOk-weaker c.rest.result _ _
+    (λ verdict rest limits most ahead run is. subst (λ (m : ℕ). IsRest limits run m (Some ahead) verdict) is.most_is
+    (rest (Some ahead) limits run (way_of limits most ahead run c.args.self.now is c.in-None.is).course_of))
+    c.rest.ensures

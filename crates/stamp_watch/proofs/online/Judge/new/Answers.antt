@@ -1,5 +1,7 @@
 use Rattle.std.proofs.Common.{refl, []}
 use Rattle.stamp_watch.proofs.GoingOn.{judge_first}
+use Rattle.stamp_watch.proofs.GoingOn.{way_of}
+use Rattle.stamp_watch.proofs.Kept.{kept_of}
 use Rattle.stamp_watch.proofs.online.Judge.new.Goals as goal
 
 pub returns-clause-judge : goal.returns-clause-judge
@@ -13,4 +15,19 @@ returns-clause-known c = record {
   ahead = c.args.ahead;
   run = [];
   judge_of = returns-clause-judge c;
+}
+
+pub returns-clause-kept : goal.returns-clause-kept
+returns-clause-kept c =
+    let way = way_of c.args.limits c.args.most c.args.ahead [] _ (returns-clause-judge c) refl in
+    kept_of c.args.limits [] _ way.course_of way.room
+
+pub returns-clause-keeping : goal.returns-clause-keeping
+returns-clause-keeping c = record {
+  limits = c.args.limits;
+  most = c.args.most;
+  ahead = c.args.ahead;
+  run = [];
+  judge_of = returns-clause-judge c;
+  keeps = returns-clause-kept c;
 }

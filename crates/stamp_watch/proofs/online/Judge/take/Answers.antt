@@ -41,3 +41,8 @@ returns-clause-known c =
       run = some.run ++ c.args.event.now ∷ [];
       judge_of = returns-clause-given c some.limits some.most some.ahead some.run some.judge_of;
     }
+
+pub returns-clause-kept : goal.returns-clause-kept
+returns-clause-kept c limits most ahead run is keeps = c.in_ok-found.ensures.kept limits (run ++ c.args.event.now ∷ [])
+    (then_of limits most ahead run c.args.event.now c.args.self.now is c.requires.none c.args.busy c.requires.may
+    c.requires.busy c.add.new.self c.in_ok-add.ensures.course)

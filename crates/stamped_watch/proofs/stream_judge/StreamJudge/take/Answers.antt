@@ -6,25 +6,25 @@ count-requires-clause-begun c =
     let some = c.requires.some in
     (room_taken some.most some.ahead some.taken c.args.bytes.now c.args.self.now some.has c.requires.none
     c.in-Some.judge c.in-Some.is c.in-Ok.event c.given.new.judge c.in_ok-self-in-Ok.field-0 c.in-Ok.ensures.event
-    c.in_ok-self-in-Ok.ensures c.if-is_none.ensures).0
+    c.in_ok-self-in-Ok.ensures.found c.in_ok-self-in-Ok.ensures.kept c.if-is_none.ensures).0
 
 pub count-requires-clause-withdrawn : goal.count-requires-clause-withdrawn
 count-requires-clause-withdrawn c =
     let some = c.requires.some in
     (room_taken some.most some.ahead some.taken c.args.bytes.now c.args.self.now some.has c.requires.none
     c.in-Some.judge c.in-Some.is c.in-Ok.event c.given.new.judge c.in_ok-self-in-Ok.field-0 c.in-Ok.ensures.event
-    c.in_ok-self-in-Ok.ensures c.if-is_none.ensures).1
+    c.in_ok-self-in-Ok.ensures.found c.in_ok-self-in-Ok.ensures.kept c.if-is_none.ensures).1
 
 pub returns-then-is_none-clause-taken : goal.returns-then-is_none-clause-taken
 returns-then-is_none-clause-taken c most ahead taken has =
     counted_taken most ahead taken c.args.bytes.now c.args.self.now has c.requires.none c.in-Some.judge c.in-Some.is
-    c.in-Ok.event c.given.new.judge c.in_ok-self-in-Ok.field-0 c.in-Ok.ensures.event c.in_ok-self-in-Ok.ensures
+    c.in-Ok.event c.given.new.judge c.in_ok-self-in-Ok.field-0 c.in-Ok.ensures.event c.in_ok-self-in-Ok.ensures.found c.in_ok-self-in-Ok.ensures.kept
     c.if-is_none.ensures c.count.new.self c.count.ensures
 
 pub returns-else-is_none-clause-taken : goal.returns-else-is_none-clause-taken
 returns-else-is_none-clause-taken c most ahead taken has =
     found_taken most ahead taken c.args.bytes.now c.args.self.now has c.requires.none c.in-Some.judge c.in-Some.is
-    c.in-Ok.event c.given.new.judge c.in_ok-self-in-Ok.field-0 c.in-Ok.ensures.event c.in_ok-self-in-Ok.ensures
+    c.in-Ok.event c.given.new.judge c.in_ok-self-in-Ok.field-0 c.in-Ok.ensures.event c.in_ok-self-in-Ok.ensures.found c.in_ok-self-in-Ok.ensures.kept
     c.if-is_none.ensures
 
 pub returns-in_ok-found_unless-in-Err-clause-taken : goal.returns-in_ok-found_unless-in-Err-clause-taken

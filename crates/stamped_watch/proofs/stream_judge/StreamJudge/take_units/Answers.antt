@@ -1,4 +1,5 @@
-use Rattle.std.proofs.Common.{ℕ, List, ◌≡◌, ◌++◌, ◌∙◌, ap, sym}
+use Rattle.std.proofs.Common.{ℕ, List, [], ◌≡◌, ◌++◌, ◌∙◌, ap, append-nil, refl, subst, sym}
+use Rattle.stamped_watch.specs.StreamJudge.{HasTaken}
 use Rattle.std.proofs.lemmas.List.{take-append-drop}
 use Rattle.stamped_watch.proofs.Taking.{front_more, rest_kept, rest_left}
 use Rattle.stamped_watch.proofs.stream_judge.StreamJudge.take_units.Goals as goal
@@ -24,3 +25,13 @@ returns c most ahead taken has =
     let so_far = c.units.invariant in
     rest_left most ahead taken so_far.front c.units.rest.now c.args.bytes.now c.units.self
     (so_far.more most ahead taken has) so_far.parts c.units-test.ensures so_far.empty
+
+pub units-init : goal.units-init
+units-init c = record {
+  front = [];
+  parts = refl;
+  more = λ most ahead taken has. subst (λ (xs : List ℕ). HasTaken most ahead xs c.args.self.now)
+      (sym (append-nil taken)) has;
+  some = c.requires.some;
+  empty = c.requires.empty;
+}

@@ -1,0 +1,199 @@
+-- A run in which calls begin later is explained only where the run is.
+use Rattle.std.proofs.Common.{◌≡◌, ◌≢◌, ◌⊎◌, ◌+◌, ◌-◌, ◌<◌, ◌≤◌, ℕ, zero, suc, Bool, false, List, [], ◌∷◌, ◌++◌}
+use Rattle.std.proofs.Common.{length, refl, sym, ◌∙◌, ap, subst, inl, inr, arith, append_assoc, ne_eqb}
+use Rattle.std.specs.Prelude.{take, not, ◌&&◌, ◌||◌}
+use Rattle.std.specs.List.{All, fold}
+use Rattle.std.proofs.lemmas.Bool.{cases_eq, cases_lt}
+use Rattle.std.proofs.lemmas.List.{length-append, take-append-le}
+use Rattle.std.proofs.lemmas.List.Elements.{All-head, All-tail}
+use Rattle.std.proofs.Math.Seq.{take-append-add}
+use Rattle.stamp_core.specs.LockEvent.{LockEvent}
+use Rattle.stamp_core.specs.Limits.{Bounds}
+use Rattle.stamp_core.specs.declared.call.Call.{Call}
+use Rattle.stamp_watch.specs.declared.event.Event.{Event}
+use Rattle.stamp_watch.specs.declared.event.Event.TheVariants.{Begins, Returns, Withdraws}
+use Rattle.stamp_watch.specs.Ahead.{IsSpared, Spares, lane_of}
+use Rattle.stamp_watch.specs.Ahead.Spares.{spares_all, spares_beginning, spares_return, spares_withdrawal}
+use Rattle.stamp_watch.specs.Delay.{IsBeginning}
+use Rattle.stamp_watch.specs.Form.{is_busy_then, is_busy_after, AreInForm, AreInFormFrom, MayCome}
+use Rattle.stamp_watch.specs.Late.{BeginsLater, BeginsOneLater, LaterExplainsNoMore}
+use Rattle.stamp_watch.specs.Late.BeginsLater.{as_it_is, then_later}
+use Rattle.stamp_watch.specs.Run.{AreExplained, Lanes, Survives, all_idle}
+use Rattle.stamp_watch.specs.Run.Phase.{Idle, Asks}
+use Rattle.stamp_watch.specs.Run.Survives.{at_end, begins}
+use Rattle.stamp_watch.proofs.BeginningLate.{begins_sooner}
+use Rattle.stamp_watch.proofs.Form.{past_free}
+use Rattle.stamp_watch.proofs.Surviving.{set_of, sets_of}
+
+-- an event of another lane leaves a lane busy or free
+pub busy_other : (lane : ℕ) (busy : Bool) (e : Event) → lane_of e ≢ lane → is_busy_then lane busy e ≡ busy
+busy_other lane busy (Begins u call) apart = ap (λ (b : Bool). b || busy) (ne_eqb u lane apart)
+busy_other lane busy (Returns u reply) apart = ap (λ (b : Bool). not b && busy) (ne_eqb u lane apart)
+busy_other lane busy (Withdraws u) apart = ap (λ (b : Bool). not b && busy) (ne_eqb u lane apart)
+
+busy_swapped : (lane : ℕ) (busy : Bool) (d e : Event) → lane_of d ≢ lane_of e →
+    is_busy_then lane (is_busy_then lane busy d) e ≡ is_busy_then lane (is_busy_then lane busy e) d
+busy_swapped lane busy d e apart = by (cases_eq (lane_of d) lane)
+  where
+    by : (lane_of d ≡ lane) ⊎ (lane_of d ≢ lane) →
+        is_busy_then lane (is_busy_then lane busy d) e ≡ is_busy_then lane (is_busy_then lane busy e) d
+    by (inl same) = busy_other lane (is_busy_then lane busy d) e other ∙
+        sym (ap (λ (b : Bool). is_busy_then lane b d) (busy_other lane busy e other))
+      where
+        other : lane_of e ≢ lane
+        other is = apart (same ∙ sym is)
+    by (inr other) = ap (λ (b : Bool). is_busy_then lane b e) (busy_other lane busy d other) ∙
+        sym (busy_other lane (is_busy_then lane busy e) d other)
+
+may_come_so : (a b : ℕ → Bool) (e : Event) → a (lane_of e) ≡ b (lane_of e) → MayCome a e → MayCome b e
+may_come_so a b (Begins lane call) same may = (sym same ∙ may.0, may.1)
+may_come_so a b (Returns lane reply) same may = sym same ∙ may
+may_come_so a b (Withdraws lane) same may = sym same ∙ may
+
+form_same : (a b : ℕ → Bool) (events : List Event) → ((lane : ℕ) → a lane ≡ b lane) → AreInFormFrom a events →
+    AreInFormFrom b events
+form_same a b [] same form = tt
+form_same a b (e ∷ events) same form = (
+  may_come_so a b e (same (lane_of e)) form.0,
+  form_same (λ (lane : ℕ). is_busy_then lane (a lane) e) (λ (lane : ℕ). is_busy_then lane (b lane) e) events
+      (λ lane. ap (λ (busy : Bool). is_busy_then lane busy e) (same lane)) form.1,
+)
+
+-- two events of different lanes are in form in either order
+form_swapped : (busy : ℕ → Bool) (past : List Event) (d e : Event) (rest : List Event) → lane_of d ≢ lane_of e →
+    AreInFormFrom busy (past ++ d ∷ e ∷ rest) → AreInFormFrom busy (past ++ e ∷ d ∷ rest)
+form_swapped busy [] d e rest apart form = (
+  may_come_so (λ (lane : ℕ). is_busy_then lane (busy lane) d) busy e
+      (busy_other (lane_of e) (busy (lane_of e)) d apart) form.1.0,
+  (
+    may_come_so busy (λ (lane : ℕ). is_busy_then lane (busy lane) e) d
+        (sym (busy_other (lane_of d) (busy (lane_of d)) e (λ is. apart (sym is)))) form.0,
+    form_same (λ (lane : ℕ). is_busy_then lane (is_busy_then lane (busy lane) d) e)
+        (λ (lane : ℕ). is_busy_then lane (is_busy_then lane (busy lane) e) d) rest
+        (λ lane. busy_swapped lane (busy lane) d e apart) form.1.1,
+  ),
+)
+form_swapped busy (x ∷ past) d e rest apart form =
+    (form.0, form_swapped (λ (lane : ℕ). is_busy_then lane (busy lane) x) past d e rest apart form.1)
+
+-- a lane is free before a call that begins in it
+pub free_before : (busy : ℕ → Bool) (past : List Event) (lane : ℕ) (call : Call) (rest : List Event) →
+    AreInFormFrom busy (past ++ Begins lane call ∷ rest) → fold (is_busy_then lane) (busy lane) past ≡ false
+free_before busy [] lane call rest form = form.0.0
+free_before busy (x ∷ past) lane call rest form =
+    free_before (λ (u : ℕ). is_busy_then u (busy u) x) past lane call rest form.1
+
+spares_one : (lane : ℕ) (e : Event) → lane_of e ≢ lane → Spares lane (e ∷ [])
+spares_one lane (Begins u call) apart = spares_beginning u call apart spares_all
+spares_one lane (Returns u reply) apart = spares_return u reply apart spares_all
+spares_one lane (Withdraws u) apart = spares_withdrawal u apart spares_all
+
+module _ (limits : Bounds) (lane : ℕ) (call : Call) (next : Event) (rest : List Event) (apart : lane_of next ≢ lane)
+  where
+    -- the call may begin before the event, also where the events end at a place
+    begins_before : (j : ℕ) (s : List LockEvent) (lanes : Lanes) → lanes lane ≡ Idle →
+        Survives limits (take j (next ∷ Begins lane call ∷ rest)) s lanes →
+        Survives limits (take j (Begins lane call ∷ next ∷ rest)) s lanes
+    begins_before zero s lanes idle way = way
+    begins_before (suc zero) s lanes idle way = begins lane call idle (sets_of lanes lane (Asks call)) at_end
+    begins_before (suc (suc j)) s lanes idle way = begins lane call idle (sets_of lanes lane (Asks call))
+        (begins_sooner limits lane call (next ∷ []) (take j rest) s lanes (set_of lanes lane (Asks call))
+        (sets_of lanes lane (Asks call)) (spares_one lane next apart) way)
+
+    cut_before : (past : List Event) (k : ℕ) → is_busy_after past lane ≡ false →
+        AreExplained limits (take k (past ++ next ∷ Begins lane call ∷ rest)) →
+        AreExplained limits (take k (past ++ Begins lane call ∷ next ∷ rest))
+    cut_before past k free way = by (cases_lt k (length past))
+      where
+        by : (k < length past) ⊎ (length past ≤ k) →
+            AreExplained limits (take k (past ++ Begins lane call ∷ next ∷ rest))
+        by (inl less) = subst (AreExplained limits)
+            (take-append-le k past (next ∷ Begins lane call ∷ rest) (omega (arith, less)) ∙
+            sym (take-append-le k past (Begins lane call ∷ next ∷ rest) (omega (arith, less)))) way
+        by (inr more) = subst (AreExplained limits) (sym (cut (Begins lane call ∷ next ∷ rest)))
+            (past_free limits lane (take (k - length past) (next ∷ Begins lane call ∷ rest))
+            (take (k - length past) (Begins lane call ∷ next ∷ rest)) (begins_before (k - length past)) past
+            (past ++ take (k - length past) (next ∷ Begins lane call ∷ rest)) [] all_idle false refl refl free
+            (subst (AreExplained limits) (cut (next ∷ Begins lane call ∷ rest)) way))
+          where
+            sum_is : length past + (k - length past) ≡ k
+            sum_is = omega (arith, more)
+
+            cut : (events : List Event) → take k (past ++ events) ≡ past ++ take (k - length past) events
+            cut events = ap (λ (n : ℕ). take n (past ++ events)) (sym sum_is) ∙
+                take-append-add past events (k - length past)
+
+-- one call begins later: the run is in form, and explained no further
+record IsSound (limits : Bounds) (old new : List Event) : Type 0 where
+  form : AreInForm new
+  explained : (k : ℕ) → AreExplained limits (take k new) → AreExplained limits (take k old)
+
+one_sound : (limits : Bounds) (old new : List Event) → BeginsOneLater old new → AreInForm old →
+    IsSound limits old new
+one_sound limits old new is form = record {
+  form = subst AreInForm (sym is.new_is)
+      (form_swapped (λ (lane : ℕ). false) is.past (Begins is.lane is.call) is.next is.rest
+      (λ same. is.apart (sym same)) form_here);
+  explained = λ k way. subst (λ (xs : List Event). AreExplained limits (take k xs)) (sym is.old_is)
+      (cut_before limits is.lane is.call is.next is.rest is.apart is.past k
+      (free_before (λ (lane : ℕ). false) is.past is.lane is.call (is.next ∷ is.rest) form_here)
+      (subst (λ (xs : List Event). AreExplained limits (take k xs)) is.new_is way));
+}
+  where
+    form_here : AreInForm (is.past ++ Begins is.lane is.call ∷ is.next ∷ is.rest)
+    form_here = subst AreInForm is.old_is form
+
+sound : (limits : Bounds) (run handed : List Event) → BeginsLater run handed → AreInForm run →
+    IsSound limits run handed
+sound limits run handed as_it_is form = record { form = form; explained = λ k way. way }
+sound limits run handed (then_later {old = old} before one) form = by (sound limits run old before form)
+  where
+    by : IsSound limits run old → IsSound limits run handed
+    by first = let then_one = one_sound limits old handed one first.form in
+        record {
+          form = then_one.form;
+          explained = λ k way. first.explained k (then_one.explained k way);
+        }
+
+pub later_in_form : (limits : Bounds) (run handed : List Event) → BeginsLater run handed → AreInForm run →
+    AreInForm handed
+later_in_form limits run handed later form = (sound limits run handed later form).form
+
+pub later_explains_no_more : LaterExplainsNoMore
+later_explains_no_more limits run handed k form later way = (sound limits run handed later form).explained k way
+
+pub later_as_long : (run handed : List Event) → BeginsLater run handed → length handed ≡ length run
+later_as_long run handed as_it_is = refl
+later_as_long run handed (then_later {old = old} before one) =
+    ap length one.new_is ∙ swapped ∙ sym (ap length one.old_is) ∙ later_as_long run old before
+  where
+    swapped : length (one.past ++ one.next ∷ Begins one.lane one.call ∷ one.rest) ≡
+        length (one.past ++ Begins one.lane one.call ∷ one.next ∷ one.rest)
+    swapped = length-append one.past (one.next ∷ Begins one.lane one.call ∷ one.rest) ∙
+        sym (length-append one.past (Begins one.lane one.call ∷ one.next ∷ one.rest))
+
+-- an event moves before calls that begin in other lanes
+pub moves_before : (run given aside : List Event) (e : Event) (more : List Event) → All IsBeginning aside →
+    IsSpared aside (lane_of e) → BeginsLater run (given ++ (aside ++ e ∷ more)) →
+    BeginsLater run (given ++ (e ∷ (aside ++ more)))
+moves_before run given [] e more begin spared later = later
+moves_before run given (Begins lane call ∷ aside) e more begin spared later = then_later
+    (subst (BeginsLater run) (append_assoc given (Begins lane call ∷ []) (e ∷ (aside ++ more)))
+    (moves_before run (given ++ Begins lane call ∷ []) aside e more
+    (All-tail IsBeginning (Begins lane call) aside begin)
+    (All-tail (λ (x : Event). lane_of x ≢ lane_of e) (Begins lane call) aside spared)
+    (subst (BeginsLater run) (sym (append_assoc given (Begins lane call ∷ []) (aside ++ e ∷ more))) later)))
+    (record {
+      past = given;
+      lane = lane;
+      call = call;
+      next = e;
+      rest = aside ++ more;
+      apart = λ is. All-head (λ (x : Event). lane_of x ≢ lane_of e) (Begins lane call) aside spared (sym is);
+      old_is = refl;
+      new_is = refl;
+    })
+moves_before run given (Returns lane reply ∷ aside) e more begin spared later =
+    absurd (All-head IsBeginning (Returns lane reply) aside begin)
+moves_before run given (Withdraws lane ∷ aside) e more begin spared later =
+    absurd (All-head IsBeginning (Withdraws lane) aside begin)

@@ -1,0 +1,416 @@
+-- A delay in front of a judge.
+use Rattle.std.proofs.Common.{◌≡◌, ◌≢◌, ◌+◌, ◌^◌, ◌<◌, ◌≤◌, ℕ, List, [], ◌∷◌, ◌++◌, length, get_or, Option, Some, None}
+use Rattle.std.proofs.Common.{◌-◌, refl, sym, ◌∙◌, ap, subst, inl, inr, arith, append_assoc, append-nil}
+use Rattle.std.specs.Prelude.{take, drop, IsSome}
+use Rattle.std.specs.List.{remove}
+use Rattle.std.proofs.lemmas.List.{length_push, take-append-drop}
+use Rattle.std.proofs.lemmas.List.Elements.{All-nil}
+use Rattle.std.proofs.Math.Seq.{drop-append_seam}
+use Rattle.stamp_core.specs.Limits.{AreInRange, Bounds}
+use Rattle.stamp_watch.specs.Issued.{LosesNothing}
+use Rattle.stamp_watch.specs.Ahead.{IsSpared, lane_of}
+use Rattle.stamp_watch.specs.declared.delay.Delay.{Delay}
+use Rattle.stamp_watch.specs.declared.event.Event.{Event}
+use Rattle.stamp_watch.specs.declared.event.Event.TheVariants.{Begins, Returns, Withdraws}
+use Rattle.stamp_watch.specs.declared.online.Judge.{Judge}
+use Rattle.stamp_watch.specs.declared.verdict.Verdict.{Verdict}
+use Rattle.stamp_watch.specs.Delay.{IsBeginning, IsDelayed, IsHandedOn, IsShown}
+use Rattle.stamp_watch.specs.Delay.{AreLate, HasEndedLate, HasEndedSo, IsShownIfAny}
+use Rattle.stamp_watch.specs.Judge.{HasRoomForOne, IsGiven, IsJudge, IsJudgeOfSome}
+use Rattle.stamp_watch.specs.Late.BeginsLater.{as_it_is}
+use Rattle.stamp_watch.specs.Verdict.{AreOfLock, IsOfLock}
+use Rattle.stamp_watch.specs.Waiting.{IsCounted}
+use Rattle.stamp_watch.specs.inner.Delay.{HasBegun, HasRoomFor, IsOfLaneAt, IsReady, IsReadyFor, IsShownBy, IsToBeAside}
+use Rattle.stamp_watch.proofs.Forming.{form_first, next_of_lock}
+use Rattle.stamp_watch.proofs.GoingOn.{judge_stays, run_long, way_of}
+use Rattle.stamp_watch.proofs.HandingOn.{first_or, given_length, begins_so, handed_aside, handed_passes, handed_waits, passed_length}
+use Rattle.stamp_watch.proofs.HandingOn.{spared_so, x_spared}
+use Rattle.stamp_watch.proofs.Reading.{take_read}
+use Rattle.stamp_watch.proofs.Unshown.{ended_here, ended_long, ended_then, last_wait, late_aside, late_begins}
+use Rattle.stamp_watch.proofs.Unshown.{late_first_of, late_passes, late_waits}
+use Rattle.stamp_watch.proofs.Showing.{shown_aside, shown_first, shown_late, shown_passes, shown_waits}
+
+-- how many events a judge was given that has found nothing
+pub judge_long : (limits : Bounds) (most ahead : ℕ) (given : List Event) (judge : Judge) →
+    IsJudge limits most ahead given judge → judge.found ≡ None →
+    judge.course.first + length judge.course.events.items ≡ length given
+judge_long limits most ahead given judge is none = run_long limits given judge.course.first judge.course.seen
+    judge.course.events.items judge.course.base judge.course.watch
+    (way_of limits most ahead given judge is none).course_of.on
+
+pub room_of : (limits : Bounds) (most ahead : ℕ) (given : List Event) (judge : Judge) (n : ℕ) →
+    IsJudge limits most ahead given judge → length given + n < 2 ^ 64 → HasRoomFor n judge
+room_of limits most ahead given judge n is less = record {
+  room = λ none. let long : judge.course.first + length judge.course.events.items ≡ length given =
+      judge_long limits most ahead given judge is none in omega (arith, long, less);
+}
+
+pub judge_known : (delay : Delay) → IsReady delay → IsJudgeOfSome delay.judge
+judge_known delay ready = record {
+  limits = ready.limits;
+  most = ready.most;
+  ahead = ready.ahead;
+  run = ready.delayed.given;
+  judge_of = ready.delayed.judge_of;
+}
+
+module _ (delay : Delay) (ready : IsReady delay) where
+  pub given_of_all : length ready.delayed.given + length delay.aside.items ≡ delay.passed
+  given_of_all = given_length (ready.ahead - 64) ready.run ready.delayed.given delay.aside.items delay.waiting.events.items
+      delay.first_late delay.passed ready.delayed.handed
+
+  -- the judge can number an event, where some were not given to it
+  pub room_for_one : (n : ℕ) → delay.passed + length delay.waiting.events.items < 2 ^ 64 →
+      length delay.aside.items + length delay.waiting.events.items ≡ n + 1 → HasRoomForOne delay.judge
+  room_for_one n room some = record {
+    room = let all : length ready.delayed.given + length delay.aside.items ≡ delay.passed = given_of_all in
+        let long : delay.judge.course.first + length delay.judge.course.events.items ≡ length ready.delayed.given =
+        judge_long ready.limits ready.most ready.ahead ready.delayed.given delay.judge ready.delayed.judge_of
+        ready.going in
+        omega (arith, all, long, room, some);
+  }
+
+low_lane : (e : Event) → IsOfLock e → lane_of e < 64
+low_lane (Begins lane call) is = is
+low_lane (Returns lane reply) is = is.0
+low_lane (Withdraws lane) is = is
+
+handed_as : (ahead : ℕ) (run given aside aside' waiting waiting' : List Event) (first first' : Option ℕ)
+    (passed passed' : ℕ) → aside' ≡ aside → waiting' ≡ waiting → first' ≡ first → passed' ≡ passed →
+    IsHandedOn ahead run given aside waiting first passed → IsHandedOn ahead run given aside' waiting' first' passed'
+handed_as ahead run given aside aside' waiting waiting' first first' passed passed' a w f p is =
+    subst (λ (xs : List Event). IsHandedOn ahead run given xs waiting' first' passed') (sym a)
+    (subst (λ (xs : List Event). IsHandedOn ahead run given aside xs first' passed') (sym w)
+    (subst (λ (o : Option ℕ). IsHandedOn ahead run given aside waiting o passed') (sym f)
+    (subst (λ (n : ℕ). IsHandedOn ahead run given aside waiting first n) (sym p) is)))
+
+-- where it is shown, if it is, once an event waits, is given, or is put aside
+module _ (limits : Bounds) (run given aside waiting : List Event) where
+  shown_if_waits : (e : Event) (shown : Option ℕ) → IsShownIfAny limits run given aside waiting shown →
+      IsShownIfAny limits (run ++ e ∷ []) given aside (waiting ++ e ∷ []) shown
+  shown_if_waits e None any = tt
+  shown_if_waits e (Some many) is = shown_waits limits run given aside waiting many is e
+
+  shown_if_passes : (x : Event) (rest : List Event) (shown : Option ℕ) → waiting ≡ x ∷ rest →
+      IsSpared aside (lane_of x) → IsShownIfAny limits run given aside waiting shown →
+      IsShownIfAny limits run (given ++ x ∷ []) aside rest shown
+  shown_if_passes x rest None first spared any = tt
+  shown_if_passes x rest (Some many) first spared is =
+      shown_passes limits run given aside waiting many is x rest first spared
+
+  shown_if_aside : (x : Event) (rest : List Event) (shown : Option ℕ) → waiting ≡ x ∷ rest →
+      IsSpared aside (lane_of x) → IsShownIfAny limits run given aside waiting shown →
+      IsShownIfAny limits run given (aside ++ x ∷ []) rest shown
+  shown_if_aside x rest None first spared any = tt
+  shown_if_aside x rest (Some many) first spared is =
+      shown_aside limits run given aside waiting many is x rest first spared
+
+  shown_some : (shown : Option ℕ) → shown ≢ None → IsShownIfAny limits run given aside waiting shown →
+      (many : ℕ) × IsShown limits run given aside waiting many
+  shown_some None some any = absurd (some refl)
+  shown_some (Some many) some is = (many, is)
+
+shown_as : (limits : Bounds) (run given aside aside' waiting waiting' : List Event) (shown shown' : Option ℕ) →
+    aside' ≡ aside → waiting' ≡ waiting → shown' ≡ shown → IsShownIfAny limits run given aside waiting shown →
+    IsShownIfAny limits run given aside' waiting' shown'
+shown_as limits run given aside aside' waiting waiting' shown shown' a w s is =
+    subst (λ (xs : List Event). IsShownIfAny limits run given xs waiting' shown') (sym a)
+    (subst (λ (xs : List Event). IsShownIfAny limits run given aside xs shown') (sym w)
+    (subst (λ (o : Option ℕ). IsShownIfAny limits run given aside waiting o) (sym s) is))
+
+late_as : (limits : Bounds) (run aside aside' waiting waiting' : List Event) (window : ℕ) (shown shown' : Option ℕ) →
+    aside' ≡ aside → waiting' ≡ waiting → shown' ≡ shown → AreLate limits run aside waiting window shown →
+    AreLate limits run aside' waiting' window shown'
+late_as limits run aside aside' waiting waiting' window shown shown' a w s is =
+    subst (λ (xs : List Event). AreLate limits run xs waiting' window shown') (sym a)
+    (subst (λ (xs : List Event). AreLate limits run aside xs window shown') (sym w)
+    (subst (λ (o : Option ℕ). AreLate limits run aside waiting window o) (sym s) is))
+
+module _ (limits : Bounds) (most ahead : ℕ) (run : List Event) (old : Delay) where
+  -- one event more waits
+  pub delayed_waits : (e : Event) → HasBegun limits most ahead run e old → AreOfLock (run ++ e ∷ []) →
+      IsSpared old.aside.items (lane_of e) → (new : Delay) → new.limits ≡ old.limits → new.judge ≡ old.judge →
+      new.ahead ≡ old.ahead → IsCounted new.waiting → new.waiting.events.items ≡ old.waiting.events.items ++ e ∷ [] →
+      new.aside ≡ old.aside → new.passed ≡ old.passed → new.first_late ≡ old.first_late → new.shown ≡ old.shown →
+      IsDelayed limits most ahead (run ++ e ∷ []) new
+  delayed_waits e is whole spared new limits_are judge_is far counted waiting_is aside_is passed_is first_is shown_is =
+      record {
+        whole = whole;
+        limits_are = limits_are ∙ is.limits_are;
+        ahead_is = far ∙ is.ahead_is;
+        counted = counted;
+        given = is.given;
+        judge_of = subst (IsJudge limits most ahead is.given) (sym judge_is) is.judge_of;
+        handed = handed_as (ahead - 64) (run ++ e ∷ []) is.given old.aside.items new.aside.items
+            (old.waiting.events.items ++ e ∷ []) new.waiting.events.items old.first_late new.first_late old.passed
+            new.passed (ap (λ v. v.items) aside_is) waiting_is first_is passed_is
+            (handed_waits (ahead - 64) run is.given old.aside.items old.waiting.events.items old.first_late old.passed
+            is.handed e spared);
+        shown = shown_as limits (run ++ e ∷ []) is.given old.aside.items new.aside.items
+            (old.waiting.events.items ++ e ∷ []) new.waiting.events.items old.shown new.shown
+            (ap (λ v. v.items) aside_is) waiting_is shown_is is.shown;
+        late = late_as limits (run ++ e ∷ []) old.aside.items new.aside.items (old.waiting.events.items ++ e ∷ [])
+            new.waiting.events.items (ahead - 64) old.shown new.shown (ap (λ v. v.items) aside_is) waiting_is shown_is
+            is.late;
+      }
+
+  module _ (is : IsDelayed limits most ahead run old) where
+    -- no call of the lane is aside
+    pub begun_none : (e : Event) → IsSpared old.aside.items (lane_of e) → HasBegun limits most ahead run e old
+    begun_none e spared = record {
+      limits_are = is.limits_are;
+      ahead_is = is.ahead_is;
+      counted = is.counted;
+      given = is.given;
+      judge_of = is.judge_of;
+      handed = is.handed;
+      shown = shown_if_waits limits run is.given old.aside.items old.waiting.events.items e old.shown is.shown;
+      late = late_waits limits run old.aside.items old.waiting.events.items (ahead - 64) old.shown is.late e spared;
+    }
+
+    -- a call begins late, whose end comes in
+    pub late_shown : (place : ℕ) (b e : Event) → IsOfLaneAt old.aside.items (lane_of e) place →
+        b ≡ get_or old.aside.items place b → IsSpared (remove old.aside.items place) (lane_of e) →
+        AreOfLock (run ++ e ∷ []) → (shown : Option ℕ) → (IsSome shown → AreInRange old.limits) →
+        IsShownBy old b e shown → IsShownIfAny limits (run ++ e ∷ []) (is.given ++ b ∷ [])
+        (remove old.aside.items place) (old.waiting.events.items ++ e ∷ []) shown
+    late_shown place b e there read others whole None range by = tt
+    late_shown place b e there read others whole (Some many) range by = subst (λ (n : ℕ). IsShown limits (run ++ e ∷ [])
+        (is.given ++ b ∷ []) (remove old.aside.items place) (old.waiting.events.items ++ e ∷ []) n) (sym long)
+        (shown_late limits run is.given old.aside.items old.waiting.events.items before.0 before.1 place b e there.0 read
+        (subst (IsSpared (remove old.aside.items place)) (sym lane_is) others)
+        (subst (λ (d : Event). IsSpared old.waiting.events.items (lane_of d)) (sym read)
+        (is.handed.asides.spared place b there.0))
+        (subst AreInRange is.limits_are (range refl)) whole.form
+        (subst (λ (l : Bounds). LosesNothing l b e old.waiting.events.items) is.limits_are by.1))
+      where
+        before : (n : ℕ) × IsShown limits run is.given old.aside.items old.waiting.events.items n
+        before = shown_some limits run is.given old.aside.items old.waiting.events.items old.shown by.0 is.shown
+
+        lane_is : lane_of b ≡ lane_of e
+        lane_is = ap lane_of read ∙ there.1 b
+
+        long : many ≡ length run + 1
+        long = let all : old.passed + length old.waiting.events.items ≡ length run = passed_length (ahead - 64) run
+            is.given old.aside.items old.waiting.events.items old.first_late old.passed is.handed in
+            let told : many ≡ old.passed + length old.waiting.events.items + 1 = by.2 in omega (arith, all, told)
+
+    pub late_then : (place : ℕ) (b e : Event) → IsOfLaneAt old.aside.items (lane_of e) place →
+        b ≡ get_or old.aside.items place b → IsSpared (remove old.aside.items place) (lane_of e) →
+        length old.waiting.events.items ≤ old.ahead → (shown : Option ℕ) → IsShownBy old b e shown →
+        AreLate limits (run ++ e ∷ []) (remove old.aside.items place) (old.waiting.events.items ++ e ∷ []) (ahead - 64)
+        shown
+    late_then place b e there read others few shown by = late_begins limits run old.aside.items old.waiting.events.items
+        (ahead - 64) old.shown is.late place b e there.0 read same others shown (ended shown by)
+      where
+        same : lane_of e ≡ lane_of b
+        same = sym (ap lane_of read ∙ there.1 b)
+
+        begun : HasEndedLate (run ++ e ∷ []) (ahead - 64)
+        begun = ended_here limits run old.aside.items old.waiting.events.items (ahead - 64) old.shown is.late place b e
+            there.0 read same others
+
+        as_many : length old.waiting.events.items ≡ ahead - 64
+        as_many = let full : ahead - 64 ≤ length old.waiting.events.items = is.late.full (λ none.
+            let long : length old.aside.items ≡ 0 = ap (λ (xs : List Event). length xs) none in
+            let less : place < length old.aside.items = there.0 in omega (arith, long, less)) in
+            let far : old.ahead ≡ ahead - 64 = is.ahead_is in omega (arith, full, far, few)
+
+        ended : (o : Option ℕ) → IsShownBy old b e o → HasEndedSo limits (run ++ e ∷ []) (ahead - 64) o
+        ended (Some many) told = inr (record {
+          ended = begun;
+          place = let at : many ≡ old.passed + length old.waiting.events.items + 1 = told.2 in
+              let all : old.passed + length old.waiting.events.items ≡ length run = passed_length (ahead - 64) run is.given
+              old.aside.items old.waiting.events.items old.first_late old.passed is.handed in
+              let long : begun.late + length begun.between + 1 ≡ length run = ended_long limits run old.aside.items
+              old.waiting.events.items (ahead - 64) old.shown is.late place b e there.0 read same others in
+              omega (arith, at, all, long);
+        })
+        ended None (inl none) = ended_then limits run old.aside.items old.waiting.events.items (ahead - 64) old.shown
+            is.late e None (subst (HasEndedSo limits run (ahead - 64)) none is.late.ended)
+        ended None (inr unshown) = record {
+          ended = begun;
+          unshown = λ loses. unshown (subst (λ (l : Bounds). LosesNothing l b e old.waiting.events.items)
+              (sym is.limits_are) (subst (LosesNothing limits b e) (last_wait limits run old.aside.items
+              old.waiting.events.items (ahead - 64) old.shown is.late place b e there.0 read same others is.handed.past
+              is.handed.run_is as_many) loses));
+        }
+
+    -- the first event that waits is handed on
+    module _ (x : Event) (rest : List Event) (some : old.waiting.events.items ≡ x ∷ rest) (new : Delay)
+        (limits_are : new.limits ≡ old.limits) (far : new.ahead ≡ old.ahead) (counted : IsCounted new.waiting)
+        (waiting_is : new.waiting.events.items ≡ rest) (passed_is : new.passed ≡ old.passed + 1)
+        (shown_is : new.shown ≡ old.shown) where
+      handed_here : IsHandedOn (ahead - 64) run is.given old.aside.items (x ∷ rest) old.first_late old.passed
+      handed_here = subst (λ (xs : List Event). IsHandedOn (ahead - 64) run is.given old.aside.items xs old.first_late
+          old.passed) some is.handed
+
+      low : lane_of x < 64
+      low = low_lane x (next_of_lock handed_here.past x rest (subst AreOfLock handed_here.run_is is.whole))
+
+      spared : IsSpared old.aside.items (lane_of x)
+      spared = x_spared (ahead - 64) run is.given old.aside.items rest x old.first_late old.passed handed_here
+
+      pub delayed_passes : IsGiven x old.judge new.judge → new.aside ≡ old.aside → new.first_late ≡ old.first_late →
+          (old.aside.items ≢ [] → old.ahead ≤ length rest) → IsDelayed limits most ahead run new
+      delayed_passes given aside_is first_is full = record {
+        whole = is.whole;
+        limits_are = limits_are ∙ is.limits_are;
+        ahead_is = far ∙ is.ahead_is;
+        counted = counted;
+        given = is.given ++ x ∷ [];
+        judge_of = given limits most ahead is.given is.judge_of;
+        handed = handed_as (ahead - 64) run (is.given ++ x ∷ []) old.aside.items new.aside.items rest
+            new.waiting.events.items old.first_late new.first_late (old.passed + 1) new.passed
+            (ap (λ v. v.items) aside_is) waiting_is first_is passed_is
+            (handed_passes (ahead - 64) run is.given old.aside.items rest x old.first_late old.passed handed_here);
+        shown = shown_as limits run (is.given ++ x ∷ []) old.aside.items new.aside.items rest new.waiting.events.items
+            old.shown new.shown (ap (λ v. v.items) aside_is) waiting_is shown_is
+            (shown_if_passes limits run is.given old.aside.items old.waiting.events.items x rest old.shown some spared
+            is.shown);
+        late = late_as limits run old.aside.items new.aside.items rest new.waiting.events.items (ahead - 64) old.shown
+            new.shown (ap (λ v. v.items) aside_is) waiting_is shown_is
+            (late_passes limits run old.aside.items old.waiting.events.items (ahead - 64) old.shown is.late rest
+            (λ aside. let many : old.ahead ≤ length rest = full aside in
+            let same : old.ahead ≡ ahead - 64 = is.ahead_is in omega (arith, many, same)));
+      }
+
+      pub delayed_aside : IsToBeAside x rest → old.ahead ≤ length rest → new.judge ≡ old.judge →
+          new.aside.items ≡ old.aside.items ++ x ∷ [] → new.first_late ≡ first_or old.passed old.first_late →
+          IsDelayed limits most ahead run new
+      delayed_aside to many judge_is aside_is first_is = record {
+        whole = is.whole;
+        limits_are = limits_are ∙ is.limits_are;
+        ahead_is = far ∙ is.ahead_is;
+        counted = counted;
+        given = is.given;
+        judge_of = subst (IsJudge limits most ahead is.given) (sym judge_is) is.judge_of;
+        handed = handed_as (ahead - 64) run is.given (old.aside.items ++ x ∷ []) new.aside.items rest
+            new.waiting.events.items (first_or old.passed old.first_late) new.first_late (old.passed + 1) new.passed
+            aside_is waiting_is first_is passed_is
+            (handed_aside (ahead - 64) run is.given old.aside.items rest x old.first_late old.passed handed_here to
+            (let same : old.ahead ≡ ahead - 64 = is.ahead_is in omega (arith, same, many)) low);
+        shown = shown_as limits run is.given (old.aside.items ++ x ∷ []) new.aside.items rest new.waiting.events.items
+            old.shown new.shown aside_is waiting_is shown_is
+            (shown_if_aside limits run is.given old.aside.items old.waiting.events.items x rest old.shown some spared
+            is.shown);
+        late = late_as limits run (old.aside.items ++ x ∷ []) new.aside.items rest new.waiting.events.items (ahead - 64)
+            old.shown new.shown aside_is waiting_is shown_is
+            (late_aside limits run old.aside.items old.waiting.events.items (ahead - 64) old.shown is.late x rest old.passed
+            there (begins_so x rest to) (spared_so x rest to)
+            (let same : old.ahead ≡ ahead - 64 = is.ahead_is in omega (arith, many, same)));
+      }
+        where
+          there : drop old.passed run ≡ x ∷ rest
+          there = ap (λ (n : ℕ). drop n run) handed_here.passed_is ∙ ap (drop (length handed_here.past))
+              handed_here.run_is ∙ drop-append_seam handed_here.past (x ∷ rest)
+
+-- a judge that has found something stays that of the run, whatever comes
+pub judge_stays_on : (limits : Bounds) (most ahead : ℕ) (run more : List Event) (judge : Judge) (v : Verdict) →
+    judge.found ≡ Some v → IsJudge limits most ahead run judge → IsJudge limits most ahead (run ++ more) judge
+judge_stays_on limits most ahead run [] judge v some is =
+    subst (λ (xs : List Event). IsJudge limits most ahead xs judge) (sym (append-nil run)) is
+judge_stays_on limits most ahead run (e ∷ more) judge v some is =
+    subst (λ (xs : List Event). IsJudge limits most ahead xs judge) (append_assoc run (e ∷ []) more)
+    (judge_stays_on limits most ahead (run ++ e ∷ []) more judge v some
+    (judge_stays limits most ahead run e judge is v some))
+
+found_some : (found : Option Verdict) → (found ≡ None → ⊥) → (v : Verdict) × (found ≡ Some v)
+found_some None some = absurd (some refl)
+found_some (Some v) some = (v, refl)
+
+pub judge_given_rest : (limits : Bounds) (most ahead : ℕ) (run events : List Event) (k : ℕ) (judge : Judge) →
+    (judge.found ≡ None → ⊥) → IsJudge limits most ahead (run ++ take k events) judge →
+    IsJudge limits most ahead (run ++ events) judge
+judge_given_rest limits most ahead run events k judge some is =
+    let found = found_some judge.found some in
+    subst (λ (xs : List Event). IsJudge limits most ahead xs judge)
+    (append_assoc run (take k events) (drop k events) ∙
+    ap (λ (xs : List Event). run ++ xs) (take-append-drop k events))
+    (judge_stays_on limits most ahead (run ++ take k events) (drop k events) judge found.0 found.1 is)
+
+-- a judge that is given one event of several
+module _ (events : List Event) (k : ℕ) (e : Event) (old new : Judge) (less : k < length events)
+    (read : e ≡ get_or events k e) (given : IsGiven e old new) where
+  pub given_one : (limits : Bounds) (most ahead : ℕ) (run : List Event) →
+      IsJudge limits most ahead (run ++ take k events) old →
+      IsJudge limits most ahead (run ++ take (k + 1) events) new
+  given_one limits most ahead run is = subst (λ (xs : List Event). IsJudge limits most ahead xs new)
+      (append_assoc run (take k events) (e ∷ []) ∙
+      ap (λ (xs : List Event). run ++ xs) (sym (take_read events k e less read)))
+      (given limits most ahead (run ++ take k events) is)
+
+  pub room_then : IsJudgeOfSome old → old.found ≡ None → HasRoomFor (length events - k) old →
+      HasRoomFor (length events - (k + 1)) new
+  room_then some none room = record {
+    room = λ none_then.
+        let before : old.course.first + length old.course.events.items ≡ length some.run =
+        judge_long some.limits some.most some.ahead some.run old some.judge_of none in
+        let behind : new.course.first + length new.course.events.items ≡ length (some.run ++ e ∷ []) =
+        judge_long some.limits some.most some.ahead (some.run ++ e ∷ []) new
+        (given some.limits some.most some.ahead some.run some.judge_of) none_then in
+        let long : length (some.run ++ e ∷ []) ≡ length some.run + 1 = length_push some.run e in
+        let less_then : old.course.first + length old.course.events.items + (length events - k) < 2 ^ 64 =
+        room.room none in
+        omega (arith, before, behind, long, less_then, less);
+  }
+
+-- before any event
+pub delayed_first : (limits : Bounds) (most ahead : ℕ) (delay : Delay) → delay.limits ≡ limits →
+    IsJudge limits most ahead [] delay.judge → delay.ahead ≡ ahead - 64 → IsCounted delay.waiting →
+    delay.aside.items ≡ [] → delay.waiting.events.items ≡ [] → delay.first_late ≡ None → delay.passed ≡ 0 →
+    delay.shown ≡ Some 0 → IsDelayed limits most ahead [] delay
+delayed_first limits most ahead delay limits_are judge_of far counted aside_is waiting_is first_is passed_is shown_is =
+    record {
+      whole = form_first.0;
+      limits_are = limits_are;
+      ahead_is = far;
+      counted = counted;
+      given = [];
+      judge_of = judge_of;
+      handed = handed_as (ahead - 64) [] [] [] delay.aside.items [] delay.waiting.events.items None delay.first_late 0
+          delay.passed aside_is waiting_is first_is passed_is (record {
+            past = [];
+            passed_is = refl;
+            run_is = refl;
+            asides = record {
+              begin = All-nil IsBeginning;
+              lanes = All-nil (λ (e : Event). lane_of e < 64);
+              apart = λ i j d less within. absurd (omega (arith, within));
+              spared = All-nil (λ (e : Event). IsSpared [] (lane_of e));
+            };
+            later = λ more. as_it_is;
+            first_is = (refl, refl);
+          });
+      shown = shown_as limits [] [] [] delay.aside.items [] delay.waiting.events.items (Some 0) delay.shown aside_is
+          waiting_is shown_is (shown_first limits);
+      late = late_as limits [] [] delay.aside.items [] delay.waiting.events.items (ahead - 64) (Some 0) delay.shown aside_is
+          waiting_is shown_is (late_first_of limits (ahead - 64));
+    }
+
+-- once one more event waits
+pub ready_then : (old new : Delay) (e : Event) (ready : IsReadyFor e old) →
+    ((limits : Bounds) (most ahead : ℕ) (run : List Event) → IsDelayed limits most ahead run old →
+    AreOfLock (run ++ e ∷ []) → IsDelayed limits most ahead (run ++ e ∷ []) new) → new.judge.found ≡ None →
+    IsReady new
+ready_then old new e for_one goes none = record {
+  limits = for_one.ready.limits;
+  most = for_one.ready.most;
+  ahead = for_one.ready.ahead;
+  run = for_one.ready.run ++ e ∷ [];
+  delayed = goes for_one.ready.limits for_one.ready.most for_one.ready.ahead for_one.ready.run for_one.ready.delayed
+      for_one.whole;
+  going = none;
+}
+
+-- so it stays while events are handed on
+pub ready_still : (old new : Delay) → IsReady old → ((limits : Bounds) (most ahead : ℕ) (run : List Event) →
+    IsDelayed limits most ahead run old → IsDelayed limits most ahead run new) → new.judge.found ≡ None → IsReady new
+ready_still old new ready goes none = record {
+  limits = ready.limits;
+  most = ready.most;
+  ahead = ready.ahead;
+  run = ready.run;
+  delayed = goes ready.limits ready.most ready.ahead ready.run ready.delayed;
+  going = none;
+}

@@ -1,0 +1,173 @@
+-- A judge that puts calls aside which are open for long.
+use Rattle.std.proofs.Common.{◌-◌, ◌≡◌, ◌≢◌, ◌+◌, ◌^◌, ◌<◌, ◌≤◌, ℕ, List, [], ◌∷◌, ◌++◌, length, Option, Some, None}
+use Rattle.std.proofs.Common.{sym, ◌∙◌, ap, subst, arith, append_assoc, append-nil, map}
+use Rattle.std.specs.Prelude.{MatchOption}
+use Rattle.std.specs.List.{All, AllPairs}
+use Rattle.std.proofs.lemmas.List.{length-map, length_push}
+use Rattle.std.proofs.lemmas.List.Elements.{All-map}
+use Rattle.stamp_core.specs.Limits.{Bounds}
+use Rattle.stamp_explain.proofs.Lists.{pairs_map}
+use Rattle.stamp_explain.proofs.Threads.{few_threads}
+use Rattle.stamp_watch.specs.Ahead.{lane_of}
+use Rattle.stamp_watch.specs.declared.delay.Delay.{Delay}
+use Rattle.stamp_watch.specs.declared.event.Event.{Event}
+use Rattle.stamp_watch.specs.declared.late_verdict.LateVerdict.{LateVerdict}
+use Rattle.stamp_watch.specs.declared.late_verdict.LateVerdict.TheVariants as finding
+use Rattle.stamp_watch.specs.declared.late.LateJudge.{LateJudge}
+use Rattle.stamp_watch.specs.Delay.{AreAside, IsDelayed, IsSmallDelay}
+use Rattle.stamp_watch.specs.Judging.{AreBusyLanes}
+use Rattle.stamp_watch.specs.Late.{IsLateVerdict, IsLateFound}
+use Rattle.stamp_watch.specs.LateJudge.{IsLateJudge, IsLateUnderWay}
+use Rattle.stamp_watch.specs.Verdict.{AreOfLock}
+use Rattle.stamp_watch.specs.inner.Delay.{IsLateRest, IsReady, IsReadyFor}
+use Rattle.stamp_watch.specs.inner.Judging.{MayComeIn, SetsBusy}
+use Rattle.stamp_watch.specs.inner.Late.{broken_off_there}
+use Rattle.stamp_watch.proofs.Forming.{busy_lanes_then, form_first, of_lock_on}
+use Rattle.stamp_watch.proofs.HandingOn.{passed_length}
+use Rattle.stamp_watch.proofs.Running.{broken_found, rest_now}
+
+-- each call that is aside is in a lane of its own
+pub few_aside : (aside waiting : List Event) → AreAside aside waiting → length aside ≤ 64
+few_aside aside waiting is =
+    let few : length (map lane_of aside) ≤ 64 = few_threads (map lane_of aside) 64 apart low in
+    let long : length (map lane_of aside) ≡ length aside = length-map aside lane_of in omega (arith, few, long)
+  where
+    apart : AllPairs (λ (a b : ℕ). a ≢ b) (map lane_of aside)
+    apart = pairs_map (λ (d e : Event). lane_of d ≢ lane_of e) (λ (a b : ℕ). a ≢ b) (λ (e : Event). Unit {0}) lane_of
+        aside (λ x y _ _ other. other) (λ k d less. tt) is.apart
+
+    low : All (λ (a : ℕ). a < 64) (map lane_of aside)
+    low = All-map (λ (a : ℕ). a < 64) lane_of aside is.lanes
+
+small_of : (limits : Bounds) (most ahead : ℕ) (run : List Event) (delay : Delay) →
+    IsDelayed limits most ahead run delay → length delay.waiting.events.items ≤ ahead + 1 → IsSmallDelay ahead delay
+small_of limits most ahead run delay is few = record {
+  limits = limits;
+  most = most;
+  given = is.given;
+  judge_of = is.judge_of;
+  waiting = few;
+  aside = few_aside delay.aside.items delay.waiting.events.items is.handed.asides;
+}
+
+-- what is known by what was found
+abbrev IsStateThen : Bounds → ℕ → ℕ → List Event → LateJudge → Option LateVerdict → Type 0
+IsStateThen limits most ahead run judge found = MatchOption found (IsLateUnderWay limits most ahead run judge)
+    (λ (f : LateVerdict). IsLateFound limits run most ahead f)
+
+goes_on : (limits : Bounds) (most ahead : ℕ) (run : List Event) (judge : LateJudge) →
+    IsDelayed limits most ahead run judge.delay → judge.delay.judge.found ≡ None → AreBusyLanes run judge.busy →
+    length judge.delay.waiting.events.items ≤ ahead - 64 → length run < 2 ^ 64 → judge.found ≡ None →
+    IsLateJudge limits most ahead run judge
+goes_on limits most ahead run judge delayed going lanes few room none = record {
+  small = small_of limits most ahead run judge.delay delayed (omega (arith, few));
+  state = subst (λ (o : Option LateVerdict). IsStateThen limits most ahead run judge o) (sym none)
+      (record {
+        delayed = delayed;
+        going = going;
+        lanes = lanes;
+        few = few;
+        room = let long : judge.delay.passed + length judge.delay.waiting.events.items ≡ length run =
+            passed_length (ahead - 64) run delayed.given judge.delay.aside.items judge.delay.waiting.events.items
+            judge.delay.first_late judge.delay.passed delayed.handed in omega (arith, long, room);
+      });
+}
+
+pub has_found : (limits : Bounds) (most ahead : ℕ) (run : List Event) (judge : LateJudge) (f : LateVerdict) →
+    IsSmallDelay ahead judge.delay → judge.found ≡ Some f → IsLateFound limits run most ahead f →
+    IsLateJudge limits most ahead run judge
+has_found limits most ahead run judge f small some found = record {
+  small = small;
+  state = subst (λ (o : Option LateVerdict). IsStateThen limits most ahead run judge o) (sym some) found;
+}
+
+pub late_first : (limits : Bounds) (most ahead : ℕ) (judge : LateJudge) →
+    IsDelayed limits most ahead [] judge.delay → judge.delay.judge.found ≡ None → judge.delay.waiting.events.items ≡ [] →
+    judge.busy ≡ 0 → judge.found ≡ None → IsLateJudge limits most ahead [] judge
+late_first limits most ahead judge delayed going waiting free none = goes_on limits most ahead [] judge delayed going
+    (subst (AreBusyLanes []) (sym free) form_first.1)
+    (let long : length judge.delay.waiting.events.items ≡ 0 = ap (λ (xs : List Event). length xs) waiting in
+    omega (arith, long)) (omega arith) none
+
+-- what is found stays found
+pub found_then : (limits : Bounds) (run : List Event) (most ahead : ℕ) (e : Event) (f : LateVerdict) →
+    IsLateFound limits run most ahead f → IsLateFound limits (run ++ e ∷ []) most ahead f
+found_then limits run most ahead e f found more = subst (λ (xs : List Event). IsLateVerdict limits xs most ahead f)
+    (sym (append_assoc run (e ∷ []) more)) (found (e ∷ more))
+
+pub finding_now : (limits : Bounds) (run : List Event) (most ahead : ℕ) (f : LateVerdict) →
+    IsLateFound limits run most ahead f → IsLateVerdict limits run most ahead f
+finding_now limits run most ahead f found =
+    subst (λ (xs : List Event). IsLateVerdict limits xs most ahead f) (append-nil run) (found [])
+
+pub late_rest_now : (limits : Bounds) (run : List Event) (most ahead : ℕ) (f : LateVerdict) →
+    IsLateRest limits run most ahead f → IsLateVerdict limits run most ahead f
+late_rest_now limits run most ahead (finding.Is v) rest = rest_now limits run most (Some ahead) v rest
+late_rest_now limits run most ahead (finding.Late k) rest = finding_now limits run most ahead (finding.Late k) rest
+
+module _ (limits : Bounds) (most ahead : ℕ) (run : List Event) (judge : LateJudge)
+    (is : IsLateJudge limits most ahead run judge) where
+  pub late_found_of : (f : LateVerdict) → judge.found ≡ Some f → IsLateFound limits run most ahead f
+  late_found_of f some = subst (λ (o : Option LateVerdict). IsStateThen limits most ahead run judge o) some is.state
+
+  pub late_stays : (e : Event) (f : LateVerdict) → judge.found ≡ Some f → IsLateJudge limits most ahead (run ++ e ∷ []) judge
+  late_stays e f some = has_found limits most ahead (run ++ e ∷ []) judge f is.small some
+      (found_then limits run most ahead e f (late_found_of f some))
+
+  module _ (none : judge.found ≡ None) where
+    pub late_way : IsLateUnderWay limits most ahead run judge
+    late_way = subst (λ (o : Option LateVerdict). IsStateThen limits most ahead run judge o) none is.state
+
+    pub run_long : judge.delay.passed + length judge.delay.waiting.events.items ≡ length run
+    run_long = passed_length (ahead - 64) run late_way.delayed.given judge.delay.aside.items
+        judge.delay.waiting.events.items judge.delay.first_late judge.delay.passed late_way.delayed.handed
+
+    pub ready_now : IsReady judge.delay
+    ready_now = record {
+      limits = limits;
+      most = most;
+      ahead = ahead;
+      run = run;
+      delayed = late_way.delayed;
+      going = late_way.going;
+    }
+
+    pub few_wait : length judge.delay.waiting.events.items ≤ judge.delay.ahead
+    few_wait = let few : length judge.delay.waiting.events.items ≤ ahead - 64 = late_way.few in
+        let same : judge.delay.ahead ≡ ahead - 64 = late_way.delayed.ahead_is in omega (arith, few, same)
+
+    module _ (e : Event) (busy : ℕ) (may : MayComeIn judge.busy e) (sets : SetsBusy judge.busy e busy) where
+      pub whole_then : AreOfLock (run ++ e ∷ [])
+      whole_then = of_lock_on run judge.busy e late_way.lanes may late_way.delayed.whole
+
+      pub ready_for : IsReadyFor e judge.delay
+      unfolding ready_now
+      ready_for = record { ready = ready_now; whole = whole_then }
+
+      pub late_goes_on : (new : LateJudge) → IsDelayed limits most ahead (run ++ e ∷ []) new.delay →
+          new.delay.judge.found ≡ None → new.busy ≡ busy → length new.delay.waiting.events.items ≤ judge.delay.ahead →
+          new.found ≡ None → judge.delay.passed + length judge.delay.waiting.events.items + 1 < 2 ^ 64 →
+          IsLateJudge limits most ahead (run ++ e ∷ []) new
+      late_goes_on new delayed going busy_is few unfound room = goes_on limits most ahead (run ++ e ∷ []) new delayed going
+          (subst (AreBusyLanes (run ++ e ∷ [])) (sym busy_is)
+          (busy_lanes_then run judge.busy busy e late_way.lanes sets))
+          (let same : judge.delay.ahead ≡ ahead - 64 = late_way.delayed.ahead_is in omega (arith, few, same))
+          (let long : length (run ++ e ∷ []) ≡ length run + 1 = length_push run e in
+          let all : judge.delay.passed + length judge.delay.waiting.events.items ≡ length run = run_long in
+          omega (arith, long, all, room)) unfound
+
+      pub late_finds : (new : LateJudge) (f : LateVerdict) → IsDelayed limits most ahead (run ++ e ∷ []) new.delay →
+          length new.delay.waiting.events.items ≤ judge.delay.ahead + 1 → new.found ≡ Some f →
+          IsLateFound limits (run ++ e ∷ []) most ahead f → IsLateJudge limits most ahead (run ++ e ∷ []) new
+      late_finds new f delayed few some found = has_found limits most ahead (run ++ e ∷ []) new f
+          (small_of limits most ahead (run ++ e ∷ []) new.delay delayed
+          (let same : judge.delay.ahead ≡ ahead - 64 = late_way.delayed.ahead_is in omega (arith, few, same))) some found
+
+    -- an event that may not come there
+    pub late_broken : (e : Event) (number : ℕ) → number ≡ judge.delay.passed + length judge.delay.waiting.events.items →
+        ¬ MayComeIn judge.busy e → (f : LateVerdict) → IsLateRest limits run most ahead f →
+        IsLateFound limits (run ++ e ∷ []) most ahead (broken_off_there f number)
+    late_broken e number at not_there (finding.Is v) rest = broken_found limits run most (Some ahead) judge.busy number e
+        (at ∙ run_long) late_way.lanes not_there v rest
+    late_broken e number at not_there (finding.Late k) rest =
+        found_then limits run most ahead e (finding.Late k) rest

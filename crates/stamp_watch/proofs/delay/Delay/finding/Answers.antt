@@ -1,0 +1,10 @@
+use Rattle.stamp_watch.proofs.FindingLate.{found_by}
+use Rattle.stamp_watch.proofs.GoingOn.{found_of}
+use Rattle.stamp_watch.proofs.delay.Delay.finding.Goals as goal
+
+pub returns : goal.returns
+returns c limits most ahead run is = found_by limits most ahead run is.given c.args.self.now.aside.items
+    c.args.self.now.waiting.events.items c.args.self.now.first_late c.args.self.now.passed is.whole is.handed
+    c.args.self.now.shown is.shown is.late c.args.verdict
+    (found_of limits most ahead is.given c.args.self.now.judge is.judge_of c.args.verdict c.requires)
+    c.finding_of.result c.finding_of.ensures

@@ -1,0 +1,34 @@
+use Rattle.std.proofs.Common.{[], ◌∷◌, ◌++◌, refl, sym, subst}
+use Rattle.stamp_watch.specs.declared.late_verdict.LateVerdict.{LateVerdict}
+use Rattle.stamp_watch.specs.Late.{IsLateFound}
+use Rattle.stamp_watch.proofs.JudgingLate.{has_found, late_broken, late_way, ready_now}
+use Rattle.stamp_watch.proofs.late.LateJudge.break_off.Goals as goal
+
+pub rest-requires-clause-ready : goal.rest-requires-clause-ready
+rest-requires-clause-ready c = let some = c.requires.some in
+    ready_now some.limits some.most some.ahead some.run c.args.self.now some.judge_of c.requires.none
+
+pub returns-clause-found : goal.returns-clause-found
+returns-clause-found c limits most ahead run is =
+    subst (λ (f : LateVerdict). IsLateFound limits (run ++ c.args.event.now ∷ []) most ahead f)
+    (sym c.broken_off-finding.ensures)
+    (late_broken limits most ahead run c.args.self.now is c.requires.none c.args.event.now c.count-number.result
+    c.count-number.ensures c.requires.not c.in_ok-rest.rest
+    (c.in_ok-rest.ensures.rest limits most ahead run
+    (late_way limits most ahead run c.args.self.now is c.requires.none).delayed))
+
+pub returns-clause-given : goal.returns-clause-given
+returns-clause-given c limits most ahead run is = has_found limits most ahead (run ++ c.args.event.now ∷ []) _
+    c.broken_off-finding.result (c.in_ok-rest.ensures.small ahead is.small) refl
+    (returns-clause-found c limits most ahead run is)
+
+pub returns-clause-known : goal.returns-clause-known
+returns-clause-known c =
+    let some = c.requires.some in
+    record {
+      limits = some.limits;
+      most = some.most;
+      ahead = some.ahead;
+      run = some.run ++ c.args.event.now ∷ [];
+      judge_of = returns-clause-given c some.limits some.most some.ahead some.run some.judge_of;
+    }

@@ -1,0 +1,18 @@
+use Rattle.std.proofs.lemmas.Result.{IfOk-weaker}
+use Rattle.stamp_watch.proofs.JudgingLate.{finding_now, late_found_of, late_rest_now, late_way}
+use Rattle.stamp_watch.proofs.late.LateJudge.finish.Goals as goal
+
+pub returns-in-Some : goal.returns-in-Some
+returns-in-Some c limits most ahead run is = finding_now limits run most ahead c.in-Some.finding
+    (late_found_of limits most ahead run c.args.self.now is c.in-Some.finding c.in-Some.is)
+
+pub returns-in-None : goal.returns-in-None
+returns-in-None c = IfOk-weaker c.rest.result _ _ (λ f rest limits most ahead run is.
+    late_rest_now limits run most ahead f
+    (rest limits most ahead run (late_way limits most ahead run c.args.self.now is c.in-None.is).delayed))
+    c.rest.ensures.rest
+
+pub rest-requires-clause-room : goal.rest-requires-clause-room
+rest-requires-clause-room c =
+    (late_way c.requires.limits c.requires.most c.requires.ahead c.requires.run c.args.self.now c.requires.judge_of
+    c.in-None.is).room

@@ -1,0 +1,12 @@
+use Rattle.std.proofs.Common.{List}
+use Rattle.std.specs.Prelude.{map, take}
+use Rattle.stamp_core.specs.Limits.{Bounds}
+use Rattle.stamp_core.specs.LockDecision.{reply_as}
+use Rattle.stamp_explain.proofs.Choosing.{AreChosen}
+use Rattle.stamp_watch.specs.declared.event.Event.{Event}
+use Rattle.stamp_watch.specs.Possible.{IsPossibleReply, KeepsBase}
+use Rattle.stamp_watch.proofs.online.Judge.possible_among.Given as goal
+
+abbrev pub invariant-loop-k : goal.invariant-loop-k
+invariant-loop-k l = (limits : Bounds) (run : List Event) → KeepsBase limits run l.self →
+    AreChosen (IsPossibleReply limits run l.number) (map reply_as (take l.k l.replies)) l.found.items

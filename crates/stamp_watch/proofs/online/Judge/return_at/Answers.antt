@@ -1,0 +1,42 @@
+use Rattle.std.proofs.Common.{ℕ, ◌≡◌, ◌+◌, ◌-◌, ◌<◌, ◌∙◌, Some, ap, arith, rules, sym}
+use Rattle.std.specs.Prelude.{slice_get}
+use Rattle.stamp_watch.specs.declared.event.Event.TheVariants.{Returns}
+use Rattle.stamp_watch.proofs.TryingReplies.{kept_lane, read_there, some_same}
+use Rattle.stamp_watch.proofs.online.Judge.return_at.Goals as goal
+use Rattle.stamp_watch.proofs.online.Judge.return_at.Goals.{In-Returns, In_default}
+
+there : (c : In-Returns) → slice_get c.args.self.now.course.events.items c.in_ok-place.place ≡
+    Some (Returns c.in-Returns.lane c.in-Returns.field-1)
+there c = read_there c.args.self.now.course.events.items c.as_slice.result.now c.in_ok-place.place
+    c.in_ok-get.field-0.now c.as_slice.ensures.value (sym c.in_ok-get.ensures.lookup.0) c.in_ok-get.ensures.lookup.1 ∙
+    ap Some (sym c.in-Returns.ensures)
+
+number_is : (c : In-Returns) → c.args.number ≡ c.args.self.now.course.first + c.in_ok-place.place
+number_is c = search rules
+
+pub overflow_cast-result : goal.overflow_cast-result
+overflow_cast-result c =
+    let below : c.in-Returns.lane < 64 = kept_lane c.requires.limits c.requires.run c.args.self.now.course
+    c.requires.keeps c.in_ok-place.place c.in-Returns.lane c.in-Returns.field-1 (there c) in
+    omega (arith, below)
+
+pub returns-in-Returns : goal.returns-in-Returns
+returns-in-Returns c = record {
+  number_is = number_is c;
+  seen = search rules;
+  own = c.in-Returns.field-1;
+  there = there c;
+}
+
+-- the event is the one of this place
+here : (c : In_default) → slice_get c.args.self.now.course.events.items c.in_ok-place.place ≡
+    Some c.in_ok-get.field-0.now
+here c = read_there c.args.self.now.course.events.items c.as_slice.result.now c.in_ok-place.place
+    c.in_ok-get.field-0.now c.as_slice.ensures.value (sym c.in_ok-get.ensures.lookup.0) c.in_ok-get.ensures.lookup.1
+
+place_is : (c : In_default) → c.args.number - c.args.self.now.course.first ≡ c.in_ok-place.place
+place_is c = search rules
+
+pub returns-in_default : goal.returns-in_default
+returns-in_default c can = c.in_default.not-Returns can.lane can.own (c.as_event.ensures ∙
+    some_same (sym (here c) ∙ ap (λ (n : ℕ). slice_get c.args.self.now.course.events.items n) (sym (place_is c)) ∙ can.there))

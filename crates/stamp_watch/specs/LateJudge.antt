@@ -1,0 +1,52 @@
+-- What a judge knows that puts calls aside which are open for long.
+use Rattle.std.specs.Prelude.{ℕ, ◌-◌, ◌≡◌, ◌+◌, ◌^◌, ◌<◌, ◌≤◌, ◌++◌, List, [], ◌∷◌, length}
+use Rattle.std.specs.Prelude.{Option, None, MatchOption}
+use Rattle.stamp_core.specs.Limits.{Bounds}
+use Rattle.stamp_watch.specs.declared.event.Event.{Event}
+use Rattle.stamp_watch.specs.declared.late_verdict.LateVerdict.{LateVerdict}
+use Rattle.stamp_watch.specs.declared.late.LateJudge.{LateJudge}
+use Rattle.stamp_watch.specs.Delay.{IsDelayed, IsSmallDelay}
+use Rattle.stamp_watch.specs.Judging.{AreBusyLanes}
+use Rattle.stamp_watch.specs.Late.{IsLateFound}
+use Rattle.stamp_watch.specs.Verdict.{AreOfLock}
+
+-- nothing was found of the run yet
+pub record IsLateUnderWay (limits : Bounds) (most ahead : ℕ) (run : List Event) (judge : LateJudge) : Type 0 where
+  pub delayed : IsDelayed limits most ahead run judge.delay
+  pub going : judge.delay.judge.found ≡ None
+  pub lanes : AreBusyLanes run judge.busy
+  pub few : length judge.delay.waiting.events.items ≤ ahead - 64
+  pub room : judge.delay.passed + length judge.delay.waiting.events.items < 2 ^ 64
+
+-- the judge was given the events of this run so far, what it found holds whatever comes later, and it keeps few events
+pub record IsLateJudge (limits : Bounds) (most ahead : ℕ) (run : List Event) (judge : LateJudge) : Type 0 where
+  pub small : IsSmallDelay ahead judge.delay
+  pub state : MatchOption judge.found (IsLateUnderWay limits most ahead run judge)
+      (λ finding. IsLateFound limits run most ahead finding)
+
+-- so it is of some run
+pub record IsLateJudgeOfSome (judge : LateJudge) : Type 0 where
+  pub limits : Bounds
+  pub most : ℕ
+  pub ahead : ℕ
+  pub run : List Event
+  pub judge_of : IsLateJudge limits most ahead run judge
+
+-- nothing was found yet
+abbrev pub HasFoundNothingLater : LateJudge → Type 0
+HasFoundNothingLater judge = judge.found ≡ None
+
+-- one more event can be numbered
+pub record HasRoomForOneLater (judge : LateJudge) : Type 0 where
+  pub room : judge.delay.passed + length judge.delay.waiting.events.items + 1 < 2 ^ 64
+
+-- what is found once the judge was given one event more; or the run is in form so far
+abbrev pub IsLateFoundThen : Event → LateJudge → Option LateVerdict → Type 0
+IsLateFoundThen e old found = (limits : Bounds) (most ahead : ℕ) (run : List Event) →
+    IsLateJudge limits most ahead run old →
+    MatchOption found (AreOfLock (run ++ e ∷ [])) (λ finding. IsLateFound limits (run ++ e ∷ []) most ahead finding)
+
+-- the judge then
+abbrev pub IsLateGiven : Event → LateJudge → LateJudge → Type 0
+IsLateGiven e old new = (limits : Bounds) (most ahead : ℕ) (run : List Event) →
+    IsLateJudge limits most ahead run old → IsLateJudge limits most ahead (run ++ e ∷ []) new

@@ -1,0 +1,22 @@
+-- How far a run is judged.
+use Rattle.std.specs.Prelude.{ℕ, ◌+◌, ◌≤◌, List, length, take, if◌then◌else◌}
+use Rattle.std.proofs.Common.{zero, suc}
+use Rattle.stamp_core.specs.Limits.{Bounds}
+use Rattle.stamp_watch.specs.declared.event.Event.{Event}
+use Rattle.stamp_watch.specs.Form.{is_busy_after}
+use Rattle.stamp_watch.specs.Run.{AreExplained}
+
+-- so many of the events are explained, and no more come behind them than are looked at for the end of a call
+pub record IsExplainedUpTo (limits : Bounds) (run : List Event) (ahead k : ℕ) : Type 0 where
+  pub within : k ≤ length run
+  pub explained : AreExplained limits (take k run)
+  pub near : length run ≤ k + ahead
+
+-- how many of the first n lanes have an open call after these events
+unfoldable pub open_below : ℕ → List Event → ℕ
+open_below zero events = 0
+open_below (suc n) events = (if is_busy_after events n then 1 else 0) + open_below n events
+
+-- how many calls are open after these events, of which there is one at most in each of 64 lanes
+abbrev pub open_calls : List Event → ℕ
+open_calls events = open_below 64 events

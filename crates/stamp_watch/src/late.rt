@@ -1,0 +1,208 @@
+//! Judging a run with calls that are open for long, while it goes on.
+//!
+//! In front of a judge an event waits if it begins a call that hasn't ended, and so do those behind it. A call that is
+//! open for longer than many events is put aside, and begins later: once its end comes in. What is explained then is
+//! explained as the run stands, since a call that begins later may do less. Nothing is lost by that if a call that began
+//! and returned shortly before issued a stamp of an older version: versions never fall, so the late call took effect
+//! after that one began. So a run with calls that wait for long is judged to its end, and where it is stuck is found.
+ghost use Rattle.std.specs.Prelude.{◌≡◌, ◌+◌, ◌*◌, ◌^◌, ◌<◌, ◌≤◌, ◌↔◌, [], IfOk, None, Some, List, ℕ, false, length};
+ghost use Rattle.stamp_core.specs.Limits.{Bounds};
+ghost use Rattle.stamp_watch.specs.declared.event.Event.{Event};
+ghost use Rattle.stamp_watch.specs.Delay.{kept_of};
+ghost use Rattle.stamp_watch.specs.EndedCall.{ended_from};
+ghost use Rattle.stamp_watch.specs.Late.{IsLateVerdict};
+ghost use Rattle.stamp_watch.specs.SoFar.{IsExplainedUpTo, open_calls};
+ghost use Rattle.stamp_watch.specs.LateJudge.{HasFoundNothingLater, HasRoomForOneLater, IsLateFoundThen, IsLateGiven, IsLateJudge, IsLateJudgeOfSome};
+ghost use Rattle.stamp_watch.specs.inner.Judging.{MayComeIn, SetsBusy};
+ghost use Rattle.stamp_watch.specs.inner.Late.{broken_off_there};
+
+use crate::delay::Delay;
+use crate::ended_call::EndedCall;
+use crate::lanes::busy_with;
+use crate::late_verdict::LateVerdict;
+use crate::so_far::lanes_in;
+use crate::stream_event::StreamEvent;
+use crate::verdict::Verdict;
+use stamp_core::Limits;
+use std::alloc::{AllocError, Global};
+
+/// Judges a run of a lock event by event, from a new lock on. It is as `Judge`, but a call may be open for as long as
+/// it likes: where that is longer than many events, it begins later. What is found is what a `Judge` would find, if it
+/// is shown of each such call that nothing is lost. After an `Err` it is of no more use.
+#[derive(Drop)]
+pub struct LateJudge {
+    pub(crate) delay: Delay,
+    pub(crate) busy: u64,
+    found: Option<LateVerdict>,
+}
+
+/// What is found of a run whose next event, with this number, may not come there.
+fn broken_off(rest: LateVerdict, number: u64) -> LateVerdict
+    ensures { result ≡ broken_off_there rest number }
+{
+    match rest {
+        LateVerdict::Is(Verdict::Explained) => LateVerdict::Is(Verdict::Broken(number)),
+        other => other,
+    }
+}
+
+impl LateJudge {
+    /// The judge of a lock with these limits, before any event. More than `most` configurations before an event are
+    /// too many to go on. A call begins later if it is open for all but 64 of `ahead` events. So `ahead` is more than
+    /// 64, and rather thousands.
+    pub fn new(
+        alloc: Global,
+        limits: Limits,
+        most: u64,
+        ahead: usize,
+    ) -> Result<LateJudge, AllocError>
+        ensures judge { IfOk result (λ judge. IsLateJudge limits most ahead [] judge) }
+        ensures known { IfOk result (λ judge. IsLateJudgeOfSome judge) }
+        ensures none { IfOk result HasFoundNothingLater }
+    {
+        let delay = Delay::new(alloc, limits, most, ahead)?;
+        Ok(LateJudge {
+            delay,
+            busy: 0,
+            found: None,
+        })
+    }
+
+    /// Takes an event that may come there, after which these lanes have an open call.
+    fn take(&mut self, event: &StreamEvent, busy: u64) -> Result<Option<LateVerdict>, AllocError>
+        requires some { IsLateJudgeOfSome self.old }
+        requires room { HasRoomForOneLater self.old }
+        requires none { self.old.found ≡ None }
+        requires may { MayComeIn self.old.busy event.now }
+        requires busy { SetsBusy self.old.busy event.now busy }
+        ensures found { IfOk result (λ found. IsLateFoundThen event.now self.old found) }
+        ensures given { IfOk result (λ _. IsLateGiven event.now self.old self.new) }
+        ensures known { IfOk result (λ _. IsLateJudgeOfSome self.new) }
+        ensures told { IfOk result (λ found. self.new.found ≡ found) }
+    {
+        self.busy = busy;
+        let found = self.delay.push(event)?;
+        let Some(verdict) = found else {
+            return Ok(None);
+        };
+        let finding = self.delay.finding(verdict);
+        self.found = Some(finding);
+        Ok(Some(finding))
+    }
+
+    /// Ends with an event that may not come there.
+    fn break_off(&mut self, event: &StreamEvent) -> Result<Option<LateVerdict>, AllocError>
+        requires some { IsLateJudgeOfSome self.old }
+        requires room { HasRoomForOneLater self.old }
+        requires none { self.old.found ≡ None }
+        requires not { ¬ MayComeIn self.old.busy event.now }
+        ensures found { IfOk result (λ found. IsLateFoundThen event.now self.old found) }
+        ensures given { IfOk result (λ _. IsLateGiven event.now self.old self.new) }
+        ensures known { IfOk result (λ _. IsLateJudgeOfSome self.new) }
+        ensures told { IfOk result (λ found. self.new.found ≡ found) }
+    {
+        let number = self.delay.count();
+        let rest = self.delay.rest()?;
+        let finding = broken_off(rest, number);
+        self.found = Some(finding);
+        Ok(Some(finding))
+    }
+
+    /// Looks at one more event.
+    fn look_at(&mut self, event: &StreamEvent) -> Result<Option<LateVerdict>, AllocError>
+        requires some { IsLateJudgeOfSome self.old }
+        requires room { HasRoomForOneLater self.old }
+        requires none { self.old.found ≡ None }
+        ensures found { IfOk result (λ found. IsLateFoundThen event.now self.old found) }
+        ensures given { IfOk result (λ _. IsLateGiven event.now self.old self.new) }
+        ensures known { IfOk result (λ _. IsLateJudgeOfSome self.new) }
+        ensures told { IfOk result (λ found. self.new.found ≡ found) }
+    {
+        match busy_with(self.busy, event) {
+            Some(busy) => self.take(event, busy),
+            None => self.break_off(event),
+        }
+    }
+
+    /// One more event: what is found of the run, whatever comes later, if anything is.
+    pub fn push(&mut self, event: &StreamEvent) -> Result<Option<LateVerdict>, AllocError>
+        requires some { IsLateJudgeOfSome self.old }
+        requires room { HasRoomForOneLater self.old }
+        ensures found { IfOk result (λ found. IsLateFoundThen event.now self.old found) }
+        ensures given { IfOk result (λ _. IsLateGiven event.now self.old self.new) }
+        ensures known { IfOk result (λ _. IsLateJudgeOfSome self.new) }
+        ensures told { IfOk result (λ found. self.new.found ≡ found) }
+    {
+        match self.found {
+            Some(finding) => Ok(Some(finding)),
+            None => self.look_at(event),
+        }
+    }
+
+    /// How many events it keeps: few, however long the run is.
+    pub fn kept(&self) -> usize
+        requires { IsLateJudgeOfSome self.now }
+        ensures many { kept_of self.now.delay < 2 ^ 64 → result ≡ kept_of self.now.delay }
+        ensures few { (limits : Bounds) (most ahead : ℕ) (run : List Event)
+            → IsLateJudge limits most ahead run self.now → result ≤ 4 * (ahead + 1024) }
+    {
+        self.delay.kept()
+    }
+
+    /// Whether it can't number one more event.
+    pub fn is_full(&self) -> bool
+        ensures { (result ≡ false) ↔ HasRoomForOneLater self.now }
+    {
+        self.delay.is_full()
+    }
+
+    /// How many events it was given, where nothing is found of them.
+    pub fn count(&self) -> u64
+        requires some { IsLateJudgeOfSome self.now }
+        requires none { HasFoundNothingLater self.now }
+        ensures { (limits : Bounds) (most ahead : ℕ) (run : List Event)
+            → IsLateJudge limits most ahead run self.now → result ≡ length run }
+    {
+        self.delay.count()
+    }
+
+    /// So many of the events that it was given are explained, from the first on, where nothing is found of them. Of
+    /// the others there are no more than twice those that it looks at, and 64.
+    pub fn explained(&self) -> u64
+        requires some { IsLateJudgeOfSome self.now }
+        requires none { HasFoundNothingLater self.now }
+        ensures { (limits : Bounds) (most ahead : ℕ) (run : List Event)
+            → IsLateJudge limits most ahead run self.now → IsExplainedUpTo limits run (2 * ahead + 64) result }
+    {
+        self.delay.judge.explained()
+    }
+
+    /// How many calls are open behind the events that it was given, where nothing is found of them.
+    pub fn open_calls(&self) -> u64
+        requires none { HasFoundNothingLater self.now }
+        ensures { (limits : Bounds) (most ahead : ℕ) (run : List Event)
+            → IsLateJudge limits most ahead run self.now → result ≡ open_calls run }
+    {
+        lanes_in(self.busy)
+    }
+
+    /// The call that the event with this number ends, if its beginning is kept and no call before began late.
+    pub fn ended_at(&self, number: u64) -> Option<EndedCall>
+        ensures { result ≡ ended_from self.now.delay.judge.course.first self.now.delay.judge.course.events.items number }
+    {
+        self.delay.judge.ended_at(number)
+    }
+
+    /// What is found of the run if it ends here: a call that has not ended never ends. The judge is of no more use
+    /// then.
+    pub fn finish(&mut self) -> Result<LateVerdict, AllocError>
+        requires { IsLateJudgeOfSome self.old }
+        ensures { IfOk result (λ finding. (limits : Bounds) (most ahead : ℕ) (run : List Event)
+            → IsLateJudge limits most ahead run self.old → IsLateVerdict limits run most ahead finding) }
+    {
+        match self.found {
+            Some(finding) => Ok(finding),
+            None => self.delay.rest(),
+        }
+    }
+}

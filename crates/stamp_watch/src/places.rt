@@ -1,0 +1,29 @@
+//! The lanes of events.
+ghost use Rattle.std.specs.Prelude.{◌≡◌, MatchOption};
+ghost use Rattle.stamp_watch.specs.Ahead.{IsSpared, lane_of};
+ghost use Rattle.stamp_watch.specs.inner.Delay.{IsFirstOfLaneAt};
+
+use crate::event::Event;
+use crate::stream_event::StreamEvent;
+
+pub(crate) fn lane_of(event: &StreamEvent) -> u64
+    ensures { result ≡ lane_of event.now }
+{
+    match event.as_event() {
+        Event::Begins(lane, _) => lane,
+        Event::Returns(lane, _) => lane,
+        Event::Withdraws(lane) => lane,
+    }
+}
+
+/// The place of the first of these events that is of the lane.
+pub(crate) fn place_of(events: &[StreamEvent], lane: u64) -> Option<usize>
+    ensures { MatchOption result (IsSpared events.now lane) (λ place. IsFirstOfLaneAt events.now lane place) }
+{
+    for (place, event) in events.iter().enumerate() {
+        if lane_of(event) == lane {
+            return Some(place);
+        }
+    }
+    None
+}

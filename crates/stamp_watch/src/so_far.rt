@@ -1,0 +1,46 @@
+//! How far a judge has come with a run.
+ghost use Rattle.std.specs.Prelude.{◌≡◌, List, ℕ};
+ghost use Rattle.stamp_core.specs.Limits.{Bounds};
+ghost use Rattle.stamp_watch.specs.declared.event.Event.{Event};
+ghost use Rattle.stamp_watch.specs.Judge.{HasFoundNothing, IsJudge, IsJudgeOfSome};
+ghost use Rattle.stamp_watch.specs.SoFar.{IsExplainedUpTo, open_calls};
+ghost use Rattle.stamp_watch.specs.inner.Lanes.{lanes_in};
+
+use crate::online::Judge;
+use crate::position::{first_lane, without_lane};
+
+/// How many lanes these are.
+pub(crate) fn lanes_in(lanes: u64) -> u64
+    ensures { result ≡ lanes_in lanes }
+{
+    let mut count = 0;
+    let mut rest = lanes;
+    while rest != 0 {
+        let lane = first_lane(rest);
+        rest = without_lane(rest, lane);
+        count += 1;
+    }
+    count
+}
+
+impl Judge {
+    /// So many of the events that it was given are explained, from the first on, where nothing is found of them. Of
+    /// the others there are no more than it may look ahead.
+    pub fn explained(&self) -> u64
+        requires some { IsJudgeOfSome self.now }
+        requires none { HasFoundNothing self.now }
+        ensures { (limits : Bounds) (most ahead : ℕ) (run : List Event)
+            → IsJudge limits most ahead run self.now → IsExplainedUpTo limits run ahead result }
+    {
+        self.course.first + self.course.seen as u64
+    }
+
+    /// How many calls are open behind the events that it was given, where nothing is found of them.
+    pub fn open_calls(&self) -> u64
+        requires none { HasFoundNothing self.now }
+        ensures { (limits : Bounds) (most ahead : ℕ) (run : List Event)
+            → IsJudge limits most ahead run self.now → result ≡ open_calls run }
+    {
+        lanes_in(self.busy)
+    }
+}
