@@ -5,7 +5,7 @@
 Run at the top of the repository; it wants cc, and takes javac where there is one. COUNT histories (400 if not said) are
 compared: small ones of tests/explain/brute_force.py, half of them changed; runs of tests/explain/runs.py, and of locks
 in C and in Java, with a reply, a stamp or the order changed, or with a call that never ends. With `--most` few may
-be undecided, at no later event. The four differences of the JDK's class are stuck. A history that can't have been
+be undecided, at no later event; and so it is with a small `--ahead`, so that many calls begin late. The four differences of the JDK's class are stuck. A history that can't have been
 observed has no stream."""
 import collections
 import concurrent.futures
@@ -27,7 +27,8 @@ import jdk  # noqa: E402 (a file of tests/explain)
 import runs  # noqa: E402 (a file of tests/explain)
 import stream_to_history  # noqa: E402 (a file of recorders)
 
-MOST, MOST_EXPLAINED = 1000, 20_000
+MOST, MOST_EXPLAINED, AHEAD = 1000, 20_000, (0, 70, 90)
+LATE = collections.Counter()
 LIMITS = [(1, 1), (2, 3), (127, 1000)]
 OTHER = {YES: NO, NO: YES, DONE: MISMATCH, MISMATCH: DONE}
 LOADS = ("mixed", "read", "write", "convert", "waits", "stampless")
@@ -72,8 +73,18 @@ def is_undecided(found, right):
     return other == "undecided" and (word != "stuck" or end <= number)
 
 
+def compare_late(watch, name, stream, right):
+    """Many calls begin late: what is told is right all the same, if anything is."""
+    for ahead in AHEAD if not right.startswith("bad ") else ():
+        line, _ = told([watch, "--most", str(MOST), "--ahead", str(ahead)], stream)
+        if line != right and not is_undecided(line, right):
+            fail(name, f"with --ahead {ahead} {line} and not {right}")
+        LATE.update(["late, undecided" if line != right else "late, alike"])
+
+
 def compare(watch, explain, name, history, stream):
     found, right = told([watch, "--most", str(MOST)], stream), wanted(explain, history)
+    compare_late(watch, name, stream, right[0])
     if found != right and is_undecided(found[0], right[0]):
         return "undecided"
     if found != right:
@@ -221,6 +232,7 @@ def main():
                 kinds.update(made if isinstance(made, list) else [made])
             print(f"beside: {name}: " + ", ".join(f"{many} {kind}" for kind, many in sorted(kinds.items())), flush=True)
             found += kinds
+    print("beside: " + ", ".join(f"{many} {kind}" for kind, many in sorted(LATE.items())), flush=True)
     if found["undecided"] > count // 10:
         fail("beside", f"{found['undecided']} of {found.total()} are undecided")
     print(f"beside: {found.total()} histories judged alike, and {len(jdk.DIFFERENCES)} differences of the JDK's class")

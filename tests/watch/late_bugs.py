@@ -4,9 +4,10 @@
 
 Run at the top of the repository; it wants cc. tests/explain/planted.c writes streams of 4 threads and CALLS calls
 (400,000 if not said). Those of the right lock must be explained. Each bug shows once nine tenths of the calls are made,
-and must be found behind the first wrong event; a run in which it doesn't show is made anew. The entry is that of
-`stamped_explain`, too, which judges the end of the run: from the last moment before at which no call was open and no
-mode held, with as many versions less."""
+and must be found behind the first wrong event. The entry is that of `stamped_explain`, too, which judges the end of the
+run: from the last moment before at which no call was open and no mode held, with as many versions less. A run in which
+the bug doesn't show, or of which one of the programs gives up, is made anew: where threads are held up for long, the
+end is long, and a search of it may be."""
 import os
 import subprocess
 import sys
@@ -16,7 +17,7 @@ import stream_ends
 from streams import EVENT, HEADER, fail, history_of, verdict
 
 BUGS = ("upgrade", "version", "validate")
-RUNS, BEHIND = 5, 400
+RUNS, BEHIND = 30, 400
 
 
 def streamed(room, planted, bug, calls, seed):
@@ -46,15 +47,12 @@ def try_right(watch, room, planted, calls, seed):
     return many
 
 
-def try_bug(watch, explain, room, planted, bug, calls, seed):
-    for number in range(RUNS):
-        path, wrong = streamed(room, planted, bug, calls, seed + 100 * number)
-        found = judged(watch, path)
-        if wrong:
-            break
-        if not found.startswith("ok "):
-            fail(bug, found, "it hasn't shown")
+def found_by_both(watch, explain, bug, path, wrong):
+    """The event at which the stream is stuck, by both programs; None where one of them gives up, or it is explained."""
+    found = judged(watch, path)
     word, _, number = found.partition(" ")
+    if word in ("ok", "undecided"):
+        return None
     if not wrong or word != "stuck" or int(number) < wrong:
         fail(bug, found, f"the first wrong event is {wrong} or later")
     with open(path, "rb") as file:
@@ -64,9 +62,20 @@ def try_bug(watch, explain, room, planted, bug, calls, seed):
     position = int(number) - place + stream_ends.BEFORE
     entry = next((i for i, entry in enumerate(end["entries"]) if entry.get("last") == position), None)
     told = verdict(explain, end)
+    if told.startswith(("undecided ", "no answer ")):
+        return None
     if told != f"stuck {entry}":
         fail(bug, found, f"as {len(end['entries'])} calls {told} and not stuck {entry}")
-    return f"{bug} is stuck at event {number}, {int(number) - wrong} behind the first that may be wrong"
+    return int(number)
+
+
+def try_bug(watch, explain, room, planted, bug, calls, seed):
+    for number in range(RUNS):
+        path, wrong = streamed(room, planted, bug, calls, seed + 100 * number)
+        event = found_by_both(watch, explain, bug, path, wrong)
+        if event is not None:
+            return f"{bug} is stuck at event {event}, {event - wrong} behind the first that may be wrong"
+    fail(bug, f"{RUNS} runs", "it isn't found in any")
 
 
 def main():

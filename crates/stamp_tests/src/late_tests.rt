@@ -184,3 +184,20 @@ fn a_judge_of_late_calls_tells_how_far_it_is(rt: HostRuntime) -> Result<(), Fail
     assert!(rt; judge.open_calls() == 1);
     Ok(())
 }
+
+#[test]
+fn possible_replies_are_told_of_calls_that_begin_in_time(rt: HostRuntime) -> Result<(), Fail> {
+    let held = [
+        Event::Begins(1, Call::IsWriteLocked),
+        Event::Returns(1, Reply::Yes),
+    ];
+    let mut judge = LateJudge::new(rt.alloc(), limits(127, 1000)?, 100, 68)?;
+    pushed(&mut judge, &held)?;
+    let Some(told) = judge.possible_at(1, &Call::IsWriteLocked)? else {
+        return Err(Fail::from("not told"));
+    };
+    assert!(rt; told.as_slice() == [Reply::No].as_slice());
+    pushed(&mut judge, &WAITS_ON)?;
+    assert!(rt; judge.possible_at(4, &Call::IsWriteLocked)?.is_none());
+    Ok(())
+}

@@ -18,6 +18,7 @@ use Rattle.stamp_watch.specs.Delay.{IsBeginning, IsDelayed, IsHandedOn, IsShown}
 use Rattle.stamp_watch.specs.Delay.{AreLate, HasEndedLate, HasEndedSo, IsShownIfAny}
 use Rattle.stamp_watch.specs.Judge.{HasRoomForOne, IsGiven, IsJudge, IsJudgeOfSome}
 use Rattle.stamp_watch.specs.Late.BeginsLater.{as_it_is}
+use Rattle.stamp_watch.specs.Possible.{KeepsBase, KeepsOn}
 use Rattle.stamp_watch.specs.Verdict.{AreOfLock, IsOfLock}
 use Rattle.stamp_watch.specs.Waiting.{IsCounted}
 use Rattle.stamp_watch.specs.inner.Delay.{HasBegun, HasRoomFor, IsOfLaneAt, IsReady, IsReadyFor, IsShownBy, IsToBeAside}
@@ -141,6 +142,7 @@ module _ (limits : Bounds) (most ahead : ℕ) (run : List Event) (old : Delay) w
         counted = counted;
         given = is.given;
         judge_of = subst (IsJudge limits most ahead is.given) (sym judge_is) is.judge_of;
+        keeps = subst (KeepsBase limits is.given) (sym judge_is) is.keeps;
         handed = handed_as (ahead - 64) (run ++ e ∷ []) is.given old.aside.items new.aside.items
             (old.waiting.events.items ++ e ∷ []) new.waiting.events.items old.first_late new.first_late old.passed
             new.passed (ap (λ v. v.items) aside_is) waiting_is first_is passed_is
@@ -163,6 +165,7 @@ module _ (limits : Bounds) (most ahead : ℕ) (run : List Event) (old : Delay) w
       counted = is.counted;
       given = is.given;
       judge_of = is.judge_of;
+      keeps = is.keeps;
       handed = is.handed;
       shown = shown_if_waits limits run is.given old.aside.items old.waiting.events.items e old.shown is.shown;
       late = late_waits limits run old.aside.items old.waiting.events.items (ahead - 64) old.shown is.late e spared;
@@ -251,15 +254,16 @@ module _ (limits : Bounds) (most ahead : ℕ) (run : List Event) (old : Delay) w
       spared : IsSpared old.aside.items (lane_of x)
       spared = x_spared (ahead - 64) run is.given old.aside.items rest x old.first_late old.passed handed_here
 
-      pub delayed_passes : IsGiven x old.judge new.judge → new.aside ≡ old.aside → new.first_late ≡ old.first_late →
+      pub delayed_passes : IsGiven x old.judge new.judge → KeepsOn x old.judge new.judge → new.aside ≡ old.aside → new.first_late ≡ old.first_late →
           (old.aside.items ≢ [] → old.ahead ≤ length rest) → IsDelayed limits most ahead run new
-      delayed_passes given aside_is first_is full = record {
+      delayed_passes given kept aside_is first_is full = record {
         whole = is.whole;
         limits_are = limits_are ∙ is.limits_are;
         ahead_is = far ∙ is.ahead_is;
         counted = counted;
         given = is.given ++ x ∷ [];
         judge_of = given limits most ahead is.given is.judge_of;
+        keeps = kept limits most ahead is.given is.judge_of is.keeps;
         handed = handed_as (ahead - 64) run (is.given ++ x ∷ []) old.aside.items new.aside.items rest
             new.waiting.events.items old.first_late new.first_late (old.passed + 1) new.passed
             (ap (λ v. v.items) aside_is) waiting_is first_is passed_is
@@ -285,6 +289,7 @@ module _ (limits : Bounds) (most ahead : ℕ) (run : List Event) (old : Delay) w
         counted = counted;
         given = is.given;
         judge_of = subst (IsJudge limits most ahead is.given) (sym judge_is) is.judge_of;
+        keeps = subst (KeepsBase limits is.given) (sym judge_is) is.keeps;
         handed = handed_as (ahead - 64) run is.given (old.aside.items ++ x ∷ []) new.aside.items rest
             new.waiting.events.items (first_or old.passed old.first_late) new.first_late (old.passed + 1) new.passed
             aside_is waiting_is first_is passed_is
@@ -340,6 +345,14 @@ module _ (events : List Event) (k : ℕ) (e : Event) (old new : Judge) (less : k
       ap (λ (xs : List Event). run ++ xs) (sym (take_read events k e less read)))
       (given limits most ahead (run ++ take k events) is)
 
+  pub kept_one : KeepsOn e old new → (limits : Bounds) (most ahead : ℕ) (run : List Event) →
+      IsJudge limits most ahead (run ++ take k events) old → KeepsBase limits (run ++ take k events) old →
+      KeepsBase limits (run ++ take (k + 1) events) new
+  kept_one kept limits most ahead run is keeps = subst (λ (xs : List Event). KeepsBase limits xs new)
+      (append_assoc run (take k events) (e ∷ []) ∙
+      ap (λ (xs : List Event). run ++ xs) (sym (take_read events k e less read)))
+      (kept limits most ahead (run ++ take k events) is keeps)
+
   pub room_then : IsJudgeOfSome old → old.found ≡ None → HasRoomFor (length events - k) old →
       HasRoomFor (length events - (k + 1)) new
   room_then some none room = record {
@@ -357,10 +370,10 @@ module _ (events : List Event) (k : ℕ) (e : Event) (old new : Judge) (less : k
 
 -- before any event
 pub delayed_first : (limits : Bounds) (most ahead : ℕ) (delay : Delay) → delay.limits ≡ limits →
-    IsJudge limits most ahead [] delay.judge → delay.ahead ≡ ahead - 64 → IsCounted delay.waiting →
+    IsJudge limits most ahead [] delay.judge → KeepsBase limits [] delay.judge → delay.ahead ≡ ahead - 64 → IsCounted delay.waiting →
     delay.aside.items ≡ [] → delay.waiting.events.items ≡ [] → delay.first_late ≡ None → delay.passed ≡ 0 →
     delay.shown ≡ Some 0 → IsDelayed limits most ahead [] delay
-delayed_first limits most ahead delay limits_are judge_of far counted aside_is waiting_is first_is passed_is shown_is =
+delayed_first limits most ahead delay limits_are judge_of keeps far counted aside_is waiting_is first_is passed_is shown_is =
     record {
       whole = form_first.0;
       limits_are = limits_are;
@@ -368,6 +381,7 @@ delayed_first limits most ahead delay limits_are judge_of far counted aside_is w
       counted = counted;
       given = [];
       judge_of = judge_of;
+      keeps = keeps;
       handed = handed_as (ahead - 64) [] [] [] delay.aside.items [] delay.waiting.events.items None delay.first_late 0
           delay.passed aside_is waiting_is first_is passed_is (record {
             past = [];

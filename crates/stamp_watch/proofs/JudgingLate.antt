@@ -18,12 +18,14 @@ use Rattle.stamp_watch.specs.Delay.{AreAside, IsDelayed, IsSmallDelay}
 use Rattle.stamp_watch.specs.Judging.{AreBusyLanes}
 use Rattle.stamp_watch.specs.Late.{IsLateVerdict, IsLateFound}
 use Rattle.stamp_watch.specs.LateJudge.{IsLateJudge, IsLateUnderWay}
+use Rattle.stamp_watch.specs.PossibleLate.{KeepsLater}
 use Rattle.stamp_watch.specs.Verdict.{AreOfLock}
 use Rattle.stamp_watch.specs.inner.Delay.{IsLateRest, IsReady, IsReadyFor}
 use Rattle.stamp_watch.specs.inner.Judging.{MayComeIn, SetsBusy}
 use Rattle.stamp_watch.specs.inner.Late.{broken_off_there}
 use Rattle.stamp_watch.proofs.Forming.{busy_lanes_then, form_first, of_lock_on}
 use Rattle.stamp_watch.proofs.HandingOn.{passed_length}
+use Rattle.stamp_watch.proofs.PossibleLate.{keeps_beside, keeps_of}
 use Rattle.stamp_watch.proofs.Running.{broken_found, rest_now}
 
 -- each call that is aside is in a lane of its own
@@ -61,6 +63,7 @@ goes_on : (limits : Bounds) (most ahead : ℕ) (run : List Event) (judge : LateJ
     IsLateJudge limits most ahead run judge
 goes_on limits most ahead run judge delayed going lanes few room none = record {
   small = small_of limits most ahead run judge.delay delayed (omega (arith, few));
+  keeps = keeps_of limits most ahead run judge.delay delayed;
   state = subst (λ (o : Option LateVerdict). IsStateThen limits most ahead run judge o) (sym none)
       (record {
         delayed = delayed;
@@ -74,10 +77,11 @@ goes_on limits most ahead run judge delayed going lanes few room none = record {
 }
 
 pub has_found : (limits : Bounds) (most ahead : ℕ) (run : List Event) (judge : LateJudge) (f : LateVerdict) →
-    IsSmallDelay ahead judge.delay → judge.found ≡ Some f → IsLateFound limits run most ahead f →
-    IsLateJudge limits most ahead run judge
-has_found limits most ahead run judge f small some found = record {
+    IsSmallDelay ahead judge.delay → KeepsLater limits run judge → judge.found ≡ Some f →
+    IsLateFound limits run most ahead f → IsLateJudge limits most ahead run judge
+has_found limits most ahead run judge f small keeps some found = record {
   small = small;
+  keeps = keeps;
   state = subst (λ (o : Option LateVerdict). IsStateThen limits most ahead run judge o) (sym some) found;
 }
 
@@ -111,7 +115,8 @@ module _ (limits : Bounds) (most ahead : ℕ) (run : List Event) (judge : LateJu
   late_found_of f some = subst (λ (o : Option LateVerdict). IsStateThen limits most ahead run judge o) some is.state
 
   pub late_stays : (e : Event) (f : LateVerdict) → judge.found ≡ Some f → IsLateJudge limits most ahead (run ++ e ∷ []) judge
-  late_stays e f some = has_found limits most ahead (run ++ e ∷ []) judge f is.small some
+  late_stays e f some = has_found limits most ahead (run ++ e ∷ []) judge f is.small
+      (keeps_beside limits run judge.delay e is.keeps) some
       (found_then limits run most ahead e f (late_found_of f some))
 
   module _ (none : judge.found ≡ None) where
@@ -161,7 +166,8 @@ module _ (limits : Bounds) (most ahead : ℕ) (run : List Event) (judge : LateJu
           IsLateFound limits (run ++ e ∷ []) most ahead f → IsLateJudge limits most ahead (run ++ e ∷ []) new
       late_finds new f delayed few some found = has_found limits most ahead (run ++ e ∷ []) new f
           (small_of limits most ahead (run ++ e ∷ []) new.delay delayed
-          (let same : judge.delay.ahead ≡ ahead - 64 = late_way.delayed.ahead_is in omega (arith, few, same))) some found
+          (let same : judge.delay.ahead ≡ ahead - 64 = late_way.delayed.ahead_is in omega (arith, few, same)))
+          (keeps_of limits most ahead (run ++ e ∷ []) new.delay delayed) some found
 
     -- an event that may not come there
     pub late_broken : (e : Event) (number : ℕ) → number ≡ judge.delay.passed + length judge.delay.waiting.events.items →

@@ -1,7 +1,8 @@
 -- What is kept of a run.
 use Rattle.std.proofs.Common.{ℕ, ◌≡◌, ◌+◌, ◌^◌, ◌<◌, ◌≤◌, List, [], ◌∷◌, ◌++◌, length, sym, ◌∙◌, ap, subst}
 use Rattle.std.proofs.Common.{append-nil, append_assoc, Result, Ok, Err}
-use Rattle.std.specs.Prelude.{take, Vec, IfOk}
+use Rattle.std.specs.Prelude.{take, drop, Vec, IfOk}
+use Rattle.std.proofs.lemmas.List.{take-append-drop}
 use Rattle.std.specs.declared.alloc.Global.{Global}
 use Rattle.stamp_core.specs.Limits.{Bounds}
 use Rattle.stamp_watch.specs.declared.course.Course.{Course}
@@ -9,7 +10,8 @@ use Rattle.stamp_watch.specs.declared.event.Event.{Event}
 use Rattle.stamp_watch.specs.declared.watch.Watch.{Watch}
 use Rattle.stamp_watch.specs.Course.{HasRoom, IsCourse, IsStanding}
 use Rattle.stamp_watch.specs.Verdict.{AreOfLock}
-use Rattle.stamp_watch.specs.Possible.{IsKept}
+use Rattle.stamp_watch.specs.declared.online.Judge.{Judge}
+use Rattle.stamp_watch.specs.Possible.{IsKept, KeepsBase}
 
 -- what a course has
 pub kept_of : (limits : Bounds) (run : List Event) (course : Course) → IsCourse limits run course →
@@ -66,6 +68,21 @@ kept_beside limits run course e is = record {
   from_base = is.from_base;
   room = is.room;
 }
+
+-- so it is with several
+pub kept_beside_all : (limits : Bounds) (run more : List Event) (course : Course) → IsKept limits run course →
+    IsKept limits (run ++ more) course
+kept_beside_all limits run [] course is = subst (λ (xs : List Event). IsKept limits xs course) (sym (append-nil run)) is
+kept_beside_all limits run (e ∷ more) course is = subst (λ (xs : List Event). IsKept limits xs course)
+    (append_assoc run (e ∷ []) more)
+    (kept_beside_all limits (run ++ e ∷ []) more course (kept_beside limits run course e is))
+
+pub kept_rest : (limits : Bounds) (run events : List Event) (k : ℕ) (judge : Judge) →
+    KeepsBase limits (run ++ take k events) judge → KeepsBase limits (run ++ events) judge
+kept_rest limits run events k judge is = subst (λ (xs : List Event). KeepsBase limits xs judge)
+    (append_assoc run (take k events) (drop k events) ∙
+    ap (λ (xs : List Event). run ++ xs) (take-append-drop k events))
+    (kept_beside_all limits (run ++ take k events) (drop k events) judge.course is)
 
 -- what follows from two facts of one answer
 pub IfOk-both : {X E : Type 0} (r : Result X E) (P Q R : X → Type 0) → ((x : X) → P x → Q x → R x) → IfOk r P →

@@ -10,6 +10,7 @@ use Rattle.stamp_watch.specs.declared.event.Event.TheVariants.{Begins, Returns, 
 use Rattle.stamp_watch.specs.Judge.{IsJudge}
 use Rattle.stamp_watch.specs.Issued.{LosesNothing}
 use Rattle.stamp_watch.specs.Late.{BeginsLater, EndsBehind, last_of}
+use Rattle.stamp_watch.specs.Possible.{KeepsBase}
 use Rattle.stamp_watch.specs.Run.{AreExplained}
 use Rattle.stamp_watch.specs.Verdict.{AreOfLock, IsOpenFor}
 use Rattle.stamp_watch.specs.Waiting.{IsCounted}
@@ -124,6 +125,7 @@ pub record IsDelayed (limits : Bounds) (most ahead : ℕ) (run : List Event) (de
   pub counted : IsCounted delay.waiting
   pub given : List Event
   pub judge_of : IsJudge limits most ahead given delay.judge
+  pub keeps : KeepsBase limits given delay.judge
   pub handed : IsHandedOn (ahead - 64) run given delay.aside.items delay.waiting.events.items delay.first_late
       delay.passed
   pub shown : IsShownIfAny limits run given delay.aside.items delay.waiting.events.items delay.shown

@@ -8,6 +8,7 @@ use Rattle.stamp_watch.specs.declared.late.LateJudge.{LateJudge}
 use Rattle.stamp_watch.specs.Delay.{IsDelayed, IsSmallDelay}
 use Rattle.stamp_watch.specs.Judging.{AreBusyLanes}
 use Rattle.stamp_watch.specs.Late.{IsLateFound}
+use Rattle.stamp_watch.specs.PossibleLate.{KeepsLater}
 use Rattle.stamp_watch.specs.Verdict.{AreOfLock}
 
 -- nothing was found of the run yet
@@ -18,9 +19,11 @@ pub record IsLateUnderWay (limits : Bounds) (most ahead : ℕ) (run : List Event
   pub few : length judge.delay.waiting.events.items ≤ ahead - 64
   pub room : judge.delay.passed + length judge.delay.waiting.events.items < 2 ^ 64
 
--- the judge was given the events of this run so far, what it found holds whatever comes later, and it keeps few events
+-- the judge was given the events of this run so far, what it found holds whatever comes later, and it keeps few events,
+-- by which it can judge again
 pub record IsLateJudge (limits : Bounds) (most ahead : ℕ) (run : List Event) (judge : LateJudge) : Type 0 where
   pub small : IsSmallDelay ahead judge.delay
+  pub keeps : KeepsLater limits run judge
   pub state : MatchOption judge.found (IsLateUnderWay limits most ahead run judge)
       (λ finding. IsLateFound limits run most ahead finding)
 

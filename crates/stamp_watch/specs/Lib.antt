@@ -10,6 +10,7 @@ pub mod Course
 pub mod Judge
 pub mod SoFar
 pub mod Possible
+pub mod PossibleLate
 pub mod Run
 pub mod Ahead
 pub mod Form

@@ -4,7 +4,7 @@
 //! is put aside: it begins when its end comes in, before the events that wait then. As long as a call is aside, that
 //! many events wait, so that its end finds some of calls that returned older stamps. If it finds one, nothing is lost
 //! by the call's late beginning.
-ghost use Rattle.std.specs.Prelude.{◌≡◌, ◌+◌, ◌*◌, ◌↔◌, false, true, ◌^◌, ◌<◌, ◌≤◌, ◌++◌, ◌∷◌, ℕ, List, [], IfOk, IsSome, IsTrue, Some, None, length};
+ghost use Rattle.std.specs.Prelude.{◌≡◌, ◌+◌, ◌*◌, ◌↔◌, false, true, ◌^◌, ◌<◌, ◌≤◌, ◌++◌, ◌∷◌, ℕ, List, [], IfOk, IsSome, IsTrue, MatchOption, Some, None, ⊤, length};
 ghost use Rattle.stamp_core.specs.Limits.{AreInRange, Bounds};
 ghost use Rattle.stamp_watch.specs.Issued.{LosesNothing};
 ghost use Rattle.stamp_watch.specs.Ahead.{IsSpared, lane_of};
@@ -12,6 +12,8 @@ ghost use Rattle.stamp_watch.specs.declared.event.Event.{Event};
 ghost use Rattle.stamp_watch.specs.Delay.{IsDelayed, IsSmallDelay, kept_of};
 ghost use Rattle.stamp_watch.specs.Judge.{IsJudge, IsJudgeOfSome};
 ghost use Rattle.stamp_watch.specs.Late.{IsLateFound};
+ghost use Rattle.stamp_watch.specs.Possible.{KeepsBase};
+ghost use Rattle.stamp_watch.specs.PossibleLate.{KeepsDelayed};
 ghost use Rattle.stamp_watch.specs.Verdict.{AreOfLock};
 ghost use Rattle.stamp_watch.specs.inner.Delay.{HasBegun, HasHandedOn, HasRoomFor, IsFindingBy, IsFindingOf, IsLateRest, IsOfLaneAt, IsReady, IsReadyFor, IsSettled, IsShownBy, IsWaitingOn, found_by};
 
@@ -64,6 +66,9 @@ fn give(judge: &mut Judge, events: &[StreamEvent]) -> Result<(), AllocError>
     requires room { HasRoomFor (length events.now) judge.old }
     ensures given { IfOk result (λ _. (limits : Bounds) (most ahead : ℕ) (run : List Event)
         → IsJudge limits most ahead run judge.old → IsJudge limits most ahead (run ++ events.now) judge.new) }
+    ensures kept { IfOk result (λ _. (limits : Bounds) (most ahead : ℕ) (run : List Event)
+        → IsJudge limits most ahead run judge.old → KeepsBase limits run judge.old
+        → KeepsBase limits (run ++ events.now) judge.new) }
     ensures known { IfOk result (λ _. IsJudgeOfSome judge.new) }
 {
     for event in events {
@@ -115,6 +120,17 @@ impl Delay {
         ensures { (result ≡ false) ↔ (self.now.passed + length self.now.waiting.events.items + 1 < 2 ^ 64) }
     {
         u64::MAX - self.passed <= self.waiting.len() as u64
+    }
+
+    /// Whether a call was put aside that begins at this event or before it.
+    pub(crate) fn is_late_by(&self, number: u64) -> bool
+        ensures before { result ≡ false → MatchOption self.now.first_late ⊤ (λ first. number < first) }
+        ensures late { IsTrue result → ¬ MatchOption self.now.first_late ⊤ (λ first. number < first) }
+    {
+        match self.first_late {
+            Some(first) => first <= number,
+            None => false,
+        }
     }
 
     /// How many events it keeps.
@@ -341,6 +357,9 @@ impl Delay {
         ensures given { IfOk result (λ _. (limits : Bounds) (most ahead : ℕ) (run : List Event)
             → IsJudge limits most ahead run self.old.judge
             → IsJudge limits most ahead (run ++ (self.old.aside.items ++ self.old.waiting.events.items)) self.new.judge) }
+        ensures kept { IfOk result (λ _. (limits : Bounds) (most ahead : ℕ) (run : List Event)
+            → IsJudge limits most ahead run self.old.judge → KeepsBase limits run self.old.judge
+            → KeepsBase limits (run ++ (self.old.aside.items ++ self.old.waiting.events.items)) self.new.judge) }
         ensures known { IfOk result (λ _. IsJudgeOfSome self.new.judge) }
         ensures same { IfOk result (λ _. (self.new.aside ≡ self.old.aside) × (self.new.waiting ≡ self.old.waiting)
             × (self.new.first_late ≡ self.old.first_late) × (self.new.shown ≡ self.old.shown)) }
@@ -358,6 +377,8 @@ impl Delay {
         ensures rest { IfOk result (λ finding. (limits : Bounds) (most ahead : ℕ) (run : List Event)
             → IsDelayed limits most ahead run self.old → IsLateRest limits run most ahead finding) }
         ensures small { IfOk result (λ _. (ahead : ℕ) → IsSmallDelay ahead self.old → IsSmallDelay ahead self.new) }
+        ensures keeps { IfOk result (λ _. (limits : Bounds) (most ahead : ℕ) (run : List Event)
+            → IsDelayed limits most ahead run self.old → KeepsDelayed limits run self.new) }
     {
         self.give_all()?;
         let verdict = self.judge.finish()?;

@@ -12,6 +12,8 @@ ghost use Rattle.stamp_watch.specs.Delay.{kept_of};
 ghost use Rattle.stamp_watch.specs.EndedCall.{ended_from};
 ghost use Rattle.stamp_watch.specs.Late.{IsLateVerdict};
 ghost use Rattle.stamp_watch.specs.SoFar.{IsExplainedUpTo, open_calls};
+ghost use Rattle.stamp_watch.specs.Possible.{items_in};
+ghost use Rattle.stamp_watch.specs.PossibleLate.{IsToldLaterOf, KeepsLater, KeepsSomeLater};
 ghost use Rattle.stamp_watch.specs.LateJudge.{HasFoundNothingLater, HasRoomForOneLater, IsLateFoundThen, IsLateGiven, IsLateJudge, IsLateJudgeOfSome};
 ghost use Rattle.stamp_watch.specs.inner.Judging.{MayComeIn, SetsBusy};
 ghost use Rattle.stamp_watch.specs.inner.Late.{broken_off_there};
@@ -23,7 +25,7 @@ use crate::late_verdict::LateVerdict;
 use crate::so_far::lanes_in;
 use crate::stream_event::StreamEvent;
 use crate::verdict::Verdict;
-use stamp_core::Limits;
+use stamp_core::{Call, Limits, Reply};
 use std::alloc::{AllocError, Global};
 
 /// Judges a run of a lock event by event, from a new lock on. It is as `Judge`, but a call may be open for as long as
@@ -193,12 +195,29 @@ impl LateJudge {
         self.delay.judge.ended_at(number)
     }
 
-    /// What is found of the run if it ends here: a call that has not ended never ends. The judge is of no more use
+    /// Which replies the call could have had that returns at the event with this number, as `Judge::possible_at` tells.
+    /// Nothing, too, where a call before the event was put aside. It can be told also once the judge has finished.
+    pub fn possible_at(&self, number: u64, call: &Call) -> Result<Option<Vec<Reply>>, AllocError>
+        requires { KeepsSomeLater self.now }
+        ensures { IfOk result (λ told. IsToldLaterOf self.now number call.now (items_in told)) }
+    {
+        if self.delay.is_late_by(number) {
+            return Ok(None);
+        }
+        if self.delay.judge.return_at(number).is_none() {
+            return Ok(None);
+        }
+        self.delay.judge.possible_at(number, call)
+    }
+
+    /// What is found of the run if it ends here: a call that has not ended never ends. The judge takes no more events
     /// then.
     pub fn finish(&mut self) -> Result<LateVerdict, AllocError>
         requires { IsLateJudgeOfSome self.old }
-        ensures { IfOk result (λ finding. (limits : Bounds) (most ahead : ℕ) (run : List Event)
+        ensures verdict { IfOk result (λ finding. (limits : Bounds) (most ahead : ℕ) (run : List Event)
             → IsLateJudge limits most ahead run self.old → IsLateVerdict limits run most ahead finding) }
+        ensures keeps { IfOk result (λ _. (limits : Bounds) (most ahead : ℕ) (run : List Event)
+            → IsLateJudge limits most ahead run self.old → KeepsLater limits run self.new) }
     {
         match self.found {
             Some(finding) => Ok(finding),

@@ -60,7 +60,7 @@ fn reply_at(replies: &[LockReply], place: usize) -> LockReply
 
 /// A return among the events that a judge keeps.
 #[derive(Clone, Copy)]
-struct KeptReturn {
+pub(crate) struct KeptReturn {
     /// Its place among them.
     place: usize,
     lane: u8,
@@ -84,7 +84,7 @@ impl Course {
 
 impl Judge {
     /// The return with this number, if the event is one that is kept, and the open calls of the base end before it.
-    fn return_at(&self, number: u64) -> Option<KeptReturn>
+    pub(crate) fn return_at(&self, number: u64) -> Option<KeptReturn>
         requires { KeepsSome self.now }
         ensures { IsKeptReturn self.now number result }
     {

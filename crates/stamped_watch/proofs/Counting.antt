@@ -8,9 +8,9 @@ use Rattle.std.proofs.lemmas.List.Sums.{count_by-le-length, sum_by_push}
 use Rattle.stamp_core.specs.Limits.{Bounds}
 use Rattle.stamp_watch.specs.declared.event.Event.{Event}
 use Rattle.stamp_watch.specs.declared.event.Event.TheVariants.{Begins, Returns, Withdraws}
-use Rattle.stamp_watch.specs.declared.online.Judge.{Judge}
-use Rattle.stamp_watch.specs.Judge.{HasFoundNothing, IsJudge}
-use Rattle.stamp_watch.proofs.GoingOn.{run_long, way_of}
+use Rattle.stamp_watch.specs.declared.late.LateJudge.{LateJudge}
+use Rattle.stamp_watch.specs.LateJudge.{HasFoundNothingLater, IsLateJudge}
+use Rattle.stamp_watch.proofs.JudgingLate.{late_way, run_long}
 use Rattle.stamped_watch.specs.declared.stream_judge.StreamJudge.{StreamJudge}
 use Rattle.stamped_watch.specs.EventBytes.{HasBytes}
 use Rattle.stamped_watch.specs.Finding.{is_beginning, is_withdrawal}
@@ -43,17 +43,15 @@ module _ (events : List Event) (old new : StreamJudge) (begun : old.begun ≡ co
       sym (count_more is_withdrawal events (Withdraws lane))
 
 -- the events of which nothing was found can be numbered
-run_short : (limits : Bounds) (most ahead : ℕ) (run : List Event) (inner : Judge) →
+run_short : (limits : Bounds) (most ahead : ℕ) (run : List Event) (inner : LateJudge) →
     IsGoingOn limits most ahead run inner → length run < 2 ^ 64
 run_short limits most ahead run inner on =
-    let way = way_of limits most ahead run inner on.judge_of on.none in
-    let course = inner.course in
-    let room : course.first + length course.events.items < 2 ^ 64 = way.room.room in
-    let long = run_long limits run course.first course.seen course.events.items course.base course.watch
-    way.course_of.on in omega (arith, room, long)
+    let room : inner.delay.passed + length inner.delay.waiting.events.items < 2 ^ 64 =
+    (late_way limits most ahead run inner on.judge_of on.none).room in
+    let long = run_long limits most ahead run inner on.judge_of on.none in omega (arith, room, long)
 
 -- so one of them more can be counted
-pub count_room : (most ahead : ℕ) (taken : List ℕ) (begun withdrawn : ℕ) (old inner : Judge) (e : Event)
+pub count_room : (most ahead : ℕ) (taken : List ℕ) (begun withdrawn : ℕ) (old inner : LateJudge) (e : Event)
     (way : IsUnderWay most ahead taken begun withdrawn old) →
     IsGoingOn way.limits most ahead (way.events ++ e ∷ []) inner → (begun + 1 < 2 ^ 64) × (withdrawn + 1 < 2 ^ 64)
 count_room most ahead taken begun withdrawn old inner e way on =
@@ -64,7 +62,7 @@ count_room most ahead taken begun withdrawn old inner e way on =
     )
 
 -- an event was given of which nothing was found
-pub under_way_then : (most ahead : ℕ) (taken bytes : List ℕ) (old new : StreamJudge) (old_inner inner : Judge)
+pub under_way_then : (most ahead : ℕ) (taken bytes : List ℕ) (old new : StreamJudge) (old_inner inner : LateJudge)
     (e : Event) (way : IsUnderWay most ahead taken old.begun old.withdrawn old_inner) → HasBytes e bytes →
     AreCounted e old new → IsGoingOn way.limits most ahead (way.events ++ e ∷ []) inner →
     IsUnderWay most ahead (taken ++ bytes) new.begun new.withdrawn inner
@@ -79,9 +77,9 @@ under_way_then most ahead taken bytes old new old_inner inner e way has counted 
 }
 
 -- the header was read
-pub under_way_first : (most ahead : ℕ) (taken bytes : List ℕ) (begun withdrawn : ℕ) (inner : Judge)
-    (limits : Bounds) → IsFresh taken begun withdrawn → IsHeader limits bytes → IsJudge limits most ahead [] inner →
-    HasFoundNothing inner → IsUnderWay most ahead (taken ++ bytes) begun withdrawn inner
+pub under_way_first : (most ahead : ℕ) (taken bytes : List ℕ) (begun withdrawn : ℕ) (inner : LateJudge)
+    (limits : Bounds) → IsFresh taken begun withdrawn → IsHeader limits bytes →
+    IsLateJudge limits most ahead [] inner → HasFoundNothingLater inner → IsUnderWay most ahead (taken ++ bytes) begun withdrawn inner
 under_way_first most ahead taken bytes begun withdrawn inner limits fresh header judge none = record {
   limits = limits;
   events = [];

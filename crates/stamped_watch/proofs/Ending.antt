@@ -1,15 +1,15 @@
 -- A stream that ends, or goes on with bytes that are no event's.
-use Rattle.std.proofs.Common.{ℕ, ◌≡◌, ◌≢◌, ◌⊎◌, ◌<◌, ◌≤◌, List, [], ◌++◌, length, Option, Some, None}
+use Rattle.std.proofs.Common.{ℕ, ◌≡◌, ◌≢◌, ◌⊎◌, ◌+◌, ◌*◌, ◌<◌, ◌≤◌, List, [], ◌++◌, length, Option, Some, None}
 use Rattle.std.proofs.Common.{refl, sym, ◌∙◌, ap, subst, inl, inr, arith, append-nil, append_assoc}
 use Rattle.std.specs.Prelude.{◌-◌, MatchOption}
 use Rattle.std.proofs.lemmas.List.{length-append, length-take}
 use Rattle.stamp_core.specs.Limits.{Bounds}
 use Rattle.stamp_watch.specs.declared.event.Event.{Event}
-use Rattle.stamp_watch.specs.declared.online.Judge.{Judge}
-use Rattle.stamp_watch.specs.Judge.{HasFoundNothing, IsJudge}
+use Rattle.stamp_watch.specs.declared.late.LateJudge.{LateJudge}
+use Rattle.stamp_watch.specs.LateJudge.{HasFoundNothingLater, IsLateJudge}
 use Rattle.stamp_watch.specs.SoFar.{IsExplainedUpTo, open_calls}
 use Rattle.stamp_watch.specs.Verdict.{AreOfLock}
-use Rattle.stamp_watch.proofs.GoingOn.{way_of}
+use Rattle.stamp_watch.proofs.JudgingLate.{late_way}
 use Rattle.stamped_watch.specs.declared.event_bytes.BadEvent.{BadEvent}
 use Rattle.stamped_watch.specs.declared.event_bytes.BadEvent.TheVariants as bad
 use Rattle.stamped_watch.specs.declared.finding.Finding.{Finding}
@@ -28,10 +28,9 @@ use Rattle.stamped_watch.proofs.Found.{found_here}
 use Rattle.stamped_watch.proofs.Streaming.{first_of, state_of, stream_behind}
 
 -- where nothing was found of a run, it is in form
-pub judge_whole : (limits : Bounds) (most ahead : ℕ) (run : List Event) (judge : Judge) →
-    IsJudge limits most ahead run judge → HasFoundNothing judge → AreOfLock run
-judge_whole limits most ahead run judge is none =
-    let on = (way_of limits most ahead run judge is none).course_of.on in subst AreOfLock (sym on.run_is) on.whole
+pub judge_whole : (limits : Bounds) (most ahead : ℕ) (run : List Event) (judge : LateJudge) →
+    IsLateJudge limits most ahead run judge → HasFoundNothingLater judge → AreOfLock run
+judge_whole limits most ahead run judge is none = (late_way limits most ahead run judge is none).delayed.whole
 
 enough : (bytes more : List ℕ) → length bytes ≡ 16 → 16 ≤ length (bytes ++ more)
 enough bytes more many = let long = length-append bytes more in omega (arith, many, long)
@@ -82,7 +81,7 @@ no_event most ahead taken limits events bytes why k f stream many none place unl
         (begins_none bytes more why many none) here
 
 module _ (most ahead : ℕ) (fed : List ℕ) (judge : StreamJudge) (is : IsFed most ahead fed judge) where
-  abbrev IsKnown : Option Judge → Type 0
+  abbrev IsKnown : Option LateJudge → Type 0
   IsKnown o = MatchOption o (IsFresh is.taken judge.begun judge.withdrawn)
       (λ inner. IsUnderWay most ahead is.taken judge.begun judge.withdrawn inner)
 
@@ -112,11 +111,11 @@ module _ (most ahead : ℕ) (fed : List ℕ) (judge : StreamJudge) (is : IsFed m
     pub no_header_yet : judge.judge ≡ None → IsFindingOf most ahead fed found.NoHeader
     no_header_yet no_judge = fresh_short (subst IsKnown no_judge way)
 
-    pub way_of_judge : (inner : Judge) → judge.judge ≡ Some inner →
+    pub way_of_judge : (inner : LateJudge) → judge.judge ≡ Some inner →
         IsUnderWay most ahead is.taken judge.begun judge.withdrawn inner
     way_of_judge inner some = subst IsKnown some way
 
-    module _ (inner : Judge) (under_way : IsUnderWay most ahead is.taken judge.begun judge.withdrawn inner) where
+    module _ (inner : LateJudge) (under_way : IsUnderWay most ahead is.taken judge.begun judge.withdrawn inner) where
       stream_here : IsStream fed under_way.limits under_way.events is.later
       stream_here = subst (λ (xs : List ℕ). IsStream xs under_way.limits under_way.events is.later) (sym is.parts)
           (stream_behind is.taken is.later under_way.limits under_way.events under_way.stream)
@@ -165,11 +164,11 @@ module _ (most ahead : ℕ) (fed : List ℕ) (judge : StreamJudge) (is : IsFed m
     pub so_far_none : judge.judge ≡ None → length fed < 16
     so_far_none no_judge = fresh_short (subst IsKnown no_judge way)
 
-    pub so_far_is : (inner : Judge) → judge.judge ≡ Some inner → (so_far : SoFar) →
+    pub so_far_is : (inner : LateJudge) → judge.judge ≡ Some inner → (so_far : SoFar) →
         so_far.calls ≡ judge.begun - judge.withdrawn →
-        ((limits : Bounds) (most ahead : ℕ) (run : List Event) → IsJudge limits most ahead run inner →
-        IsExplainedUpTo limits run ahead so_far.explained) →
-        ((limits : Bounds) (most ahead : ℕ) (run : List Event) → IsJudge limits most ahead run inner →
+        ((limits : Bounds) (most ahead : ℕ) (run : List Event) → IsLateJudge limits most ahead run inner →
+        IsExplainedUpTo limits run (2 * ahead + 64) so_far.explained) →
+        ((limits : Bounds) (most ahead : ℕ) (run : List Event) → IsLateJudge limits most ahead run inner →
         so_far.under_way ≡ open_calls run) → IsSoFarOf ahead fed so_far
     so_far_is inner some so_far_here calls explained under_way =
         let under = way_of_judge inner some in record {
@@ -186,7 +185,7 @@ module _ (most ahead : ℕ) (fed : List ℕ) (judge : StreamJudge) (is : IsFed m
     pub in_form : (length fed < 16) ⊎ IsInForm fed
     in_form = by judge.judge way
       where
-        by : (o : Option Judge) → IsKnown o → (length fed < 16) ⊎ IsInForm fed
+        by : (o : Option LateJudge) → IsKnown o → (length fed < 16) ⊎ IsInForm fed
         by None fresh = inl (fresh_short fresh)
         by (Some inner) under_way = inr (record {
           limits = under_way.limits;

@@ -4,9 +4,10 @@ use Rattle.std.proofs.Common.{inl, inr, arith, append_assoc}
 use Rattle.std.proofs.lemmas.List.{length-append}
 use Rattle.stamp_core.specs.Limits.{Bounds}
 use Rattle.stamp_watch.specs.declared.event.Event.{Event}
-use Rattle.stamp_watch.specs.declared.verdict.Verdict.{Verdict}
+use Rattle.stamp_watch.specs.declared.late_verdict.LateVerdict.{LateVerdict}
+use Rattle.stamp_watch.specs.declared.late_verdict.LateVerdict.TheVariants.{Is, Late}
 use Rattle.stamp_watch.specs.declared.verdict.Verdict.TheVariants as verdict
-use Rattle.stamp_watch.specs.Judging.{IsFound}
+use Rattle.stamp_watch.specs.Late.{IsLateFound}
 use Rattle.stamped_watch.specs.declared.finding.Finding.{Finding}
 use Rattle.stamped_watch.specs.declared.finding.Finding.TheVariants as found
 use Rattle.stamped_watch.specs.EventBytes.{HasBytes}
@@ -17,14 +18,16 @@ use Rattle.stamped_watch.specs.Finding.{verdict_of}
 use Rattle.stamped_watch.proofs.Streaming.{first_of, stream_behind, stream_more}
 
 -- a verdict that is judged so is what is found
-pub judged_is : (most ahead : ℕ) (bytes : List ℕ) (f : Finding) (v : Verdict) → verdict_of f ≡ Some v →
+pub judged_is : (most ahead : ℕ) (bytes : List ℕ) (f : Finding) (v : LateVerdict) → verdict_of f ≡ Some v →
     IsJudged most ahead bytes v → IsFindingOf most ahead bytes f
 judged_is most ahead bytes (found.Stuck k) v is judged =
-    let same : v ≡ verdict.Stuck k = cc in subst (IsJudged most ahead bytes) same judged
+    let same : v ≡ Is (verdict.Stuck k) = cc in subst (IsJudged most ahead bytes) same judged
 judged_is most ahead bytes (found.StuckWithin k m) v is judged =
-    let same : v ≡ verdict.StuckWithin k m = cc in subst (IsJudged most ahead bytes) same judged
+    let same : v ≡ Is (verdict.StuckWithin k m) = cc in subst (IsJudged most ahead bytes) same judged
 judged_is most ahead bytes (found.Undecided k why) v is judged =
-    let same : v ≡ verdict.Undecided k why = cc in subst (IsJudged most ahead bytes) same judged
+    let same : v ≡ Is (verdict.Undecided k why) = cc in subst (IsJudged most ahead bytes) same judged
+judged_is most ahead bytes (found.Late k) v is judged =
+    let same : v ≡ Late k = cc in subst (IsJudged most ahead bytes) same judged
 judged_is most ahead bytes (found.Explained calls) v is judged = absurd (cc)
 judged_is most ahead bytes (found.Misplaced k why) v is judged = absurd (cc)
 judged_is most ahead bytes (found.BadEvent k why) v is judged = absurd (cc)
@@ -93,6 +96,7 @@ module _ (most ahead : ℕ) (limits : Bounds) where
     found_with (found.Stuck k) is = so (found.Stuck k) is
     found_with (found.StuckWithin k m) is = so (found.StuckWithin k m) is
     found_with (found.Undecided k why) is = so (found.Undecided k why) is
+    found_with (found.Late k) is = so (found.Late k) is
     found_with (found.Explained calls) is = so (found.Explained calls) is
     found_with (found.BadEvent k why) is = so (found.BadEvent k why) is
     found_with (found.Cut k) is = so (found.Cut k) is
@@ -100,8 +104,8 @@ module _ (most ahead : ℕ) (limits : Bounds) where
     found_with found.NoHeader is = so found.NoHeader is
 
 -- a verdict is what is found with one event more
-pub so_found : (limits : Bounds) (most ahead : ℕ) (run : List Event) (e : Event) (f : Finding) (v : Verdict) →
-    verdict_of f ≡ Some v → IsFound limits (run ++ e ∷ []) most (Some ahead) v → IsFoundWith limits most ahead run e f
+pub so_found : (limits : Bounds) (most ahead : ℕ) (run : List Event) (e : Event) (f : Finding) (v : LateVerdict) →
+    verdict_of f ≡ Some v → IsLateFound limits (run ++ e ∷ []) most ahead v → IsFoundWith limits most ahead run e f
 so_found limits most ahead run e f v is holds = by f is
   where
     of : (g : Finding) → verdict_of g ≡ Some v → IsFoundSo limits (run ++ e ∷ []) most ahead g
@@ -111,6 +115,7 @@ so_found limits most ahead run e f v is holds = by f is
     by (found.Stuck k) same = of (found.Stuck k) same
     by (found.StuckWithin k m) same = of (found.StuckWithin k m) same
     by (found.Undecided k why) same = of (found.Undecided k why) same
+    by (found.Late k) same = of (found.Late k) same
     by (found.Explained calls) same = absurd (cc)
     by (found.Misplaced k why) same = absurd (cc)
     by (found.BadEvent k why) same = absurd (cc)

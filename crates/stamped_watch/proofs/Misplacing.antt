@@ -14,11 +14,14 @@ use Rattle.stamp_core.specs.declared.reply.Reply.{Reply}
 use Rattle.stamp_core.specs.declared.reply.Reply.TheVariants as reply
 use Rattle.stamp_watch.specs.declared.event.Event.{Event}
 use Rattle.stamp_watch.specs.declared.event.Event.TheVariants.{Begins, Returns, Withdraws}
-use Rattle.stamp_watch.specs.declared.online.Judge.{Judge}
+use Rattle.stamp_watch.specs.declared.late.LateJudge.{LateJudge}
+use Rattle.stamp_watch.specs.declared.late_verdict.LateVerdict.{LateVerdict}
+use Rattle.stamp_watch.specs.declared.late_verdict.LateVerdict.TheVariants.{Is, Late}
 use Rattle.stamp_watch.specs.declared.verdict.Verdict.{Verdict}
 use Rattle.stamp_watch.specs.declared.verdict.Verdict.TheVariants as verdict
 use Rattle.stamp_watch.specs.Form.{is_busy_after, MayCome}
-use Rattle.stamp_watch.specs.Judge.{IsFoundThen, IsJudge}
+use Rattle.stamp_watch.specs.Late.{IsLateFound, IsLateVerdict}
+use Rattle.stamp_watch.specs.LateJudge.{IsLateFoundThen, IsLateJudge}
 use Rattle.stamp_watch.specs.Judging.{IsFound}
 use Rattle.stamp_watch.specs.Run.{AreExplained}
 use Rattle.stamp_watch.specs.Verdict.{AreBrokenAt, AreOfLock, IsOfLock, IsVerdict, is_lock_reply}
@@ -30,7 +33,7 @@ use Rattle.stamped_watch.specs.declared.misplaced.Misplaced.TheVariants.{Lane, O
 use Rattle.stamped_watch.specs.EventBytes.{call_kind, kind_of, reply_kind}
 use Rattle.stamped_watch.specs.Finding.{IsMisplaced}
 use Rattle.stamped_watch.specs.inner.StreamJudge.{IsMisplacedAt}
-use Rattle.stamped_watch.specs.Finding.{IsMisplacedSo, IsOfForm}
+use Rattle.stamped_watch.specs.Finding.{IsLateOfForm, IsMisplacedSo, IsOfForm}
 
 -- what has a kind is of the lock
 call_of_lock : (c : Call) → IsSome (call_kind c) → is_lock_call c ≡ true
@@ -129,7 +132,7 @@ never_explained limits run most ahead found =
     omega (arith, below)
 
 -- so a verdict that holds whatever comes later is that it is broken, or of form
-pub of_form : (limits : Bounds) (run : List Event) (most : ℕ) (ahead : Option ℕ) (v : Verdict) →
+of_form : (limits : Bounds) (run : List Event) (most : ℕ) (ahead : Option ℕ) (v : Verdict) →
     IsFound limits run most ahead v → ((k : ℕ) → v ≢ verdict.Broken k) → IsOfForm v
 of_form limits run most ahead verdict.Explained found other = never_explained limits run most ahead found
 of_form limits run most ahead (verdict.Stuck k) found other = tt
@@ -137,8 +140,14 @@ of_form limits run most ahead (verdict.StuckWithin k m) found other = tt
 of_form limits run most ahead (verdict.Undecided k why) found other = tt
 of_form limits run most ahead (verdict.Broken k) found other = absurd (other k refl)
 
+pub late_of_form : (limits : Bounds) (run : List Event) (most ahead : ℕ) (v : LateVerdict) →
+    IsLateFound limits run most ahead v → ((k : ℕ) → v ≢ Is (verdict.Broken k)) → IsLateOfForm v
+late_of_form limits run most ahead (Is v) found other =
+    of_form limits run most (Some ahead) v found (λ k same. other k (ap Is same))
+late_of_form limits run most ahead (Late k) found other = tt
+
 -- no run in form is broken, so a verdict on one as it ends is that it is explained, or of form
-pub form_here : (limits : Bounds) (run : List Event) (most : ℕ) (ahead : Option ℕ) (v : Verdict) → AreOfLock run →
+form_here : (limits : Bounds) (run : List Event) (most : ℕ) (ahead : Option ℕ) (v : Verdict) → AreOfLock run →
     IsVerdict limits run most ahead v → v ≢ verdict.Explained → IsOfForm v
 form_here limits run most ahead verdict.Explained whole is other = absurd (other refl)
 form_here limits run most ahead (verdict.Stuck k) whole is other = tt
@@ -146,6 +155,12 @@ form_here limits run most ahead (verdict.StuckWithin k m) whole is other = tt
 form_here limits run most ahead (verdict.Undecided k why) whole is other = tt
 form_here limits run most ahead (verdict.Broken k) whole is other =
     absurd (is.0.broken (of_lock_up_to (k + 1) run whole))
+
+pub late_form_here : (limits : Bounds) (run : List Event) (most ahead : ℕ) (v : LateVerdict) → AreOfLock run →
+    IsLateVerdict limits run most ahead v → v ≢ Is verdict.Explained → IsLateOfForm v
+late_form_here limits run most ahead (Is v) whole is other =
+    form_here limits run most (Some ahead) v whole is (λ same. other (ap Is same))
+late_form_here limits run most ahead (Late k) whole is other = tt
 
 -- where a run in form is broken with one event more, that may not come behind it
 module _ (limits : Bounds) (run : List Event) (most : ℕ) (ahead : Option ℕ) (e : Event) (k : ℕ) (whole : AreOfLock run)
@@ -171,9 +186,9 @@ module _ (limits : Bounds) (run : List Event) (most : ℕ) (ahead : Option ℕ) 
   }
 
 -- the verdict that was found with an event
-pub found_then : (limits : Bounds) (most ahead : ℕ) (run : List Event) (e : Event) (judge : Judge) (o : Option Verdict)
-    (v : Verdict) → IsFoundThen e judge o → o ≡ Some v → IsJudge limits most ahead run judge →
-    IsFound limits (run ++ e ∷ []) most (Some ahead) v
-found_then limits most ahead run e judge o v then some is = subst (λ (p : Option Verdict).
-    MatchOption p (AreOfLock (run ++ e ∷ [])) (λ w. IsFound limits (run ++ e ∷ []) most (Some ahead) w)) some
+pub found_then : (limits : Bounds) (most ahead : ℕ) (run : List Event) (e : Event) (judge : LateJudge)
+    (o : Option LateVerdict) (v : LateVerdict) → IsLateFoundThen e judge o → o ≡ Some v →
+    IsLateJudge limits most ahead run judge → IsLateFound limits (run ++ e ∷ []) most ahead v
+found_then limits most ahead run e judge o v then some is = subst (λ (p : Option LateVerdict).
+    MatchOption p (AreOfLock (run ++ e ∷ [])) (λ w. IsLateFound limits (run ++ e ∷ []) most ahead w)) some
     (then limits most ahead run is)

@@ -6,8 +6,8 @@ use Rattle.std.proofs.lemmas.List.{drop_all, drop-append-le, length-append, leng
 use Rattle.std.proofs.Math.Seq.{take-append_seam}
 use Rattle.stamp_core.specs.Limits.{Bounds}
 use Rattle.stamp_watch.specs.declared.event.Event.{Event}
-use Rattle.stamp_watch.specs.declared.online.Judge.{Judge}
-use Rattle.stamp_watch.proofs.GoingOn.{run_long, way_of}
+use Rattle.stamp_watch.specs.declared.late.LateJudge.{LateJudge}
+use Rattle.stamp_watch.proofs.JudgingLate.{late_way, run_long}
 use Rattle.stamped_watch.specs.declared.finding.Finding.{Finding}
 use Rattle.stamped_watch.specs.declared.stream_judge.StreamJudge.{StreamJudge}
 use Rattle.stamped_watch.specs.EventBytes.{HasBytes}
@@ -113,16 +113,14 @@ state_of most ahead taken judge has none = subst (λ (o : Option Finding). Match
 
 -- where nothing was found, no more bytes were taken than those of as many events as can be numbered
 module _ (most ahead : ℕ) (taken : List ℕ) (begun withdrawn : ℕ) where
-  taken_short : (o : Option Judge) → MatchOption o (IsFresh taken begun withdrawn)
+  taken_short : (o : Option LateJudge) → MatchOption o (IsFresh taken begun withdrawn)
       (λ inner. IsUnderWay most ahead taken begun withdrawn inner) → length taken ≤ 16 * 2 ^ 64
   taken_short None fresh = let none = ap length fresh.nothing in omega (arith, none)
   taken_short (Some inner) way =
-      let course = inner.course in
-      let under_way = way_of way.limits most ahead way.events inner way.judge_of way.none in
-      let long = run_long way.limits way.events course.first course.seen course.events.items course.base course.watch
-      under_way.course_of.on in
+      let long = run_long way.limits most ahead way.events inner way.judge_of way.none in
       let all = stream_long taken [] way.limits way.events way.stream in
-      let room : course.first + length course.events.items < 2 ^ 64 = under_way.room.room in
+      let room : inner.delay.passed + length inner.delay.waiting.events.items < 2 ^ 64 =
+      (late_way way.limits most ahead way.events inner way.judge_of way.none).room in
       omega (arith, long, all, room)
 
 pub fed_short : (most ahead : ℕ) (fed : List ℕ) (judge : StreamJudge) → judge.found ≡ None →

@@ -11,12 +11,11 @@ use Rattle.stamp_core.specs.declared.lock_decision.LockReply.{LockReply}
 use Rattle.stamp_core.specs.declared.reply.Reply.{Reply}
 use Rattle.stamp_watch.specs.declared.event.Event.{Event}
 use Rattle.stamp_watch.specs.declared.event.Event.TheVariants.{Begins, Returns, Withdraws}
-use Rattle.stamp_watch.specs.declared.online.Judge.{Judge}
-use Rattle.stamp_watch.specs.Judge.{HasFoundNothing, IsJudge, IsJudgeOfSome}
-use Rattle.stamp_watch.specs.Possible.{IsTold, IsToldOf, KeepsBase, plain_replies}
+use Rattle.stamp_watch.specs.declared.late.LateJudge.{LateJudge}
+use Rattle.stamp_watch.specs.LateJudge.{HasFoundNothingLater, IsLateJudge, IsLateJudgeOfSome}
+use Rattle.stamp_watch.specs.Possible.{plain_replies}
+use Rattle.stamp_watch.specs.PossibleLate.{IsToldLater, IsToldLaterOf, KeepsLater}
 use Rattle.stamp_watch.specs.Possible.{items_in as replies_told}
-use Rattle.stamp_watch.proofs.GoingOn.{way_of}
-use Rattle.stamp_watch.proofs.Kept.{kept_of}
 use Rattle.stamped_watch.specs.declared.event_bytes.BadEvent.{BadEvent}
 use Rattle.stamped_watch.specs.declared.finding.Finding.{Finding}
 use Rattle.stamped_watch.specs.declared.finding.Finding.TheVariants as found
@@ -26,9 +25,9 @@ use Rattle.stamped_watch.specs.EventBytes.{HasBytes, IsNoEvent}
 use Rattle.stamped_watch.specs.Finding.{IsFoundOf}
 use Rattle.stamped_watch.specs.Header.{IsHeader, IsNoHeader}
 use Rattle.stamped_watch.specs.Possible.{ArePossibleAt, ArePossibleIn, KeepsOf, items_in}
-use Rattle.stamped_watch.specs.StreamJudge.{HasTaken, IsFed, IsFresh, IsUnderWay}
+use Rattle.stamped_watch.specs.StreamJudge.{HasTaken, IsFed, IsFresh, IsUnderWay, KeepsFed}
 use Rattle.stamped_watch.specs.inner.StreamJudge.{AreCounted, HasTakenFront, IsFoundUnless}
-use Rattle.stamped_watch.specs.inner.StreamJudge.{IsGivenOne, IsOneMore, KeepsSoFar}
+use Rattle.stamped_watch.specs.inner.StreamJudge.{IsGivenOne, IsOneMore, KeepsSoFar, KeepsStill}
 use Rattle.stamped_watch.proofs.Counting.{count_room, under_way_first, under_way_then}
 use Rattle.stamped_watch.proofs.Ending.{no_event, no_header}
 use Rattle.stamped_watch.proofs.Found.{found_with}
@@ -38,27 +37,19 @@ pub none_of : (o : Option Finding) → is_some o ≡ false → o ≡ None
 none_of (Some f) is = absurd (false≢true (sym is))
 none_of None is = refl
 
--- what a judge of events keeps where it has found nothing
-pub keeps_now : (limits : Bounds) (most ahead : ℕ) (run : List Event) (inner : Judge) →
-    IsJudge limits most ahead run inner → HasFoundNothing inner → KeepsBase limits run inner
-keeps_now limits most ahead run inner is none =
-    let under = way_of limits most ahead run inner is none in
-    kept_of limits run inner.course under.course_of under.room
-
 -- what the judge of the events keeps where nothing was found
-keeps_under_way : (most ahead : ℕ) (taken : List ℕ) (begun withdrawn : ℕ) (inner : Judge) →
+keeps_under_way : (most ahead : ℕ) (taken : List ℕ) (begun withdrawn : ℕ) (inner : LateJudge) →
     IsUnderWay most ahead taken begun withdrawn inner → KeepsOf taken inner
-keeps_under_way most ahead taken begun withdrawn inner way =
-    let under = way_of way.limits most ahead way.events inner way.judge_of way.none in record {
-      limits = way.limits;
-      events = way.events;
-      rest = [];
-      stream = way.stream;
-      keeps = kept_of way.limits way.events inner.course under.course_of under.room;
-    }
+keeps_under_way most ahead taken begun withdrawn inner way = record {
+  limits = way.limits;
+  events = way.events;
+  rest = [];
+  stream = way.stream;
+  keeps = way.judge_of.keeps;
+}
 
 -- it keeps that, too, of more bytes
-pub keeps_more : (bytes more : List ℕ) (inner : Judge) → KeepsOf bytes inner → KeepsOf (bytes ++ more) inner
+pub keeps_more : (bytes more : List ℕ) (inner : LateJudge) → KeepsOf bytes inner → KeepsOf (bytes ++ more) inner
 keeps_more bytes more inner keeps = record {
   limits = keeps.limits;
   events = keeps.events;
@@ -68,19 +59,19 @@ keeps_more bytes more inner keeps = record {
 }
 
 -- nothing was found, and the judge goes on
-on_with : (most ahead : ℕ) (taken : List ℕ) (judge : StreamJudge) (inner : Judge) → judge.most ≡ most →
+on_with : (most ahead : ℕ) (taken : List ℕ) (judge : StreamJudge) (inner : LateJudge) → judge.most ≡ most →
     judge.ahead ≡ ahead → judge.found ≡ None → judge.judge ≡ Some inner →
     IsUnderWay most ahead taken judge.begun judge.withdrawn inner → HasTaken most ahead taken judge
 on_with most ahead taken judge inner same far none some way = record {
   most_is = same;
   ahead_is = far;
-  kept = subst (λ (o : Option Judge). MatchOption o ⊤ (λ i. KeepsOf taken i)) (sym some)
+  kept = subst (λ (o : Option LateJudge). MatchOption o ⊤ (λ i. KeepsOf taken i)) (sym some)
       (keeps_under_way most ahead taken judge.begun judge.withdrawn inner way);
   state = subst (λ (o : Option Finding). MatchOption o (MatchOption judge.judge
       (IsFresh taken judge.begun judge.withdrawn)
       (λ i. IsUnderWay most ahead taken judge.begun judge.withdrawn i))
       (λ finding. IsFoundOf most ahead taken finding)) (sym none)
-      (subst (λ (o : Option Judge). MatchOption o (IsFresh taken judge.begun judge.withdrawn)
+      (subst (λ (o : Option LateJudge). MatchOption o (IsFresh taken judge.begun judge.withdrawn)
       (λ i. IsUnderWay most ahead taken judge.begun judge.withdrawn i)) (sym some) way);
 }
 
@@ -88,19 +79,19 @@ module _ (most ahead : ℕ) (taken bytes : List ℕ) (old : StreamJudge) (has : 
     (none : old.found ≡ None) where
   module _ (no_judge : old.judge ≡ None) where
     fresh : IsFresh taken old.begun old.withdrawn
-    fresh = subst (λ (o : Option Judge). MatchOption o (IsFresh taken old.begun old.withdrawn)
+    fresh = subst (λ (o : Option LateJudge). MatchOption o (IsFresh taken old.begun old.withdrawn)
         (λ inner. IsUnderWay most ahead taken old.begun old.withdrawn inner)) no_judge
         (state_of most ahead taken old has none)
 
     -- the bytes of a header
-    pub header_taken : (limits : Bounds) (inner : Judge) → IsHeader limits bytes →
-        IsJudge limits old.most old.ahead [] inner → HasFoundNothing inner →
+    pub header_taken : (limits : Bounds) (inner : LateJudge) → IsHeader limits bytes →
+        IsLateJudge limits old.most old.ahead [] inner → HasFoundNothingLater inner →
         HasTaken most ahead (taken ++ bytes) (record old { judge = Some inner })
     header_taken limits inner header is nothing = on_with most ahead (taken ++ bytes)
         (record old { judge = Some inner }) inner has.most_is has.ahead_is none refl
         (under_way_first most ahead taken bytes old.begun old.withdrawn inner limits fresh header
-        (subst (λ (n : ℕ). IsJudge limits n ahead [] inner) has.most_is
-        (subst (λ (n : ℕ). IsJudge limits old.most n [] inner) has.ahead_is is)) nothing)
+        (subst (λ (n : ℕ). IsLateJudge limits n ahead [] inner) has.most_is
+        (subst (λ (n : ℕ). IsLateJudge limits old.most n [] inner) has.ahead_is is)) nothing)
 
     -- the bytes of none
     pub no_header_taken : (why : BadHeader) → length bytes ≡ 16 → IsNoHeader why bytes →
@@ -108,17 +99,17 @@ module _ (most ahead : ℕ) (taken bytes : List ℕ) (old : StreamJudge) (has : 
     no_header_taken why many wrong = record {
       most_is = has.most_is;
       ahead_is = has.ahead_is;
-      kept = subst (λ (o : Option Judge). MatchOption o ⊤ (λ i. KeepsOf (taken ++ bytes) i)) (sym no_judge) tt;
+      kept = subst (λ (o : Option LateJudge). MatchOption o ⊤ (λ i. KeepsOf (taken ++ bytes) i)) (sym no_judge) tt;
       state = subst (λ (xs : List ℕ). IsFoundOf most ahead (xs ++ bytes) (found.BadHeader why)) (sym fresh.nothing)
           (no_header most ahead bytes why many wrong);
     }
 
-  module _ (inner : Judge) (some : old.judge ≡ Some inner) where
+  module _ (inner : LateJudge) (some : old.judge ≡ Some inner) where
     pub way_on : IsUnderWay most ahead taken old.begun old.withdrawn inner
-    way_on = subst (λ (o : Option Judge). MatchOption o (IsFresh taken old.begun old.withdrawn)
+    way_on = subst (λ (o : Option LateJudge). MatchOption o (IsFresh taken old.begun old.withdrawn)
         (λ i. IsUnderWay most ahead taken old.begun old.withdrawn i)) some (state_of most ahead taken old has none)
 
-    pub way_of_some : IsJudgeOfSome inner
+    pub way_of_some : IsLateJudgeOfSome inner
     way_of_some = record {
       limits = way_on.limits;
       most = most;
@@ -128,13 +119,13 @@ module _ (most ahead : ℕ) (taken bytes : List ℕ) (old : StreamJudge) (has : 
     }
 
     -- the bytes of an event, which was given to the judge of the events
-    module _ (e : Event) (next : Judge) (o : Option Finding) (has_bytes : HasBytes e bytes)
-        (given : (limits : Bounds) (m a : ℕ) (run : List Event) → IsJudge limits m a run inner →
+    module _ (e : Event) (next : LateJudge) (o : Option Finding) (has_bytes : HasBytes e bytes)
+        (given : (limits : Bounds) (m a : ℕ) (run : List Event) → IsLateJudge limits m a run inner →
         IsGivenOne limits m a run e next o) (keeps : KeepsSoFar e inner next) where
       given_one : IsGivenOne way_on.limits most ahead way_on.events e next o
       given_one = given way_on.limits most ahead way_on.events way_on.judge_of
 
-      keeps_of : KeepsBase way_on.limits way_on.events next ⊎ KeepsBase way_on.limits (way_on.events ++ e ∷ []) next →
+      keeps_of : KeepsLater way_on.limits way_on.events next ⊎ KeepsLater way_on.limits (way_on.events ++ e ∷ []) next →
           KeepsOf (taken ++ bytes) next
       keeps_of (inl before) = record {
         limits = way_on.limits;
@@ -196,16 +187,22 @@ module _ (most ahead : ℕ) (taken bytes : List ℕ) (old : StreamJudge) (has : 
               given_one))
 
     -- the bytes of none
-    pub no_event_taken : (k : ℕ) (why : BadEvent) (f : Finding) → length bytes ≡ 16 → IsNoEvent why bytes →
-        ((limits : Bounds) (m a : ℕ) (run : List Event) → IsJudge limits m a run inner → k ≡ length run) →
-        ((limits : Bounds) (m a : ℕ) (run : List Event) → IsJudge limits m a run inner →
-        IsFoundUnless limits m a run (found.BadEvent k why) f) →
-        HasTaken most ahead (taken ++ bytes) (record old { judge = Some inner; found = Some f })
-    no_event_taken k why f many wrong count unless = record {
+    pub no_event_taken : (k : ℕ) (why : BadEvent) (f : Finding) (next : LateJudge) → length bytes ≡ 16 →
+        IsNoEvent why bytes →
+        ((limits : Bounds) (m a : ℕ) (run : List Event) → IsLateJudge limits m a run inner → k ≡ length run) →
+        ((limits : Bounds) (m a : ℕ) (run : List Event) → IsLateJudge limits m a run inner →
+        IsFoundUnless limits m a run (found.BadEvent k why) f) → KeepsStill inner next →
+        HasTaken most ahead (taken ++ bytes) (record old { judge = Some next; found = Some f })
+    no_event_taken k why f next many wrong count unless keeps = record {
       most_is = has.most_is;
       ahead_is = has.ahead_is;
-      kept = keeps_more taken bytes inner
-          (keeps_under_way most ahead taken old.begun old.withdrawn inner way_on);
+      kept = record {
+        limits = way_on.limits;
+        events = way_on.events;
+        rest = bytes;
+        stream = stream_behind taken bytes way_on.limits way_on.events way_on.stream;
+        keeps = keeps way_on.limits most ahead way_on.events way_on.judge_of;
+      };
       state = no_event most ahead taken way_on.limits way_on.events bytes why k f way_on.stream many wrong
           (count way_on.limits most ahead way_on.events way_on.judge_of)
           (unless way_on.limits most ahead way_on.events way_on.judge_of);
@@ -311,29 +308,59 @@ module _ (most ahead : ℕ) (fed bytes : List ℕ) (judge : StreamJudge) (is : I
       same = later ∙ apart ∙ ap (λ (xs : List ℕ). is.taken ++ is.later ++ xs) (sym parts) ∙
           ap (λ (xs : List ℕ). xs ++ bytes) (sym is.parts)
 
--- what the judge of the events tells of a return is told of the stream
-module _ (most ahead : ℕ) (fed : List ℕ) (judge : StreamJudge) (is : IsFed most ahead fed judge) (inner : Judge)
-    (some : judge.judge ≡ Some inner) (k : ℕ) (call : Call) where
-  abbrev keeps_fed : KeepsOf fed inner
-  keeps_fed = subst (λ (xs : List ℕ). KeepsOf xs inner) (sym is.parts) (keeps_more is.taken is.later inner
-      (subst (λ (o : Option Judge). MatchOption o ⊤ (λ i. KeepsOf is.taken i)) some is.has_taken.kept))
+-- where it has found something it was fed what comes then, too
+pub fed_found : (most ahead : ℕ) (fed more : List ℕ) (judge : StreamJudge) → is_some judge.found ≡ true →
+    IsFed most ahead fed judge → IsFed most ahead (fed ++ more) judge
+fed_found most ahead fed more judge some is = record {
+  taken = is.taken;
+  later = is.later ++ more;
+  parts = ap (λ (xs : List ℕ). xs ++ more) is.parts ∙ append_assoc is.taken is.later more;
+  has_taken = is.has_taken;
+  keeps = λ none. absurd (false≢true (sym (ap is_some none) ∙ some));
+  short = is.short;
+}
 
+-- what its judge keeps is of all that it was fed
+pub keeps_fed : (most ahead : ℕ) (fed : List ℕ) (judge : StreamJudge) → IsFed most ahead fed judge → KeepsFed fed judge
+keeps_fed most ahead fed judge is = by judge.judge is.has_taken.kept
+  where
+    by : (o : Option LateJudge) → MatchOption o ⊤ (λ i. KeepsOf is.taken i) → MatchOption o ⊤ (λ i. KeepsOf fed i)
+    by None none = tt
+    by (Some inner) keeps = subst (λ (xs : List ℕ). KeepsOf xs inner) (sym is.parts)
+        (keeps_more is.taken is.later inner keeps)
+
+-- so it is once the judge of the events has finished
+pub keeps_ended : (most ahead : ℕ) (fed : List ℕ) (judge : StreamJudge) → IsFed most ahead fed judge →
+    judge.found ≡ None → (inner next : LateJudge) → judge.judge ≡ Some inner → KeepsStill inner next → KeepsOf fed next
+keeps_ended most ahead fed judge is none inner next some keeps =
+    let way = way_on most ahead is.taken [] judge is.has_taken none inner some in
+    subst (λ (xs : List ℕ). KeepsOf xs next) (sym is.parts) (keeps_more is.taken is.later next (record {
+      limits = way.limits;
+      events = way.events;
+      rest = [];
+      stream = way.stream;
+      keeps = keeps way.limits most ahead way.events way.judge_of;
+    }))
+
+-- what the judge of the events tells of a return is told of the stream
+module _ (fed : List ℕ) (inner : LateJudge) (keeps : KeepsOf fed inner) (k : ℕ) (call : Call) where
   possible_of : (found : List Reply) (o : Option (List LockReply)) →
-      plain_replies inner.course.base.limits call ≡ o →
-      MatchOption o (Some found ≡ None) (λ tried. IsTold inner k tried (Some found)) → ArePossibleAt fed k call found
+      plain_replies inner.delay.judge.course.base.limits call ≡ o →
+      MatchOption o (Some found ≡ None) (λ tried. IsToldLater inner k tried (Some found)) →
+      ArePossibleAt fed k call found
   possible_of found None same none = absurd (cc)
   possible_of found (Some tried) same told = record {
-    limits = keeps_fed.limits;
-    events = keeps_fed.events;
-    rest = keeps_fed.rest;
-    stream = keeps_fed.stream;
+    limits = keeps.limits;
+    events = keeps.events;
+    rest = keeps.rest;
+    stream = keeps.stream;
     tried = tried;
-    are = ap (λ (l : Bounds). plain_replies l call) (sym keeps_fed.keeps.from_base.judging.limits_are) ∙ same;
-    among = told keeps_fed.limits keeps_fed.events keeps_fed.keeps;
+    are = ap (λ (l : Bounds). plain_replies l call) (sym keeps.keeps.keeps.from_base.judging.limits_are) ∙ same;
+    among = told keeps.limits keeps.events keeps.keeps;
   }
 
-  pub possible_told : (told : Option (Vec Reply Global)) → IsToldOf inner k call (replies_told told) →
+  pub possible_told : (told : Option (Vec Reply Global)) → IsToldLaterOf inner k call (replies_told told) →
       ArePossibleIn fed k call (items_in told)
   possible_told None is_told = tt
   possible_told (Some found) is_told =
-      possible_of found.items (plain_replies inner.course.base.limits call) refl is_told
+      possible_of found.items (plain_replies inner.delay.judge.course.base.limits call) refl is_told

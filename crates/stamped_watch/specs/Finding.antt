@@ -5,13 +5,15 @@ use Rattle.std.specs.List.{count_by}
 use Rattle.stamp_core.specs.Limits.{Bounds}
 use Rattle.stamp_watch.specs.declared.event.Event.{Event}
 use Rattle.stamp_watch.specs.declared.event.Event.TheVariants.{Begins, Withdraws}
+use Rattle.stamp_watch.specs.declared.late_verdict.LateVerdict.{LateVerdict}
+use Rattle.stamp_watch.specs.declared.late_verdict.LateVerdict.TheVariants.{Is, Late}
 use Rattle.stamp_watch.specs.declared.verdict.Verdict.{Verdict}
 use Rattle.stamp_watch.specs.declared.verdict.Verdict.TheVariants.{Stuck, StuckWithin, Undecided}
 use Rattle.stamp_watch.specs.declared.verdict.Verdict.TheVariants as verdict
 use Rattle.stamp_watch.specs.Form.{is_busy_after}
-use Rattle.stamp_watch.specs.Judging.{IsFound}
+use Rattle.stamp_watch.specs.Late.{IsLateFound, IsLateVerdict}
 use Rattle.stamp_watch.specs.Run.{AreExplained}
-use Rattle.stamp_watch.specs.Verdict.{AreOfLock, IsVerdict}
+use Rattle.stamp_watch.specs.Verdict.{AreOfLock}
 use Rattle.stamped_watch.specs.declared.event_bytes.BadEvent.{BadEvent}
 use Rattle.stamped_watch.specs.declared.finding.Finding.{Finding}
 use Rattle.stamped_watch.specs.declared.finding.Finding.TheVariants as found
@@ -34,18 +36,18 @@ abbrev pub calls_in : List Event → ℕ
 calls_in events = count_by is_beginning events - count_by is_withdrawal events
 
 -- the events end here, since no other begins the rest, and this is the verdict on the run that ends with them
-pub record IsJudgedAtEnd (limits : Bounds) (events : List Event) (most ahead : ℕ) (rest : List ℕ) (verdict : Verdict) :
-    Type 0 where
+pub record IsJudgedAtEnd (limits : Bounds) (events : List Event) (most ahead : ℕ) (rest : List ℕ)
+    (verdict : LateVerdict) : Type 0 where
   pub ends : BeginsNoEvent rest
-  pub verdict_is : IsVerdict limits events most (Some ahead) verdict
+  pub verdict_is : IsLateVerdict limits events most ahead verdict
 
 -- this is the verdict on the first events, whatever comes behind them, or on all events
-pub record IsJudged (most ahead : ℕ) (bytes : List ℕ) (verdict : Verdict) : Type 0 where
+pub record IsJudged (most ahead : ℕ) (bytes : List ℕ) (verdict : LateVerdict) : Type 0 where
   pub limits : Bounds
   pub events : List Event
   pub rest : List ℕ
   pub stream : IsStream bytes limits events rest
-  pub judged : IsFound limits events most (Some ahead) verdict ⊎ IsJudgedAtEnd limits events most ahead rest verdict
+  pub judged : IsLateFound limits events most ahead verdict ⊎ IsJudgedAtEnd limits events most ahead rest verdict
 
 -- the first events are explained, and these bytes come behind
 pub record AreExplainedBefore (bytes : List ℕ) (events : List Event) (rest : List ℕ) : Type 0 where
@@ -104,9 +106,10 @@ pub record AreTooMany (bytes : List ℕ) : Type 0 where
 -- what is found of a stream of these bytes
 abbrev pub IsFindingOf : ℕ → ℕ → List ℕ → Finding → Type 0
 IsFindingOf most ahead bytes (found.Explained calls) = IsExplained bytes calls
-IsFindingOf most ahead bytes (found.Stuck k) = IsJudged most ahead bytes (Stuck k)
-IsFindingOf most ahead bytes (found.StuckWithin k m) = IsJudged most ahead bytes (StuckWithin k m)
-IsFindingOf most ahead bytes (found.Undecided k why) = IsJudged most ahead bytes (Undecided k why)
+IsFindingOf most ahead bytes (found.Stuck k) = IsJudged most ahead bytes (Is (Stuck k))
+IsFindingOf most ahead bytes (found.StuckWithin k m) = IsJudged most ahead bytes (Is (StuckWithin k m))
+IsFindingOf most ahead bytes (found.Undecided k why) = IsJudged most ahead bytes (Is (Undecided k why))
+IsFindingOf most ahead bytes (found.Late k) = IsJudged most ahead bytes (Late k)
 IsFindingOf most ahead bytes (found.Misplaced k why) = IsBadAt bytes k (BringsMisplaced why)
 IsFindingOf most ahead bytes (found.BadEvent k why) = IsBadAt bytes k (BringsNoEvent why)
 IsFindingOf most ahead bytes (found.Cut k) = IsBadAt bytes k IsCut
@@ -138,9 +141,14 @@ IsOfForm verdict.Explained = ⊥
 IsOfForm (verdict.Broken k) = ⊥
 IsOfForm _ = Unit {0}
 
+abbrev pub IsLateOfForm : LateVerdict → Type 0
+IsLateOfForm (Is verdict) = IsOfForm verdict
+IsLateOfForm (Late k) = Unit {0}
+
 -- the verdict that is found
-abbrev pub verdict_of : Finding → Option Verdict
-verdict_of (found.Stuck k) = Some (verdict.Stuck k)
-verdict_of (found.StuckWithin k m) = Some (verdict.StuckWithin k m)
-verdict_of (found.Undecided k why) = Some (verdict.Undecided k why)
+abbrev pub verdict_of : Finding → Option LateVerdict
+verdict_of (found.Stuck k) = Some (Is (verdict.Stuck k))
+verdict_of (found.StuckWithin k m) = Some (Is (verdict.StuckWithin k m))
+verdict_of (found.Undecided k why) = Some (Is (verdict.Undecided k why))
+verdict_of (found.Late k) = Some (Late k)
 verdict_of _ = None

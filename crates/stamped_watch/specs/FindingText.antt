@@ -36,6 +36,7 @@ finding_text (Explained calls) = codes "ok " ++ decimal calls
 finding_text (Stuck k) = codes "stuck " ++ decimal k
 finding_text (StuckWithin k m) = codes "undecided " ++ decimal k
 finding_text (Undecided k why) = codes "undecided " ++ decimal k
+finding_text (found.Late k) = codes "undecided " ++ decimal k
 finding_text (found.Misplaced k why) = bad_text k (place_text why)
 finding_text (found.BadEvent k why) = bad_text k (kind_text why)
 finding_text (found.Cut k) = bad_text k (codes "cut")

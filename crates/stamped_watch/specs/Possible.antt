@@ -1,9 +1,7 @@
 -- Which replies were possible where a stream is stuck.
-use Rattle.std.specs.Prelude.{ℕ, ◌≡◌, ◌++◌, List, [], ◌∷◌, length, Option, Some, None, Vec, codes}
+use Rattle.std.specs.Prelude.{ℕ, ◌≡◌, ◌++◌, List, [], ◌∷◌, Option, Some, None, Vec, codes}
 use Rattle.std.specs.List.{flat_map}
-use Rattle.std.specs.Io.KnownBytes.{Consumes}
 use Rattle.std.specs.declared.alloc.Global.{Global}
-use Rattle.stamp_cli.specs.Results.{Results, taken_since}
 use Rattle.stamp_core.specs.Limits.{Bounds}
 use Rattle.stamp_core.specs.Texts.{reply_text}
 use Rattle.stamp_core.specs.declared.call.Call.{Call}
@@ -11,19 +9,20 @@ use Rattle.stamp_core.specs.declared.lock_decision.LockReply.{LockReply}
 use Rattle.stamp_core.specs.declared.reply.Reply.{Reply}
 use Rattle.stamp_watch.specs.declared.ended_call.EndedCall.{EndedCall}
 use Rattle.stamp_watch.specs.declared.event.Event.{Event}
-use Rattle.stamp_watch.specs.declared.online.Judge.{Judge}
-use Rattle.stamp_watch.specs.Possible.{ArePossibleAmong, KeepsBase, plain_replies}
+use Rattle.stamp_watch.specs.declared.late.LateJudge.{LateJudge}
+use Rattle.stamp_watch.specs.Possible.{ArePossibleAmong, plain_replies}
+use Rattle.stamp_watch.specs.PossibleLate.{KeepsLater}
 use Rattle.stamped_watch.specs.declared.finding.Finding.{Finding}
 use Rattle.stamped_watch.specs.declared.finding.Finding.TheVariants.{Stuck}
 use Rattle.stamped_watch.specs.Stream.{IsStream}
 
 -- the bytes are a header, events and a rest; what the judge of the events keeps is of those
-pub record KeepsOf (bytes : List ℕ) (inner : Judge) : Type 0 where
+pub record KeepsOf (bytes : List ℕ) (inner : LateJudge) : Type 0 where
   pub limits : Bounds
   pub events : List Event
   pub rest : List ℕ
   pub stream : IsStream bytes limits events rest
-  pub keeps : KeepsBase limits events inner
+  pub keeps : KeepsLater limits events inner
 
 -- of all replies that the call may be given these are the possible ones, at the event of this number in the stream
 pub record ArePossibleAt (bytes : List ℕ) (k : ℕ) (call : Call) (found : List Reply) : Type 0 where

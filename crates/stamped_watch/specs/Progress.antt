@@ -34,7 +34,7 @@ pub record IsSoFarOf (ahead : ℕ) (bytes : List ℕ) (so_far : SoFar) : Type 0 
   pub stream : IsStream bytes limits events rest
   pub short : length rest < 16
   pub calls_are : so_far.calls ≡ calls_in events
-  pub explained_is : IsExplainedUpTo limits events ahead so_far.explained
+  pub explained_is : IsExplainedUpTo limits events (2 * ahead + 64) so_far.explained
   pub under_way_are : so_far.under_way ≡ open_calls events
 
 -- the line of that

@@ -4,9 +4,9 @@ use Rattle.std.specs.List.{count_by}
 use Rattle.stamp_core.specs.Limits.{Bounds}
 use Rattle.stamp_watch.specs.declared.ended_call.EndedCall.{EndedCall}
 use Rattle.stamp_watch.specs.declared.event.Event.{Event}
-use Rattle.stamp_watch.specs.declared.online.Judge.{Judge}
+use Rattle.stamp_watch.specs.declared.late.LateJudge.{LateJudge}
 use Rattle.stamp_watch.specs.EndedCall.{ended_from}
-use Rattle.stamp_watch.specs.Judge.{HasFoundNothing, IsJudge}
+use Rattle.stamp_watch.specs.LateJudge.{HasFoundNothingLater, IsLateJudge}
 use Rattle.stamped_watch.specs.declared.stream_judge.StreamJudge.{StreamJudge}
 use Rattle.stamped_watch.specs.Finding.{IsFoundOf, is_beginning, is_withdrawal}
 use Rattle.stamped_watch.specs.Possible.{KeepsOf}
@@ -14,12 +14,12 @@ use Rattle.stamped_watch.specs.Stream.{IsStream}
 
 -- these bytes are a header and events, which were given to this judge; nothing was found of them, and so many calls
 -- began and were withdrawn
-pub record IsUnderWay (most ahead : ℕ) (taken : List ℕ) (begun withdrawn : ℕ) (inner : Judge) : Type 0 where
+pub record IsUnderWay (most ahead : ℕ) (taken : List ℕ) (begun withdrawn : ℕ) (inner : LateJudge) : Type 0 where
   pub limits : Bounds
   pub events : List Event
   pub stream : IsStream taken limits events []
-  pub judge_of : IsJudge limits most ahead events inner
-  pub none : HasFoundNothing inner
+  pub judge_of : IsLateJudge limits most ahead events inner
+  pub none : HasFoundNothingLater inner
   pub begun_is : begun ≡ count_by is_beginning events
   pub withdrawn_is : withdrawn ≡ count_by is_withdrawal events
 
@@ -54,7 +54,16 @@ pub record IsFedSome (judge : StreamJudge) : Type 0 where
   pub fed : List ℕ
   pub is : IsFed most ahead fed judge
 
+-- what its judge keeps is of these bytes
+abbrev pub KeepsFed : List ℕ → StreamJudge → Type 0
+KeepsFed fed judge = MatchOption judge.judge ⊤ (λ inner. KeepsOf fed inner)
+
+pub record KeepsFedSome (judge : StreamJudge) : Type 0 where
+  pub fed : List ℕ
+  pub keeps : KeepsFed fed judge
+
 -- the call that the event with this number ends, if it begins among the events that are kept
-abbrev pub ended_in : Option Judge → ℕ → Option EndedCall
+abbrev pub ended_in : Option LateJudge → ℕ → Option EndedCall
 ended_in None number = None
-ended_in (Some inner) number = ended_from inner.course.first inner.course.events.items number
+ended_in (Some inner) number =
+    ended_from inner.delay.judge.course.first inner.delay.judge.course.events.items number

@@ -67,9 +67,8 @@ impl fmt::Display for FindingText {
         match self.0 {
             Finding::Explained(calls) => write!(f, "ok {calls}"),
             Finding::Stuck(event) => write!(f, "stuck {event}"),
-            Finding::StuckWithin(event, _) | Finding::Undecided(event, _) => {
-                write!(f, "undecided {event}")
-            }
+            Finding::StuckWithin(event, _) | Finding::Undecided(event, _) | Finding::Late(event) =>
+                write!(f, "undecided {event}"),
             Finding::Misplaced(event, why) => write!(f, "bad {event} {}", PlaceText(why)),
             Finding::BadEvent(event, why) => write!(f, "bad {event} {}", KindText(why)),
             Finding::Cut(event) => write!(f, "bad {event} cut"),

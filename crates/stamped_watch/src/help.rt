@@ -6,6 +6,6 @@ pub(crate) const HELP: &str = "stamped_watch [--progress] [--most N] [--ahead N]
   writes ok N (calls), stuck E, undecided E, bad E WHY or bad header WHY; status 0 for ok alone
   --progress on standard error tells how far the stream is judged, each 2^24 events
   --most N   before an event so many configurations at most (1000000)
-  --ahead N  the end of a call is looked for among so many events (4194304, at most 4294967296)
+  --ahead N  a call open for nearly so many events is judged as if it began later (4194304, at most 4294967296)
 stamped_watch --help
 ";

@@ -2,7 +2,7 @@
 //! were possible; and else why it is not judged further.
 
 ghost use Rattle.std.specs.Prelude.{◌≡◌, IfOk, Some, string_bytes};
-ghost use Rattle.stamped_watch.specs.Note.{IsNote, ahead_text, end_text, ended_text, note_text, stuck_text, text_in, within_text};
+ghost use Rattle.stamped_watch.specs.Note.{IsNote, ahead_text, end_text, ended_text, late_text, note_text, stuck_text, text_in, within_text};
 ghost use Rattle.stamped_watch.specs.Possible.{items_in};
 
 use crate::finding::Finding;
@@ -73,6 +73,15 @@ fn ahead_text(alloc: Global, event: u64, ahead: usize) -> Result<String, AllocEr
     )
 }
 
+/// That a call was open for long, which began late.
+fn late_text(alloc: Global, ahead: usize) -> Result<String, AllocError>
+    ensures { IfOk result (λ text. string_bytes text ≡ late_text ahead) }
+{
+    format!(in alloc;
+        "stamped_watch: a call was open for nearly {ahead} events; a larger --ahead may tell more"
+    )
+}
+
 /// The note of what was found, where this call ends at the event at which the stream is stuck.
 fn note_of(
     alloc: Global,
@@ -92,6 +101,7 @@ fn note_of(
         (Finding::Undecided(event, Why::TooFar), _) => {
             Ok(Some(ahead_text(alloc, *event, asked.ahead)?))
         }
+        (Finding::Late(_), _) => Ok(Some(late_text(alloc, asked.ahead)?)),
         _ => Ok(None),
     }
 }

@@ -6,10 +6,10 @@ ghost use Rattle.stamp_cli.specs.Serving.{HasWritten, RefusesAsDue, WritesAnswer
 ghost use Rattle.stamp_cli.specs.declared.faults.ServeFault.TheVariants.{Memory, ReadFault, WriteFault};
 ghost use Rattle.stamped_watch.specs.Progress.{HasTold};
 ghost use Rattle.stamped_watch.specs.Possible.{ArePossibleFor, ArePossibleIn, items_in};
-ghost use Rattle.stamped_watch.specs.StreamJudge.{IsFed, IsFedSome};
+ghost use Rattle.stamped_watch.specs.StreamJudge.{IsFed, KeepsFed, KeepsFedSome};
 ghost use Rattle.stamped_watch.specs.Served.{AnswersStream, HasReadOn, HasWatched, IsAnsweredBy, IsFoundOfSource, line_of};
 ghost use Rattle.stamped_watch.specs.Progress.{IsNewTelling};
-ghost use Rattle.stamped_watch.specs.inner.Served.{IsFedAll};
+ghost use Rattle.stamped_watch.specs.inner.Served.{KeepsAll};
 
 use crate::finding::Finding;
 use crate::finding_text::line_of_finding;
@@ -52,7 +52,7 @@ fn fed_from<S: Source, T: Sink>(
     ensures only { IsReadOrMemoryFault result }
     ensures told { HasTold asked (S.left source.old) (S.left source.new) (S.reads source.old) (S.reads source.new)
         (T.sent told.old) (T.sent told.new) (T.writes told.old) (T.writes told.new) result }
-    ensures fed { IfOk result (λ _. IsFedAll asked (S.left source.old) (S.left source.new)
+    ensures keeps { IfOk result (λ _. KeepsAll (S.left source.old) (S.left source.new)
         (S.reads source.old) (S.reads source.new) judge.new) }
 {
     'source: loop {
@@ -79,8 +79,8 @@ fn ended_at(finding: &Finding, judge: &StreamJudge) -> Option<EndedCall> {
 /// The replies that this call could have had, which returns at the event with this number. None where they can't be
 /// told, or memory for them is refused.
 fn possible_there(judge: &StreamJudge, event: u64, ended: &EndedCall) -> Option<Vec<Reply>>
-    requires { IsFedSome judge.now }
-    ensures { (most ahead : ℕ) (fed : List ℕ) → IsFed most ahead fed judge.now
+    requires { KeepsFedSome judge.now }
+    ensures { (fed : List ℕ) → KeepsFed fed judge.now
         → ArePossibleIn fed event ended.now.call (items_in result) }
 {
     match judge.possible_at(event, &ended.call) {
@@ -95,8 +95,8 @@ fn possible_for(
     ended: &Option<EndedCall>,
     judge: &StreamJudge,
 ) -> Option<Vec<Reply>>
-    requires { IsFedSome judge.now }
-    ensures { (most ahead : ℕ) (fed : List ℕ) → IsFed most ahead fed judge.now
+    requires { KeepsFedSome judge.now }
+    ensures { (fed : List ℕ) → KeepsFed fed judge.now
         → ArePossibleFor fed finding.now ended.now (items_in result) }
 {
     match (finding, ended) {

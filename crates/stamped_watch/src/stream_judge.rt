@@ -6,25 +6,25 @@
 ghost use Rattle.std.specs.Prelude.{◌≡◌, ◌+◌, ◌^◌, ◌<◌, ◌++◌, [], IfOk, IsSome, MatchOption, OnOk, List, None, length, ℕ};
 ghost use Rattle.stamp_core.specs.Limits.{Bounds};
 ghost use Rattle.stamp_watch.specs.declared.event.Event.{Event};
-ghost use Rattle.stamp_watch.specs.Judge.{HasFoundNothing, IsJudge, IsJudgeOfSome};
+ghost use Rattle.stamp_watch.specs.LateJudge.{HasFoundNothingLater, IsLateJudge, IsLateJudgeOfSome};
 ghost use Rattle.stamped_watch.specs.EventBytes.{kind_of};
 ghost use Rattle.stamped_watch.specs.Finding.{IsFindingOf, IsSoFar};
 ghost use Rattle.stamped_watch.specs.Possible.{ArePossibleIn, items_in};
 ghost use Rattle.stamped_watch.specs.Progress.{IsSoFarOf};
-ghost use Rattle.stamped_watch.specs.StreamJudge.{ended_in, HasTaken, IsFed, IsFedSome};
-ghost use Rattle.stamped_watch.specs.inner.StreamJudge.{AreCounted, HasTakenSome, IsFoundUnless, IsGivenOne, IsOneMore, KeepsPart, KeepsSoFar};
+ghost use Rattle.stamped_watch.specs.StreamJudge.{ended_in, HasTaken, IsFed, IsFedSome, KeepsFed, KeepsFedSome};
+ghost use Rattle.stamped_watch.specs.inner.StreamJudge.{AreCounted, HasTakenSome, IsFoundUnless, IsGivenOne, IsOneMore, KeepsPart, KeepsSoFar, KeepsStill};
 
 use crate::event_bytes::event_in;
-use crate::finding::{Finding, finding_of};
+use crate::finding::{Finding, broken_at, finding_of, is_explained};
 use crate::header::header_in;
 use crate::misplaced::why_misplaced;
 use crate::so_far::SoFar;
 use stamp_core::{Call, Reply};
-use stamp_watch::{EndedCall, Event, Judge, StreamEvent, Verdict};
+use stamp_watch::{EndedCall, Event, LateJudge, StreamEvent};
 use std::alloc::{AllocError, Global};
 
-/// Judges a stream of a lock's events while its bytes come, in pieces of any length. It judges as a `Judge` does: an
-/// event is looked at once it is known how each call ends that began before it, or that a call is open for too long.
+/// Judges a stream of a lock's events while its bytes come, in pieces of any length. It judges as a `LateJudge` does:
+/// an event is looked at once it is known how each call ends that began before it, or that a call is open for long.
 /// Once something is found of the stream it looks no further. It keeps few events, and fewer than 16 bytes. After an
 /// `Err` it is of no more use.
 #[derive(Drop)]
@@ -35,7 +35,7 @@ pub(crate) struct StreamJudge {
     /// The bytes of a header or an event that is not whole.
     part: Vec<u8>,
     /// The judge of the events, once there is a header.
-    judge: Option<Judge>,
+    judge: Option<LateJudge>,
     /// So many calls began,
     begun: u64,
     /// and so many were withdrawn.
@@ -44,44 +44,47 @@ pub(crate) struct StreamJudge {
 }
 
 /// Gives one more event to the judge: what is found then.
-fn given(judge: &mut Judge, event: &StreamEvent) -> Result<Option<Finding>, AllocError>
-    requires some { IsJudgeOfSome judge.old }
-    requires none { HasFoundNothing judge.old }
+fn given(judge: &mut LateJudge, event: &StreamEvent) -> Result<Option<Finding>, AllocError>
+    requires some { IsLateJudgeOfSome judge.old }
+    requires none { HasFoundNothingLater judge.old }
     requires kind { IsSome (kind_of event.now) }
     ensures found { IfOk result (λ found. (limits : Bounds) (most ahead : ℕ) (run : List Event)
-        → IsJudge limits most ahead run judge.old
+        → IsLateJudge limits most ahead run judge.old
         → IsGivenOne limits most ahead run event.now judge.new found) }
     ensures kept { IfOk result (λ _. KeepsSoFar event.now judge.old judge.new) }
 {
     if judge.is_full() {
         return Ok(Some(Finding::Full));
     }
-    match judge.push(event)? {
-        None => Ok(None),
-        Some(verdict) => match verdict {
-            Verdict::Broken(number) => Ok(Some(Finding::Misplaced(number, why_misplaced(event)))),
-            _ => Ok(Some(finding_of(verdict))),
-        },
+    let found = judge.push(event)?;
+    let Some(verdict) = found else {
+        return Ok(None);
+    };
+    match broken_at(verdict) {
+        Some(number) => Ok(Some(Finding::Misplaced(number, why_misplaced(event)))),
+        None => Ok(Some(finding_of(verdict))),
     }
 }
 
 /// What is found where no more events come: this, if all of them are explained.
-fn found_unless(judge: &Judge, explained: Finding) -> Result<Finding, AllocError>
-    requires some { IsJudgeOfSome judge.now }
-    requires none { HasFoundNothing judge.now }
-    ensures { IfOk result (λ finding. (limits : Bounds) (most ahead : ℕ) (run : List Event)
-        → IsJudge limits most ahead run judge.now
+fn found_unless(judge: &mut LateJudge, explained: Finding) -> Result<Finding, AllocError>
+    requires some { IsLateJudgeOfSome judge.old }
+    requires none { HasFoundNothingLater judge.old }
+    ensures found { IfOk result (λ finding. (limits : Bounds) (most ahead : ℕ) (run : List Event)
+        → IsLateJudge limits most ahead run judge.old
         → IsFoundUnless limits most ahead run explained finding) }
+    ensures kept { IfOk result (λ _. KeepsStill judge.old judge.new) }
 {
-    match judge.finish()? {
-        Verdict::Explained => Ok(explained),
-        verdict => Ok(finding_of(verdict)),
+    let verdict = judge.finish()?;
+    if is_explained(verdict) {
+        return Ok(explained);
     }
+    Ok(finding_of(verdict))
 }
 
 impl StreamJudge {
     /// The judge of a stream of which nothing has come. More than `most` configurations before an event are too many
-    /// to go on, and so is a call that none of `ahead` events behind its beginning ends.
+    /// to go on. A call begins later that is open for all but 64 of `ahead` events.
     pub(crate) fn new(alloc: Global, most: u64, ahead: usize) -> StreamJudge
         ensures fed { IsFed most ahead [] result }
         ensures known { IsFedSome result }
@@ -109,7 +112,7 @@ impl StreamJudge {
     {
         match header_in(bytes) {
             Ok(limits) => {
-                let judge = Judge::new(self.alloc, limits, self.most, self.ahead)?;
+                let judge = LateJudge::new(self.alloc, limits, self.most, self.ahead)?;
                 self.judge = Some(judge);
             }
             Err(fault) => self.found = Some(Finding::BadHeader(fault)),
@@ -214,20 +217,23 @@ impl StreamJudge {
         Ok(self.found)
     }
 
-    /// What is found of the stream if it ends here: a call that has not ended never ends.
-    pub(crate) fn end(&self) -> Result<Finding, AllocError>
-        requires { IsFedSome self.now }
-        ensures { IfOk result (λ finding. (most ahead : ℕ) (fed : List ℕ) → IsFed most ahead fed self.now
+    /// What is found of the stream if it ends here: a call that has not ended never ends. It takes no more bytes then.
+    pub(crate) fn end(&mut self) -> Result<Finding, AllocError>
+        requires { IsFedSome self.old }
+        ensures found { IfOk result (λ finding. (most ahead : ℕ) (fed : List ℕ) → IsFed most ahead fed self.old
             → IsFindingOf most ahead fed finding) }
+        ensures kept { IfOk result (λ _. (most ahead : ℕ) (fed : List ℕ) → IsFed most ahead fed self.old
+            → KeepsFed fed self.new) }
     {
         if let Some(finding) = self.found {
             return Ok(finding);
         }
-        let Some(judge) = &self.judge else {
+        let Some(judge) = &mut self.judge else {
             return Ok(Finding::NoHeader);
         };
         if !self.part.is_empty() {
-            return found_unless(judge, Finding::Cut(judge.count()));
+            let number = judge.count();
+            return found_unless(judge, Finding::Cut(number));
         }
         let calls = self.begun.saturating_sub(self.withdrawn);
         found_unless(judge, Finding::Explained(calls))
@@ -264,8 +270,8 @@ impl StreamJudge {
         number: u64,
         call: &Call,
     ) -> Result<Option<Vec<Reply>>, AllocError>
-        requires { IsFedSome self.now }
-        ensures { IfOk result (λ told. (most ahead : ℕ) (fed : List ℕ) → IsFed most ahead fed self.now
+        requires { KeepsFedSome self.now }
+        ensures { IfOk result (λ told. (fed : List ℕ) → KeepsFed fed self.now
             → ArePossibleIn fed number call.now (items_in told)) }
     {
         match &self.judge {

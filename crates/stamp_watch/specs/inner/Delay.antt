@@ -6,6 +6,7 @@ use Rattle.stamp_watch.specs.Course.{IsRest}
 use Rattle.stamp_watch.specs.Delay.{IsDelayed, IsHandedOn, IsShownIfAny, AreLate}
 use Rattle.stamp_watch.specs.Issued.{LosesNothing}
 use Rattle.stamp_watch.specs.Judge.{IsJudge}
+use Rattle.stamp_watch.specs.Possible.{KeepsBase}
 use Rattle.stamp_watch.specs.Verdict.{AreOfLock}
 use Rattle.stamp_watch.specs.Waiting.{IsCounted}
 use Rattle.stamp_watch.specs.Ahead.{IsSpared, lane_of}
@@ -28,6 +29,7 @@ pub record HasBegun (limits : Bounds) (most ahead : ℕ) (run : List Event) (e :
   pub counted : IsCounted delay.waiting
   pub given : List Event
   pub judge_of : IsJudge limits most ahead given delay.judge
+  pub keeps : KeepsBase limits given delay.judge
   pub handed : IsHandedOn (ahead - 64) run given delay.aside.items delay.waiting.events.items delay.first_late
       delay.passed
   pub shown : IsShownIfAny limits (run ++ e ∷ []) given delay.aside.items (delay.waiting.events.items ++ e ∷ [])

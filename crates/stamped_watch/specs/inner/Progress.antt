@@ -1,15 +1,12 @@
 -- What was told so far.
-use Rattle.std.specs.Prelude.{ℕ, ◌≡◌, ◌+◌, ◌<◌, ◌≤◌, ◌++◌, Bool, true, false, not, List, length, Option, Result, Ok}
-use Rattle.std.specs.Prelude.{Some, None}
+use Rattle.std.specs.Prelude.{ℕ, ◌≡◌, ◌≤◌, Bool, true, false, not, List, length, Option}
+use Rattle.std.specs.Prelude.{None}
 use Rattle.std.specs.List.{list_any}
-use Rattle.std.specs.declared.alloc.AllocError.{AllocError}
 use Rattle.stamp_cli.specs.Results.{Results}
 use Rattle.stamp_cli.specs.TakesNone.{takes_none}
-use Rattle.stamped_watch.specs.declared.finding.Finding.{Finding}
-use Rattle.stamped_watch.specs.declared.orders.Watching.{Watching}
 use Rattle.stamped_watch.specs.declared.stream_judge.StreamJudge.{StreamJudge}
 use Rattle.stamped_watch.specs.declared.telling.Telling.{Telling}
-use Rattle.stamped_watch.specs.Progress.{IsLineOf, IsWritten, Tells, TellsAll, mark}
+use Rattle.stamped_watch.specs.Progress.{IsLineOf, IsWritten}
 use Rattle.stamped_watch.specs.StreamJudge.{IsFed}
 
 -- the same, but for whether each line was written whole

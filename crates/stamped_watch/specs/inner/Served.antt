@@ -5,7 +5,7 @@ use Rattle.stamp_cli.specs.Results.{Makes, Results, taken_since}
 use Rattle.stamped_watch.specs.declared.orders.Watching.{Watching}
 use Rattle.stamped_watch.specs.declared.stream_judge.StreamJudge.{StreamJudge}
 use Rattle.stamped_watch.specs.declared.telling.Telling.{Telling}
-use Rattle.stamped_watch.specs.StreamJudge.{IsFed}
+use Rattle.stamped_watch.specs.StreamJudge.{IsFed, KeepsFed}
 use Rattle.stamped_watch.specs.Progress.{HasToldSoFar}
 
 -- each read took a byte, the judge was fed all that they took, and it has found nothing
@@ -25,10 +25,9 @@ pub record IsFedAndTold (asked : Watching) (left left' : Option (List ℕ)) (old
   pub few : length chunk ≤ 65536
   pub told : HasToldSoFar asked fed_so.bytes telling sent sent' writes writes'
 
--- the judge was fed all that the reads took
-pub record IsFedAll (asked : Watching) (left left' : Option (List ℕ)) (old new : Results) (judge : StreamJudge) : Type 0
-  where
-    pub bytes : List ℕ
-    pub took : Consumes left left' bytes
-    pub count : length bytes ≡ taken_since old new
-    pub fed : IsFed asked.most asked.ahead bytes judge
+-- what the judge keeps is of all that the reads took
+pub record KeepsAll (left left' : Option (List ℕ)) (old new : Results) (judge : StreamJudge) : Type 0 where
+  pub bytes : List ℕ
+  pub took : Consumes left left' bytes
+  pub count : length bytes ≡ taken_since old new
+  pub keeps : KeepsFed bytes judge

@@ -4,13 +4,13 @@ use Rattle.std.specs.Prelude.{Option, Some, None}
 use Rattle.stamp_core.specs.Limits.{Bounds}
 use Rattle.stamp_watch.specs.declared.event.Event.{Event}
 use Rattle.stamp_watch.specs.declared.event.Event.TheVariants.{Begins, Returns, Withdraws}
-use Rattle.stamp_watch.specs.declared.online.Judge.{Judge}
-use Rattle.stamp_watch.specs.declared.verdict.Verdict.{Verdict}
-use Rattle.stamp_watch.specs.Judge.{HasFoundNothing, IsJudge}
-use Rattle.stamp_watch.specs.Judging.{IsFound}
-use Rattle.stamp_watch.specs.Possible.{KeepsBase}
+use Rattle.stamp_watch.specs.declared.late.LateJudge.{LateJudge}
+use Rattle.stamp_watch.specs.declared.late_verdict.LateVerdict.{LateVerdict}
+use Rattle.stamp_watch.specs.Late.{IsLateFound, IsLateVerdict}
+use Rattle.stamp_watch.specs.LateJudge.{HasFoundNothingLater, IsLateJudge}
+use Rattle.stamp_watch.specs.PossibleLate.{KeepsLater}
 use Rattle.stamp_watch.specs.Run.{AreExplained}
-use Rattle.stamp_watch.specs.Verdict.{AreOfLock, IsVerdict}
+use Rattle.stamp_watch.specs.Verdict.{AreOfLock}
 use Rattle.stamped_watch.specs.declared.finding.Finding.{Finding}
 use Rattle.stamped_watch.specs.declared.finding.Finding.TheVariants as found
 use Rattle.stamped_watch.specs.declared.misplaced.Misplaced.{Misplaced}
@@ -20,15 +20,15 @@ use Rattle.stamped_watch.specs.StreamJudge.{HasTaken}
 
 -- a verdict on this run is found, which holds whatever comes later
 pub record IsFoundSo (limits : Bounds) (run : List Event) (most ahead : ℕ) (finding : Finding) : Type 0 where
-  pub verdict : Verdict
+  pub verdict : LateVerdict
   pub is : verdict_of finding ≡ Some verdict
-  pub holds : IsFound limits run most (Some ahead) verdict
+  pub holds : IsLateFound limits run most ahead verdict
 
 -- a verdict is found on this run as it ends here
 pub record IsVerdictHere (limits : Bounds) (run : List Event) (most ahead : ℕ) (finding : Finding) : Type 0 where
-  pub verdict : Verdict
+  pub verdict : LateVerdict
   pub is : verdict_of finding ≡ Some verdict
-  pub holds : IsVerdict limits run most (Some ahead) verdict
+  pub holds : IsLateVerdict limits run most ahead verdict
 
 -- the run is explained, and the event with this number may not come behind it
 pub record IsMisplacedAt (limits : Bounds) (run : List Event) (e : Event) (k : ℕ) (why : Misplaced) : Type 0 where
@@ -44,19 +44,24 @@ IsFoundWith limits most ahead run e (found.Misplaced k why) = IsMisplacedAt limi
 IsFoundWith limits most ahead run e finding = IsFoundSo limits (run ++ e ∷ []) most ahead finding
 
 -- nothing was found, and the judge was given the event
-pub record IsGoingOn (limits : Bounds) (most ahead : ℕ) (run : List Event) (judge : Judge) : Type 0 where
-  pub judge_of : IsJudge limits most ahead run judge
-  pub none : HasFoundNothing judge
+pub record IsGoingOn (limits : Bounds) (most ahead : ℕ) (run : List Event) (judge : LateJudge) : Type 0 where
+  pub judge_of : IsLateJudge limits most ahead run judge
+  pub none : HasFoundNothingLater judge
 
 -- what comes of the event
-abbrev pub IsGivenOne : Bounds → ℕ → ℕ → List Event → Event → Judge → Option Finding → Type 0
+abbrev pub IsGivenOne : Bounds → ℕ → ℕ → List Event → Event → LateJudge → Option Finding → Type 0
 IsGivenOne limits most ahead run e judge None = IsGoingOn limits most ahead (run ++ e ∷ []) judge
 IsGivenOne limits most ahead run e judge (Some finding) = IsFoundWith limits most ahead run e finding
 
 -- what the judge keeps is of the run, or of the run with the event
-abbrev pub KeepsSoFar : Event → Judge → Judge → Type 0
-KeepsSoFar e old new = (limits : Bounds) (most ahead : ℕ) (run : List Event) → IsJudge limits most ahead run old →
-    KeepsBase limits run new ⊎ KeepsBase limits (run ++ e ∷ []) new
+abbrev pub KeepsSoFar : Event → LateJudge → LateJudge → Type 0
+KeepsSoFar e old new = (limits : Bounds) (most ahead : ℕ) (run : List Event) → IsLateJudge limits most ahead run old →
+    KeepsLater limits run new ⊎ KeepsLater limits (run ++ e ∷ []) new
+
+-- it keeps what is of the run
+abbrev pub KeepsStill : LateJudge → LateJudge → Type 0
+KeepsStill old new = (limits : Bounds) (most ahead : ℕ) (run : List Event) → IsLateJudge limits most ahead run old →
+    KeepsLater limits run new
 
 -- the run is explained, and this is found; or a verdict is
 pub record IsExplainedRun (limits : Bounds) (run : List Event) : Type 0 where

@@ -9,10 +9,11 @@ use Rattle.stamp_cli.specs.TakesNone.{takes_none}
 use Rattle.stamp_cli.proofs.MadeSoFar as so_far
 use Rattle.stamped_watch.specs.declared.finding.Finding.{Finding}
 use Rattle.stamped_watch.specs.Finding.{IsFindingOf, IsSoFar}
-use Rattle.stamped_watch.specs.StreamJudge.{IsFed}
+use Rattle.stamped_watch.specs.StreamJudge.{KeepsFed}
 use Rattle.stamped_watch.proofs.ReadingOn.{all_counted, all_took, found_at_end, found_of_all, has_read_on, makes_none}
 use Rattle.stamped_watch.proofs.ReadingOn.{not_of_reading}
 use Rattle.stamped_watch.proofs.Streaming.{fed_short}
+use Rattle.stamped_watch.proofs.Taking.{keeps_fed}
 use Rattle.stamped_watch.proofs.LinesTold.{all_of_err, has_told, tells_more, told_at_first, told_to_end}
 use Rattle.stamped_watch.proofs.serving.fed_from.Goals as goal
 
@@ -82,7 +83,7 @@ returns-then-taken-eq0-clause-found g c =
     (ap Ok c.if-taken-eq0.true) (c.in-Ok.ensures.bytes.1 c.if-taken-eq0.true (grind (arith, common_steps)))
     (subst (λ (xs : List ℕ). IsFindingOf c.args.asked.most c.args.asked.ahead xs c.in_ok-end.field-0)
     (sym (append-nil inv.bytes) ∙ ap (λ (xs : List ℕ). inv.bytes ++ xs) (sym none))
-    (c.in_ok-end.ensures c.args.asked.most c.args.asked.ahead inv.bytes inv.fed))
+    (c.in_ok-end.ensures.found c.args.asked.most c.args.asked.ahead inv.bytes inv.fed))
 
 pub feed-requires-clause-before : goal.feed-requires-clause-before
 feed-requires-clause-before g c =
@@ -211,8 +212,8 @@ returns-in-Some-clause-told g c =
     ((c.feed.ensures.told c.args.asked inv.bytes (g.T.Sink.sent c.args.told.now) (g.T.Sink.writes c.args.told.now)
     inv.fed c.source.invariant.told).found c.in-Some.finding (search rules))
 
-pub returns-then-taken-eq0-clause-fed : goal.returns-then-taken-eq0-clause-fed
-returns-then-taken-eq0-clause-fed g c =
+pub returns-then-taken-eq0-clause-keeps : goal.returns-then-taken-eq0-clause-keeps
+returns-then-taken-eq0-clause-keeps g c =
     let inv = c.source.invariant.fed_so in
     record {
       bytes = inv.bytes ++ take c.in-Ok.taken c.read.new.buffer;
@@ -222,13 +223,14 @@ returns-then-taken-eq0-clause-fed g c =
       count = all_counted _ (g.S.Source.left c.source.source) _ _ (g.S.Source.reads c.source.source) _ inv.bytes
           (take c.in-Ok.taken c.read.new.buffer) _ inv.reads inv.took c.in-Ok.ensures.kept c.in-Ok.ensures.bytes.0
           (sym c.in-Ok.ensures.bound.1);
-      fed = let none : take c.in-Ok.taken c.read.new.buffer ≡ [] = rw c.if-taken-eq0.true refl in
-          subst (λ (xs : List ℕ). IsFed c.args.asked.most c.args.asked.ahead xs c.source.judge)
-          (sym (append-nil inv.bytes) ∙ ap (λ (xs : List ℕ). inv.bytes ++ xs) (sym none)) inv.fed;
+      keeps = let none : take c.in-Ok.taken c.read.new.buffer ≡ [] = rw c.if-taken-eq0.true refl in
+          subst (λ (xs : List ℕ). KeepsFed xs c.end.new.self)
+          (sym (append-nil inv.bytes) ∙ ap (λ (xs : List ℕ). inv.bytes ++ xs) (sym none))
+          (c.in_ok-end.ensures.kept c.args.asked.most c.args.asked.ahead inv.bytes inv.fed);
     }
 
-pub returns-in-Some-clause-fed : goal.returns-in-Some-clause-fed
-returns-in-Some-clause-fed g c =
+pub returns-in-Some-clause-keeps : goal.returns-in-Some-clause-keeps
+returns-in-Some-clause-keeps g c =
     let inv = c.source.invariant.fed_so in
     record {
       bytes = inv.bytes ++ take c.in-Ok.taken c.read.new.buffer;
@@ -238,5 +240,6 @@ returns-in-Some-clause-fed g c =
       count = all_counted _ (g.S.Source.left c.source.source) _ _ (g.S.Source.reads c.source.source) _ inv.bytes
           (take c.in-Ok.taken c.read.new.buffer) _ inv.reads inv.took c.in-Ok.ensures.kept c.in-Ok.ensures.bytes.0
           (sym c.in-Ok.ensures.bound.1);
-      fed = c.in_ok-finding.ensures.fed c.args.asked.most c.args.asked.ahead inv.bytes inv.fed;
+      keeps = keeps_fed c.args.asked.most c.args.asked.ahead _ c.feed.new.judge
+          (c.in_ok-finding.ensures.fed c.args.asked.most c.args.asked.ahead inv.bytes inv.fed);
     }

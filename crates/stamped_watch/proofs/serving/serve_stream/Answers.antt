@@ -32,7 +32,7 @@ returns-in_err-push-clause-writes g c =
 
 pub returns-clause-ok : goal.returns-clause-ok
 returns-clause-ok g c =
-    let all = c.in_ok-finding.ensures.fed in (
+    let all = c.in_ok-finding.ensures.keeps in (
       c.in_ok-finding.finding,
       c.in_ok-finding.ensures.found,
       record {
@@ -43,8 +43,11 @@ returns-clause-ok g c =
         bytes = all.bytes;
         took = all.took;
         count = all.count;
-        possible = c.possible_for-replies.ensures c.args.asked.most c.args.asked.ahead all.bytes all.fed;
+        possible = c.possible_for-replies.ensures all.bytes all.keeps;
       },
       search rules,
       search rules,
     )
+
+pub possible_for-replies-requires : goal.possible_for-replies-requires
+possible_for-replies-requires g c = let all = c.in_ok-finding.ensures.keeps in record { fed = all.bytes; keeps = all.keeps }

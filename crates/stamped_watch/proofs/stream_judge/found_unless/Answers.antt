@@ -1,11 +1,20 @@
-use Rattle.std.proofs.Common.{Some}
+use Rattle.std.proofs.Common.{inr, sym, ◌∙◌}
+use Rattle.std.proofs.lemmas.Bool.{false≢true}
 use Rattle.stamped_watch.proofs.Ending.{judge_whole}
-use Rattle.stamped_watch.proofs.Misplacing.{form_here}
+use Rattle.stamped_watch.proofs.Misplacing.{late_form_here}
 use Rattle.stamped_watch.proofs.stream_judge.found_unless.Goals as goal
 
 pub finding_of-requires : goal.finding_of-requires
 finding_of-requires c =
     let some = c.requires.some in
     let whole = judge_whole some.limits some.most some.ahead some.run c.args.judge.now some.judge_of c.requires.none in
-    form_here some.limits some.run some.most (Some some.ahead) _ whole
-    (c.in_ok-verdict.ensures.verdict some.limits some.most some.ahead some.run some.judge_of) c.in_default.not-Explained
+    late_form_here some.limits some.run some.most some.ahead _ whole
+    (c.in_ok-verdict.ensures.verdict some.limits some.most some.ahead some.run some.judge_of)
+    (λ same. false≢true (sym c.if-is_explained.false ∙ c.is_explained.ensures.1 same))
+
+pub returns-clause-found : goal.returns-clause-found
+returns-clause-found c limits most ahead run is = inr (record {
+  verdict = c.in_ok-verdict.verdict;
+  is = c.finding_of.ensures;
+  holds = c.in_ok-verdict.ensures.verdict limits most ahead run is;
+})

@@ -5,6 +5,7 @@ use Rattle.stamp_watch.specs.declared.event.Event.{Event}
 use Rattle.stamp_watch.specs.Delay.{AreLate, IsHandedOn, IsShownIfAny}
 use Rattle.stamp_watch.proofs.Delaying.{late_shown, late_then, room_for_one}
 use Rattle.stamp_watch.proofs.HandingOn.{handed_begins, rest_spared}
+use Rattle.stamp_watch.proofs.Kept.{IfOk-both}
 use Rattle.stamp_watch.proofs.delay.Delay.begin_late.Goals as goal
 
 pub push-requires-clause-room : goal.push-requires-clause-room
@@ -17,12 +18,13 @@ push-requires-clause-room c =
     (omega (arith, within))
 
 pub returns-clause-begun : goal.returns-clause-begun
-returns-clause-begun c = IfOk-weaker c.push.result _ _ (λ found given limits most ahead run is whole. record {
+returns-clause-begun c = IfOk-both c.push.result _ _ _ (λ found given kept limits most ahead run is whole. record {
   limits_are = is.limits_are;
   ahead_is = is.ahead_is;
   counted = is.counted;
   given = is.given ++ c.remove-begun.result ∷ [];
   judge_of = given limits most ahead is.given is.judge_of;
+  keeps = kept limits most ahead is.given is.judge_of is.keeps;
   handed = subst (λ (xs : List Event). IsHandedOn (ahead - 64) run (is.given ++ c.remove-begun.result ∷ []) xs
       c.args.self.now.waiting.events.items c.args.self.now.first_late c.args.self.now.passed)
       (sym c.remove-begun.ensures.items)
@@ -47,7 +49,7 @@ returns-clause-begun c = IfOk-weaker c.push.result _ _ (λ found given limits mo
       c.args.self.now.first_late c.args.self.now.passed is.handed c.args.place (lane_of c.args.end.now)
       c.remove-begun.result c.requires.there c.remove-begun.ensures.value) c.requires.few c.in_ok-self.field-0
       c.in_ok-self.ensures.shown);
-}) c.push.ensures.given
+}) c.push.ensures.given c.push.ensures.kept
 
 pub returns-clause-spared : goal.returns-clause-spared
 returns-clause-spared c =

@@ -3,6 +3,7 @@ use Rattle.std.proofs.lemmas.List.{length-append}
 use Rattle.std.proofs.lemmas.Result.{IfOk-weaker}
 use Rattle.stamp_watch.specs.declared.event.Event.{Event}
 use Rattle.stamp_watch.specs.Judge.{IsJudge}
+use Rattle.stamp_watch.specs.Possible.{KeepsBase}
 use Rattle.stamp_watch.proofs.Delaying.{given_of_all, room_of}
 use Rattle.stamp_watch.proofs.delay.Delay.give_all.Goals as goal
 
@@ -62,6 +63,20 @@ give-requires-3-clause-room c =
     (c.in_ok-give-2.ensures.given some.limits some.most some.ahead (some.delayed.given ++ c.as_slice.result.now)
     (c.in_ok-give.ensures.given some.limits some.most some.ahead some.delayed.given some.delayed.judge_of))
     (omega (arith, all, long, room, given, then_given, parts, sum))
+
+pub returns-clause-kept : goal.returns-clause-kept
+returns-clause-kept c = IfOk-weaker c.give-3.result _ _ (λ done kept limits most ahead run is keeps.
+    subst (λ (xs : List Event). KeepsBase limits xs c.give-3.new.judge)
+    (append_assoc (run ++ c.as_slice.result.now) c.as_slices.result.0.now c.as_slices.result.1.now ∙
+    append_assoc run c.as_slice.result.now (c.as_slices.result.0.now ++ c.as_slices.result.1.now) ∙
+    ap (λ (xs : List Event). run ++ (c.as_slice.result.now ++ xs)) c.as_slices.ensures.items ∙
+    ap (λ (xs : List Event). run ++ (xs ++ c.args.self.now.waiting.events.items)) c.as_slice.ensures.value)
+    (kept limits most ahead ((run ++ c.as_slice.result.now) ++ c.as_slices.result.0.now)
+    (c.in_ok-give-2.ensures.given limits most ahead (run ++ c.as_slice.result.now)
+    (c.in_ok-give.ensures.given limits most ahead run is))
+    (c.in_ok-give-2.ensures.kept limits most ahead (run ++ c.as_slice.result.now)
+    (c.in_ok-give.ensures.given limits most ahead run is) (c.in_ok-give.ensures.kept limits most ahead run is keeps))))
+    c.give-3.ensures.kept
 
 pub returns-clause-given : goal.returns-clause-given
 returns-clause-given c = IfOk-weaker c.give-3.result _ _ (λ done given limits most ahead run is.

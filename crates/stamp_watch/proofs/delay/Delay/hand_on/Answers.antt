@@ -72,11 +72,11 @@ returns-else-is_none-clause-delayed c limits most ahead run is = delayed_aside l
 pub returns-in-Some-clause-delayed : goal.returns-in-Some-clause-delayed
 returns-in-Some-clause-delayed c limits most ahead run is = delayed_passes limits most ahead run c.args.self.now is
     c.pop-event.result c.pop-event.new.self.events.items c.pop-event.ensures.items _ refl refl c.pop-event.ensures.counted
-    refl refl refl c.in_ok-verdict.ensures.given refl refl
+    refl refl refl c.in_ok-verdict.ensures.given c.in_ok-verdict.ensures.kept refl refl
     (enough_still ((goal.at.returns-in-Some-clause-delayed c).Else-alone))
 
 pub returns-in-None-clause-delayed : goal.returns-in-None-clause-delayed
 returns-in-None-clause-delayed c limits most ahead run is = delayed_passes limits most ahead run c.args.self.now is
     c.pop-event.result c.pop-event.new.self.events.items c.pop-event.ensures.items _ refl refl c.pop-event.ensures.counted
-    refl refl refl c.in_ok-verdict.ensures.given refl refl
+    refl refl refl c.in_ok-verdict.ensures.given c.in_ok-verdict.ensures.kept refl refl
     (enough_still ((goal.at.returns-in-None-clause-delayed c).Else-alone))

@@ -4,4 +4,5 @@ use Rattle.stamp_watch.proofs.delay.Delay.new.Goals as goal
 
 pub returns-clause-delayed : goal.returns-clause-delayed
 returns-clause-delayed c = delayed_first c.args.limits c.args.most c.args.ahead _ refl c.in_ok-judge.ensures.judge
+    c.in_ok-judge.ensures.kept
     c.saturating_sub.ensures c.new-2.ensures.counted c.new-3.ensures.items c.new-2.ensures.none refl refl refl

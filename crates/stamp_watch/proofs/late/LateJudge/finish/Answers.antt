@@ -2,15 +2,23 @@ use Rattle.std.proofs.lemmas.Result.{IfOk-weaker}
 use Rattle.stamp_watch.proofs.JudgingLate.{finding_now, late_found_of, late_rest_now, late_way}
 use Rattle.stamp_watch.proofs.late.LateJudge.finish.Goals as goal
 
-pub returns-in-Some : goal.returns-in-Some
-returns-in-Some c limits most ahead run is = finding_now limits run most ahead c.in-Some.finding
+pub returns-in-Some-clause-verdict : goal.returns-in-Some-clause-verdict
+returns-in-Some-clause-verdict c limits most ahead run is = finding_now limits run most ahead c.in-Some.finding
     (late_found_of limits most ahead run c.args.self.now is c.in-Some.finding c.in-Some.is)
 
-pub returns-in-None : goal.returns-in-None
-returns-in-None c = IfOk-weaker c.rest.result _ _ (λ f rest limits most ahead run is.
+pub returns-in-Some-clause-keeps : goal.returns-in-Some-clause-keeps
+returns-in-Some-clause-keeps c limits most ahead run is = is.keeps
+
+pub returns-in-None-clause-verdict : goal.returns-in-None-clause-verdict
+returns-in-None-clause-verdict c = IfOk-weaker c.rest.result _ _ (λ f rest limits most ahead run is.
     late_rest_now limits run most ahead f
     (rest limits most ahead run (late_way limits most ahead run c.args.self.now is c.in-None.is).delayed))
     c.rest.ensures.rest
+
+pub returns-in-None-clause-keeps : goal.returns-in-None-clause-keeps
+returns-in-None-clause-keeps c = IfOk-weaker c.rest.result _ _ (λ f keeps limits most ahead run is.
+    keeps limits most ahead run (late_way limits most ahead run c.args.self.now is c.in-None.is).delayed)
+    c.rest.ensures.keeps
 
 pub rest-requires-clause-room : goal.rest-requires-clause-room
 rest-requires-clause-room c =

@@ -1,7 +1,11 @@
 use Rattle.std.proofs.Common.{◌++◌, sym, rules}
 use Rattle.stamped_watch.proofs.Ending.{in_form, so_far}
-use Rattle.stamped_watch.proofs.Taking.{all_fed, few_kept, none_of, part_aside, slices}
+use Rattle.stamped_watch.proofs.Taking.{all_fed, fed_found, few_kept, none_of, part_aside, slices}
 use Rattle.stamped_watch.proofs.stream_judge.StreamJudge.feed.Goals as goal
+
+pub returns-then-is_some-clause-fed : goal.returns-then-is_some-clause-fed
+returns-then-is_some-clause-fed c most ahead fed is =
+    fed_found most ahead fed c.args.bytes.now c.args.self.now (sym c.if-is_some.ensures) is
 
 pub returns-then-bytes-missing-clause-fed : goal.returns-then-bytes-missing-clause-fed
 returns-then-bytes-missing-clause-fed c most ahead fed is =

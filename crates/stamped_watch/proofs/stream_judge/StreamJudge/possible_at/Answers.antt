@@ -1,8 +1,18 @@
+use Rattle.std.proofs.Common.{Option, subst}
+use Rattle.std.specs.Prelude.{MatchOption, ⊤}
 use Rattle.std.proofs.lemmas.Result.{IfOk-weaker}
+use Rattle.stamp_watch.specs.declared.late.LateJudge.{LateJudge}
+use Rattle.stamped_watch.specs.Possible.{KeepsOf}
 use Rattle.stamped_watch.proofs.Taking.{possible_told}
 use Rattle.stamped_watch.proofs.stream_judge.StreamJudge.possible_at.Goals as goal
 
+pub possible_at-requires : goal.possible_at-requires
+possible_at-requires c =
+    let keeps = subst (λ (o : Option LateJudge). MatchOption o ⊤ (λ i. KeepsOf c.requires.fed i)) c.in-Some.is
+    c.requires.keeps in
+    record { limits = keeps.limits; run = keeps.events; keeps = keeps.keeps }
+
 pub returns-in-Some : goal.returns-in-Some
-returns-in-Some c = IfOk-weaker c.possible_at.result _ _ (λ told is_told most ahead fed is.
-    possible_told most ahead fed c.args.self.now is c.in-Some.judge c.in-Some.is c.args.number c.args.call.now told
-    is_told) c.possible_at.ensures
+returns-in-Some c = IfOk-weaker c.possible_at.result _ _ (λ told is_told fed keeps.
+    possible_told fed c.in-Some.judge (subst (λ (o : Option LateJudge). MatchOption o ⊤ (λ i. KeepsOf fed i))
+    c.in-Some.is keeps) c.args.number c.args.call.now told is_told) c.possible_at.ensures

@@ -30,5 +30,6 @@ returns-else-is_none-clause-taken c most ahead taken has =
 pub returns-in_ok-found_unless-in-Err-clause-taken : goal.returns-in_ok-found_unless-in-Err-clause-taken
 returns-in_ok-found_unless-in-Err-clause-taken c most ahead taken has =
     no_event_taken most ahead taken c.args.bytes.now c.args.self.now has c.requires.none c.in-Some.judge c.in-Some.is
-    c.count-in-Err.result c.in-Err.fault c.in_ok-found_unless-in-Err.field-0 c.told-bytes c.in-Err.ensures.fault
-    c.count-in-Err.ensures c.in_ok-found_unless-in-Err.ensures
+    c.count-in-Err.result c.in-Err.fault c.in_ok-found_unless-in-Err.field-0 c.found_unless.new.judge c.told-bytes
+    c.in-Err.ensures.fault c.count-in-Err.ensures c.in_ok-found_unless-in-Err.ensures.found
+    c.in_ok-found_unless-in-Err.ensures.kept

@@ -1,15 +1,12 @@
-use Rattle.std.proofs.Common.{ℕ, ◌≡◌, ◌+◌, ◌-◌, ◌<◌, ◌≤◌, ◌++◌, ◌∙◌, List, Option, None, true, length, ap, arith}
+use Rattle.std.proofs.Common.{ℕ, ◌≡◌, ◌+◌, ◌-◌, ◌<◌, ◌≤◌, ◌++◌, ◌∙◌, List, true, length, arith}
 use Rattle.std.proofs.Common.{refl, rules, subst, sym}
-use Rattle.std.specs.Prelude.{is_some, take}
-use Rattle.std.proofs.lemmas.Bool.{false≢true}
+use Rattle.std.specs.Prelude.{take}
 use Rattle.std.proofs.lemmas.List.{length-append, take-append-drop}
 use Rattle.std.proofs.lemmas.Result.{IfOk-weaker, on_ok_weaker}
-use Rattle.stamp_cli.specs.Results.{Results}
-use Rattle.stamped_watch.specs.declared.finding.Finding.{Finding}
 use Rattle.stamped_watch.specs.Finding.{IsSoFar}
 use Rattle.stamped_watch.specs.Progress.{mark}
 use Rattle.stamped_watch.specs.StreamJudge.{IsFed}
-use Rattle.stamped_watch.proofs.LinesTold.{failed, fed_both, fed_longer, found_both, found_longer, no_finding}
+use Rattle.stamped_watch.proofs.LinesTold.{fed_both, fed_longer, found_both, found_longer, no_finding}
 use Rattle.stamped_watch.proofs.LinesTold.{told_at_mark, told_before_mark, told_of_err, told_of_none, told_until}
 use Rattle.stamped_watch.proofs.telling.Telling.feed.Goals as goal
 
