@@ -27,7 +27,7 @@ import jdk  # noqa: E402 (a file of tests/explain)
 import runs  # noqa: E402 (a file of tests/explain)
 import stream_to_history  # noqa: E402 (a file of recorders)
 
-MOST, MOST_EXPLAINED, AHEAD = 1000, 20_000, (0, 70, 90)
+MOST, MOST_EXPLAINED, AHEAD = 1000, 20_000, (64, 70, 90)
 LATE = collections.Counter()
 LIMITS = [(1, 1), (2, 3), (127, 1000)]
 OTHER = {YES: NO, NO: YES, DONE: MISMATCH, MISMATCH: DONE}

@@ -142,13 +142,13 @@ YES_LATER = event(14, 3) + event(YES, 3)
 LATE = [
     # It changes nothing that anybody sees.
     (event(2) + SEEN_AGAIN * 9 + event(STAMP, 0, 384), 66, "ok 10"),
-    # Somebody sees that it holds write mode. Where it begins late that can't be, and it isn't known whether it was.
+    # Somebody sees that it holds write mode, which it can't where it begins late.
     (event(2) + YES_LATER * 9 + event(STAMP, 0, 384), 66, "undecided 1"),
     (event(2) + YES_LATER * 9 + event(STAMP, 0, 384), 128, "ok 10"),
-    # A reply is wrong before it is open for long, or is so while a call is open for long that hasn't ended.
+    # A reply is wrong before a call is open for long, or while one is that never ends.
     (event(4, 2) + event(STAMP, 2, 257) + event(2) + SEEN_AGAIN * 9, 66, "stuck 1"),
-    (event(2) + SEEN_AGAIN * 9 + event(4, 2) + event(STAMP, 2, 257), 66, "undecided 19"),
-    # A call that returned behind its late beginning saw the version before: so it has lost nothing.
+    (event(2) + SEEN_AGAIN * 9 + event(4, 2) + event(STAMP, 2, 257), 66, "undecided 20"),
+    # The calls behind its late beginning saw the version before: so nothing is lost.
     (event(2) + SEEN_AGAIN * 9 + event(STAMP, 0, 384) + event(4, 2) + event(STAMP, 2, 256), 66, "stuck 21"),
 ]
 
@@ -166,12 +166,14 @@ def try_late(watch):
 
 def try_options(watch):
     late = header() + event(2) + event(4, 1) + event(STAMP, 1, 256) + event(STAMP, 0, 384)
-    must_be("--ahead", judged(watch, late, "--ahead", "0"), ("ok 2", ""))
+    must_be("--ahead", judged(watch, late, "--ahead", "64"), ("ok 2", ""))
+    must_be("--ahead", judged(watch, late, "--ahead", "0"),
+            ("undecided 0", "stamped_watch: a call was open for nearly 0 events; a larger --ahead may tell more"))
     either = header() + event(1) + event(3, 1) + event(16, 2) + event(COUNT, 2, 1)
     must_be("--most", judged(watch, either, "--most", "2"), ("ok 3", ""))
     must_be("--most", judged(watch, either, "--most", "1"), ("undecided 3", ""))
     within = either + event(STAMP, 0, 258) + event(STAMP, 1, 258)
-    must_be("--most", judged(watch, within, "--ahead", "9", "--most", "1"),
+    must_be("--most", judged(watch, within, "--ahead", "99", "--most", "1"),
             ("undecided 3", "stamped_watch: no order explains the run; from which event on is undecided"))
     for words in (["--most"], ["--ahead", "4294967297"], ["run.events", "more"], ["--progress", "--help"],
                   ["--most", "9", "--progress"]):
