@@ -254,8 +254,8 @@ module _ (limits : Bounds) (most ahead : ℕ) (run : List Event) (old : Delay) w
       spared : IsSpared old.aside.items (lane_of x)
       spared = x_spared (ahead - 64) run is.given old.aside.items rest x old.first_late old.passed handed_here
 
-      pub delayed_passes : IsGiven x old.judge new.judge → KeepsOn x old.judge new.judge → new.aside ≡ old.aside → new.first_late ≡ old.first_late →
-          (old.aside.items ≢ [] → old.ahead ≤ length rest) → IsDelayed limits most ahead run new
+      pub delayed_passes : IsGiven x old.judge new.judge → KeepsOn x old.judge new.judge → new.aside ≡ old.aside →
+          new.first_late ≡ old.first_late → (old.aside.items ≢ [] → old.ahead ≤ length rest) → IsDelayed limits most ahead run new
       delayed_passes given kept aside_is first_is full = record {
         whole = is.whole;
         limits_are = limits_are ∙ is.limits_are;
@@ -370,11 +370,11 @@ module _ (events : List Event) (k : ℕ) (e : Event) (old new : Judge) (less : k
 
 -- before any event
 pub delayed_first : (limits : Bounds) (most ahead : ℕ) (delay : Delay) → delay.limits ≡ limits →
-    IsJudge limits most ahead [] delay.judge → KeepsBase limits [] delay.judge → delay.ahead ≡ ahead - 64 → IsCounted delay.waiting →
-    delay.aside.items ≡ [] → delay.waiting.events.items ≡ [] → delay.first_late ≡ None → delay.passed ≡ 0 →
+    IsJudge limits most ahead [] delay.judge → KeepsBase limits [] delay.judge → delay.ahead ≡ ahead - 64 →
+    IsCounted delay.waiting → delay.aside.items ≡ [] → delay.waiting.events.items ≡ [] → delay.first_late ≡ None → delay.passed ≡ 0 →
     delay.shown ≡ Some 0 → IsDelayed limits most ahead [] delay
-delayed_first limits most ahead delay limits_are judge_of keeps far counted aside_is waiting_is first_is passed_is shown_is =
-    record {
+delayed_first limits most ahead delay limits_are judge_of keeps far counted aside_is waiting_is first_is passed_is
+    shown_is = record {
       whole = form_first.0;
       limits_are = limits_are;
       ahead_is = far;

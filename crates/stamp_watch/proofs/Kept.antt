@@ -72,7 +72,8 @@ kept_beside limits run course e is = record {
 -- so it is with several
 pub kept_beside_all : (limits : Bounds) (run more : List Event) (course : Course) → IsKept limits run course →
     IsKept limits (run ++ more) course
-kept_beside_all limits run [] course is = subst (λ (xs : List Event). IsKept limits xs course) (sym (append-nil run)) is
+kept_beside_all limits run [] course is =
+    subst (λ (xs : List Event). IsKept limits xs course) (sym (append-nil run)) is
 kept_beside_all limits run (e ∷ more) course is = subst (λ (xs : List Event). IsKept limits xs course)
     (append_assoc run (e ∷ []) more)
     (kept_beside_all limits (run ++ e ∷ []) more course (kept_beside limits run course e is))

@@ -19,8 +19,8 @@ pub record IsLateUnderWay (limits : Bounds) (most ahead : ℕ) (run : List Event
   pub few : length judge.delay.waiting.events.items ≤ ahead - 64
   pub room : judge.delay.passed + length judge.delay.waiting.events.items < 2 ^ 64
 
--- the judge was given the events of this run so far, what it found holds whatever comes later, and it keeps few events,
--- by which it can judge again
+-- the judge was given the events of this run so far, what it found holds whatever comes later, and it keeps few
+-- events, by which it can judge again
 pub record IsLateJudge (limits : Bounds) (most ahead : ℕ) (run : List Event) (judge : LateJudge) : Type 0 where
   pub small : IsSmallDelay ahead judge.delay
   pub keeps : KeepsLater limits run judge

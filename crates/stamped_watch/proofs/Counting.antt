@@ -79,7 +79,8 @@ under_way_then most ahead taken bytes old new old_inner inner e way has counted 
 -- the header was read
 pub under_way_first : (most ahead : ℕ) (taken bytes : List ℕ) (begun withdrawn : ℕ) (inner : LateJudge)
     (limits : Bounds) → IsFresh taken begun withdrawn → IsHeader limits bytes →
-    IsLateJudge limits most ahead [] inner → HasFoundNothingLater inner → IsUnderWay most ahead (taken ++ bytes) begun withdrawn inner
+    IsLateJudge limits most ahead [] inner → HasFoundNothingLater inner →
+    IsUnderWay most ahead (taken ++ bytes) begun withdrawn inner
 under_way_first most ahead taken bytes begun withdrawn inner limits fresh header judge none = record {
   limits = limits;
   events = [];

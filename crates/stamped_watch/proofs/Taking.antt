@@ -125,8 +125,8 @@ module _ (most ahead : ℕ) (taken bytes : List ℕ) (old : StreamJudge) (has : 
       given_one : IsGivenOne way_on.limits most ahead way_on.events e next o
       given_one = given way_on.limits most ahead way_on.events way_on.judge_of
 
-      keeps_of : KeepsLater way_on.limits way_on.events next ⊎ KeepsLater way_on.limits (way_on.events ++ e ∷ []) next →
-          KeepsOf (taken ++ bytes) next
+      keeps_of : KeepsLater way_on.limits way_on.events next ⊎
+          KeepsLater way_on.limits (way_on.events ++ e ∷ []) next → KeepsOf (taken ++ bytes) next
       keeps_of (inl before) = record {
         limits = way_on.limits;
         events = way_on.events;

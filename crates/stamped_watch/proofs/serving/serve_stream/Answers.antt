@@ -50,4 +50,5 @@ returns-clause-ok g c =
     )
 
 pub possible_for-replies-requires : goal.possible_for-replies-requires
-possible_for-replies-requires g c = let all = c.in_ok-finding.ensures.keeps in record { fed = all.bytes; keeps = all.keeps }
+possible_for-replies-requires g c =
+    let all = c.in_ok-finding.ensures.keeps in record { fed = all.bytes; keeps = all.keeps }

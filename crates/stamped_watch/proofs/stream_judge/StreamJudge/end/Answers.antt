@@ -16,8 +16,8 @@ returns-in-Some-clause-kept c most ahead fed is = keeps_fed most ahead fed c.arg
 pub returns-then-not-is_empty-clause-found : goal.returns-then-not-is_empty-clause-found
 returns-then-not-is_empty-clause-found c = IfOk-weaker c.found_unless.result _ _ (λ finding so most ahead fed is.
     let way = way_of_judge most ahead fed c.args.self.now is c.in_default.is c.in-Some-judge.judge c.in-Some-judge.is in
-    cut_at_end most ahead fed c.args.self.now is c.in_default.is c.in-Some-judge.judge way c.count-number.result finding
-    (λ empty. search rules)
+    cut_at_end most ahead fed c.args.self.now is c.in_default.is c.in-Some-judge.judge way c.count-number.result
+    finding (λ empty. search rules)
     (c.count-number.ensures way.limits most ahead way.events way.judge_of)
     (so way.limits most ahead way.events way.judge_of)) c.found_unless.ensures.found
 
