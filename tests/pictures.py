@@ -105,36 +105,36 @@ PICTURES = {
 }
 DRAWN = {"window": 62, "window_of_a_point": 1, "window_turned": 1}
 # The left side and the width of each bar, and the left side of each mark: four positions have 60 pixels each.
-BOXES = {"window_of_a_put": ([(136, 240), (136, 180), (136, 240)], [223])}
+BOXES = {"window_of_a_put": ([(112, 240), (112, 180), (112, 240)], [199])}
 # The left sides, widths and lines of the ribbon, of the content's boxes and of the axis. The six positions of the
-# schedule have 60 pixels each, from 136 on, and points stand in the middle; 3 characters need 25 pixels, 5 need 39.
+# schedule have 60 pixels each, from 112 on, points stand in the middle, and behind the last column there are 28 more.
 SPANS = {
     "schedule": {
-        "ribbon": [(96, 190, "free", "v 0"), (286, 120, "write", "v 1"), (406, 60, "free", "v 1"),
-                   (466, 30, "wr>", "v 2")],
+        "ribbon": [(96, 166, "free", "v 0"), (262, 120, "write", "v 1"), (382, 60, "free", "v 1"),
+                   (442, 58, "write", "v 2")],
         "content": [],
-        "axis": [(136, 60, "0", None), (196, 60, "1", None), (256, 60, "2", None), (316, 60, "3", None),
-                 (376, 60, "4", None), (436, 60, "6", None)],
+        "axis": [(112, 60, "0", None), (172, 60, "1", None), (232, 60, "2", None), (292, 60, "3", None),
+                 (352, 60, "4", None), (412, 60, "6", None)],
     },
     "window_of_a_put": {
-        "ribbon": [(96, 130, "free", "v 0"), (226, 150, "free", "v 0")],
-        "content": [(96, 130, "[1, 2]", None), (226, 150, "[3, 4]", None)],
-        "axis": [(136, 60, "4", None), (196, 60, "5", None), (256, 60, "6", None), (316, 60, "7", None)],
+        "ribbon": [(96, 106, "free", "v 0"), (202, 178, "free", "v 0")],
+        "content": [(96, 106, "[1, 2]", None), (202, 178, "[3, 4]", None)],
+        "axis": [(112, 60, "4", None), (172, 60, "5", None), (232, 60, "6", None), (292, 60, "7", None)],
     },
 }
 # Of so many calls that take one position each, or three: how wide the sheet and a column are, and every how many
 # columns the axis names one. Up to 20 columns have 60 pixels each, up to 75 have 1,200 together, up to 2,000 have 16
-# each, and more have 5 each; 148 stand beside them. A name on the axis has at least 49 pixels. So no picture has
+# each, and more have 5 each; 152 stand beside them. A name on the axis has at least 49 pixels. So no picture has
 # more than the 32,767 pixels that viewers take.
 COLUMNS = {
-    (20, 1): (1348, 60, 1),
-    (50, 1): (1348, 24, 3),
-    (70, 1): (1338, 17, 3),
-    (100, 1): (1748, 16, 4),
-    (1000, 1): (16148, 16, 4),
-    (2000, 1): (32148, 16, 4),
-    (667, 3): (10153, 5, 10),
-    (2000, 3): (30148, 5, 10),
+    (20, 1): (1352, 60, 1),
+    (50, 1): (1352, 24, 3),
+    (70, 1): (1342, 17, 3),
+    (100, 1): (1752, 16, 4),
+    (1000, 1): (16152, 16, 4),
+    (2000, 1): (32152, 16, 4),
+    (667, 3): (10157, 5, 10),
+    (2000, 3): (30152, 5, 10),
 }
 VERDICTS = {
     "schedule": "3 entries, in order",
@@ -503,12 +503,12 @@ def look_at_columns(program):
         axis = [(x, text) for x, _, text, _ in spans(root, ["axis"])]
         if (root.get("width"), root.get("viewBox").split()[2]) != (str(width), str(width)):
             sys.exit(f"{calls} calls: {root.attrib}, and not {width}")
-        if bars != [(136 + unit * each * n, unit * each) for n in range(calls)]:
+        if bars != [(112 + unit * each * n, unit * each) for n in range(calls)]:
             sys.exit(f"{calls} calls: {bars}")
-        if marks != [136 + unit * (each * n + each // 2) + unit // 2 - 3 for n in range(calls)]:
+        if marks != [112 + unit * (each * n + each // 2) + unit // 2 - 3 for n in range(calls)]:
             sys.exit(f"{calls} calls: marks {marks}")
-        rooms = [(n, unit * min(stride, each * calls - n)) for n in range(0, each * calls, stride)]
-        if axis != [(136 + unit * n, fitted(str(n), room)) for n, room in rooms]:
+        rooms = [(n, min(unit * stride, unit * (each * calls - n) + 28)) for n in range(0, each * calls, stride)]
+        if axis != [(112 + unit * n, fitted(str(n), room)) for n, room in rooms]:
             sys.exit(f"{calls} calls: axis {axis}")
     print(f"{len(COLUMNS)} pictures of up to {max(width for width, _, _ in COLUMNS.values())} pixels")
 

@@ -29,7 +29,7 @@ columns true n small is =
     (room n d (max 1 n) (omega arith) (div-mul-le_self 1200 (max 1 n))) (choice d)
 columns false n small is = omega (arith, small)
 
-pub is_narrow : (positions : List ℕ) → length positions ≤ 6000 → right_of positions ≤ 32136
+pub is_narrow : (positions : List ℕ) → length positions ≤ 6000 → right_of positions ≤ 32140
 is_narrow positions small =
     let n = length positions in
     omega (arith, columns (nat_le n 2000) n small refl)

@@ -44,7 +44,7 @@ abbrev pub border : ℕ
 border = 96
 
 abbrev pub left : ℕ
-left = 136
+left = 112
 
 abbrev pub lane_height : ℕ
 lane_height = 44
@@ -100,9 +100,9 @@ abbrev pub lanes_in : List Bar → ℕ
 lanes_in [] = 0
 lanes_in (b ∷ bs) = max (b.lane + 1) (lanes_in bs)
 
--- the right border
+-- the right border, with room for what the last point left
 abbrev pub right_of : List ℕ → ℕ
-right_of positions = x_of positions (length positions)
+right_of positions = x_of positions (length positions) + 28
 
 -- what the lock is, from one side to another
 abbrev pub state_frame : ℕ → ℕ → State → Frame

@@ -12,7 +12,10 @@ use std::alloc::{AllocError, Global};
 pub(crate) const BORDER: u64 = 96;
 
 /// Where the first column begins.
-const LEFT: u64 = 136;
+const LEFT: u64 = 112;
+
+/// Behind the last column: room for what the last point left.
+const RIGHT: u64 = 28;
 
 /// A lane.
 const LANE_HEIGHT: u64 = 44;
@@ -150,9 +153,9 @@ pub(crate) fn lanes_in(bars: &[Bar]) -> u64
 pub(crate) fn right_of(positions: &[u64]) -> u64
     requires { length positions.now ≤ 6000 }
     ensures is { result ≡ frames.right_of positions.now }
-    ensures few { result ≤ 32136 }
+    ensures few { result ≤ 32140 }
 {
-    x_of(positions, positions.len() as u64)
+    x_of(positions, positions.len() as u64) + RIGHT
 }
 
 /// Whether the bar is that of the first fault.

@@ -366,7 +366,7 @@ fn note_boxes(
     ]?)
 }
 
-/// The picture as boxes with their labels, on a sheet of at most 32,148 by 2,978 pixels, which viewers
+/// The picture as boxes with their labels, on a sheet of at most 32,152 by 2,978 pixels, which viewers
 /// take. Each position at which a bar begins or ends, and each point, has a column. Each call stands in
 /// its thread's lane, from its first position to its last as far as the window has them, and in the
 /// ribbon stands what the lock was from each point to the next. The picture has at most 2,000 bars, in
@@ -375,7 +375,7 @@ pub fn sheet_of(alloc: Global, picture: &Picture) -> Result<Sheet, AllocError>
     requires few { length picture.now.bars ≤ most_bars }
     requires lanes { All (λ bar. bar.lane < 64) picture.now.bars }
     ensures sheet { IfOk result (λ sheet. IsSheet picture.now sheet) }
-    ensures wide { IfOk result (λ sheet. sheet.width ≤ 32148) }
+    ensures wide { IfOk result (λ sheet. sheet.width ≤ 32152) }
     ensures high { IfOk result (λ sheet. sheet.height ≤ 2978) }
 {
     let bars = picture.bars();
