@@ -3,9 +3,10 @@
     pictures.py PROGRAM [FOLDER]
 
 Each picture is XML; it has a bar for each entry up to the first fault that the window shows, in its thread's
-lane, with its call, and a mark for each of them whose point is in the window; a faulty entry is of another
-class. Of one window the bars and marks stand where it is written here. In characters, some pictures are those
-that are written here, each is cut off where it is told, and a cut line says so; words that are no form are
+lane, with as much of its call and reply as has room, and a mark for each of them whose point is in the window; a
+faulty entry is of another class. Of one window bars and marks, and of two pictures ribbon, content and axis, stand
+where it is written here. Columns are as wide as is written here, by how many there are. In characters, some pictures
+are those that are written here, each is cut off where it is told, and a cut line says so; words that are no form are
 refused. Those of docs/pictures are made again and compared. With FOLDER all of them are written there: so
 `pictures.py PROGRAM docs/pictures` makes those pages' pictures again (it leaves the others there, which are
 not kept).
@@ -27,7 +28,7 @@ import xml.etree.ElementTree as xml
 
 SVG = "{http://www.w3.org/2000/svg}"
 KEPT = os.path.join(os.path.dirname(__file__), "..", "docs", "pictures")
-LANES_TOP, LANE_HEIGHT = 104, 44
+LANES_TOP, LANE_HEIGHT = 120, 44
 
 
 def entry(thread, call, reply, first, point, last):
@@ -46,6 +47,10 @@ def at(position, thread, call, reply):
 
 def call_text(call):
     return " ".join([call[0], *map(str, call[1:])])
+
+
+def reply_text(reply):
+    return f"= count {reply['count']}" if isinstance(reply, dict) else f"= {reply}"
 
 
 SCHEDULE = [
@@ -99,8 +104,38 @@ PICTURES = {
     "long": (history([at(n, n % 64, ["read_count"], {"count": 0}) for n in range(2000)]), [], None),
 }
 DRAWN = {"window": 62, "window_of_a_point": 1, "window_turned": 1}
-# The left side and the width of each bar, and the left side of each mark: the ends are 4, 4, 4, 5, 6, 7 and 7.
-BOXES = {"window_of_a_put": ([(136, 280), (136, 200), (136, 280)], [273])}
+# The left side and the width of each bar, and the left side of each mark: four positions have 60 pixels each.
+BOXES = {"window_of_a_put": ([(112, 240), (112, 180), (112, 240)], [199])}
+# The left sides, widths and lines of the ribbon, of the content's boxes and of the axis. The six positions of the
+# schedule have 60 pixels each, from 112 on, points stand in the middle, and behind the last column there are 28 more.
+SPANS = {
+    "schedule": {
+        "ribbon": [(96, 166, "free", "v 0"), (262, 120, "write", "v 1"), (382, 60, "free", "v 1"),
+                   (442, 58, "write", "v 2")],
+        "content": [],
+        "axis": [(112, 60, "0", None), (172, 60, "1", None), (232, 60, "2", None), (292, 60, "3", None),
+                 (352, 60, "4", None), (412, 60, "6", None)],
+    },
+    "window_of_a_put": {
+        "ribbon": [(96, 106, "free", "v 0"), (202, 178, "free", "v 0")],
+        "content": [(96, 106, "[1, 2]", None), (202, 178, "[3, 4]", None)],
+        "axis": [(112, 60, "4", None), (172, 60, "5", None), (232, 60, "6", None), (292, 60, "7", None)],
+    },
+}
+# Of so many calls that take one position each, or three: how wide the sheet and a column are, and every how many
+# columns the axis names one. Up to 20 columns have 60 pixels each, up to 75 have 1,200 together, up to 2,000 have 16
+# each, and more have 5 each; 152 stand beside them. A name on the axis has at least 49 pixels. So no picture has
+# more than the 32,767 pixels that viewers take.
+COLUMNS = {
+    (20, 1): (1352, 60, 1),
+    (50, 1): (1352, 24, 3),
+    (70, 1): (1342, 17, 3),
+    (100, 1): (1752, 16, 4),
+    (1000, 1): (16152, 16, 4),
+    (2000, 1): (32152, 16, 4),
+    (667, 3): (10157, 5, 10),
+    (2000, 3): (30152, 5, 10),
+}
 VERDICTS = {
     "schedule": "3 entries, in order",
     "window_of_a_put": "3 entries, in order",
@@ -398,12 +433,25 @@ def boxes(root, names):
     return [box for box in root.iter(SVG + "svg") if box.get("class") in names and box.find(SVG + "rect") is not None]
 
 
+def fitted(text, width):
+    """What of a text has room: a character takes up to 7 pixels, and the sign of a cut is one."""
+    room = (width - 4) // 7
+    return text if len(text) <= room else text[:room - 1] + ">" if room else None
+
+
+def spans(root, classes):
+    """Boxes above the lanes: their left sides, widths and lines."""
+    found = [box for box in boxes(root, classes) if int(box.get("y")) < LANES_TOP]
+    return [(int(box.get("x")), int(box.get("width")), *(it.text for it in box.findall(SVG + "text"))) for box in found]
+
+
 def bars_of(root):
-    """Each bar's lane, class and first line; notes of the legend have no second line."""
+    """Each bar's lane, class, width and lines; verdict and legend have no thread in their titles."""
     return [
-        ((int(box.get("y")) - LANES_TOP) // LANE_HEIGHT, box.get("class"), box.findall(SVG + "text")[0].text)
+        ((int(box.get("y")) - LANES_TOP) // LANE_HEIGHT, box.get("class"), int(box.get("width")),
+         *(line.text for line in box.findall(SVG + "text")))
         for box in boxes(root, ["bar", "bad"])
-        if box.findall(SVG + "text")[1].text
+        if ", thread " in box.find(SVG + "title").text
     ]
 
 
@@ -424,10 +472,11 @@ def look(name, drawn, words, answer, bad):
     if (status, told) != (0 if bad is None else 1, b""):
         sys.exit(f"{name}: status {status}, {told}")
     marked = ["bad" if number == bad else "bar" for number in range(len(drawn))]
-    wanted = [(e["thread"], kind, call_text(e["call"])) for e, kind in zip(drawn, marked)]
     root = xml.fromstring(text)
     bars, marks = bars_of(root), marks_of(root)
-    if bars != wanted:
+    wanted = [(e["thread"], kind, width, fitted(call_text(e["call"]), width), fitted(reply_text(e["reply"]), width))
+              for e, kind, (_, _, width, *_) in zip(drawn, marked, bars)]
+    if bars != wanted or len(bars) != len(drawn):
         sys.exit(f"{name}: {bars}, and not {wanted}")
     begin, end = window_in(words)
     points = [f", point {e['point']}" for e in drawn if begin <= e["point"] <= end]
@@ -437,6 +486,31 @@ def look(name, drawn, words, answer, bad):
         sides = [(int(box.get("x")), int(box.get("width"))) for box in boxes(root, ["bar"])][: len(bars)]
         if (sides, [x for x, _ in marks]) != BOXES[name]:
             sys.exit(f"{name}: {sides} and {marks}, and not {BOXES[name]}")
+    for part, classes in (("ribbon", ["free", "reading", "writing"]), ("content", ["content"]), ("axis", ["axis"])):
+        if name in SPANS and spans(root, classes) != SPANS[name][part]:
+            sys.exit(f"{name}: {part} {spans(root, classes)}, and not {SPANS[name][part]}")
+
+
+def look_at_columns(program):
+    """Columns, axis and sheet are as wide as there is room."""
+    for (calls, each), wanted in COLUMNS.items():
+        entries = [entry(0, ["read_count"], {"count": 0}, each * n, each * n + each // 2, each * n + each - 1)
+                   for n in range(calls)]
+        root = xml.fromstring(ended(program, json.dumps(history(entries)).encode(), [])[1])
+        width, unit, stride = wanted
+        bars = [(int(box.get("x")), int(box.get("width"))) for box in boxes(root, ["bar"])][:calls]
+        marks = [x for x, _ in marks_of(root)]
+        axis = [(x, text) for x, _, text, _ in spans(root, ["axis"])]
+        if (root.get("width"), root.get("viewBox").split()[2]) != (str(width), str(width)):
+            sys.exit(f"{calls} calls: {root.attrib}, and not {width}")
+        if bars != [(112 + unit * each * n, unit * each) for n in range(calls)]:
+            sys.exit(f"{calls} calls: {bars}")
+        if marks != [112 + unit * (each * n + each // 2) + unit // 2 - 3 for n in range(calls)]:
+            sys.exit(f"{calls} calls: marks {marks}")
+        rooms = [(n, min(unit * stride, unit * (each * calls - n) + 28)) for n in range(0, each * calls, stride)]
+        if axis != [(112 + unit * n, fitted(str(n), room)) for n, room in rooms]:
+            sys.exit(f"{calls} calls: axis {axis}")
+    print(f"{len(COLUMNS)} pictures of up to {max(width for width, _, _ in COLUMNS.values())} pixels")
 
 
 def look_at_text(name, program, told, words, bad):
@@ -594,6 +668,7 @@ def main():
                 if file.read() != answer[1]:
                     sys.exit(f"{kept} is another picture than the one that is made now")
         print(f"{name}: {len(drawn)} bars")
+    look_at_columns(program)
     look_at_pages(program)
     answer = ended(program, json.dumps(TOO_MANY).encode(), [])
     if answer != (1, b"", TOO_MANY_LINE):

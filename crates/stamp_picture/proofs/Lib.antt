@@ -6,3 +6,4 @@ pub mod Appending
 pub mod OneByOne
 pub mod Narrow
 pub mod WellFormed
+pub mod Columns

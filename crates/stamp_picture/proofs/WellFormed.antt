@@ -6,7 +6,7 @@ use Rattle.stamp_picture.specs.declared.sheet.Sheet.{Sheet}
 use Rattle.stamp_picture.specs.Markup.{is_plain, IsText, escape, escaped, element_text, IsContent}
 use Rattle.stamp_picture.specs.Markup.IsText.{nothing, plain, less, greater, ampersand, quote}
 use Rattle.stamp_picture.specs.Markup.IsContent.{text, element, both}
-use Rattle.stamp_picture.specs.Svg.{box_attributes, rect_text, line_text, inside_text, box_text, boxes_text}
+use Rattle.stamp_picture.specs.Svg.{box_attributes, rect_text, line_text, fitted, inside_text, box_text, boxes_text}
 use Rattle.stamp_picture.specs.Svg.{sheet_text, root_attributes, svg_text}
 use Rattle.stamp_picture.specs.SvgLaws.{SvgIsWellFormed}
 
@@ -47,8 +47,8 @@ unfolding box_text
 box_content s = element (codes "svg") (box_attributes s) (inside_text s) (refl, refl)
     (both _ _ (element (codes "title") [] (escaped (string_bytes s.title)) (refl, refl)
     (escaped_content (string_bytes s.title)))
-    (both _ _ rect_content (both _ _ (line_content (codes "15") (string_bytes s.upper))
-    (line_content (codes "29") (string_bytes s.lower)))))
+    (both _ _ rect_content (both _ _ (line_content (codes "15") (fitted s.frame.width (string_bytes s.upper)))
+    (line_content (codes "29") (fitted s.frame.width (string_bytes s.lower))))))
 
 boxes_content : (boxes : List LabelledBox) → IsContent (boxes_text boxes)
 boxes_content [] = text [] nothing
@@ -56,9 +56,10 @@ boxes_content (s ∷ boxes) = both (box_text s) (boxes_text boxes) (box_content 
 
 sheet_content : (s : Sheet) → IsContent (sheet_text s)
 sheet_content s =
-    both _ _ (boxes_content s.lanes.items) (both _ _ (boxes_content s.ribbon.items)
-    (both _ _ (boxes_content s.content.items) (both _ _ (boxes_content s.bars.items)
-    (both _ _ (boxes_content s.points.items) (boxes_content s.notes.items)))))
+    both _ _ (boxes_content s.lanes.items) (both _ _ (boxes_content s.axis.items)
+    (both _ _ (boxes_content s.ribbon.items) (both _ _ (boxes_content s.content.items)
+    (both _ _ (boxes_content s.bars.items) (both _ _ (boxes_content s.points.items)
+    (boxes_content s.notes.items))))))
 
 pub svg_is_well_formed : SvgIsWellFormed
 unfolding svg_text

@@ -1,13 +1,14 @@
 -- Where bars, points and moments stand on the sheet.
-use Rattle.std.specs.Prelude.{ℕ, ◌+◌, ◌*◌, ◌-◌, ◌==◌, nat_lt, nat_le}
-use Rattle.std.specs.Prelude.{max, List, [], ◌∷◌, ◌++◌, Result, Ok, Err, length, count_by}
+use Rattle.std.specs.Prelude.{ℕ, ◌+◌, ◌*◌, ◌-◌, ◌/◌, ◌==◌, nat_lt, nat_le}
+use Rattle.std.specs.Prelude.{min, max, List, [], ◌∷◌, ◌++◌, Result, Ok, Err, length, count_by}
 use Rattle.std.specs.Prelude.{Bool, false, if◌then◌else◌}
+use Rattle.std.specs.List.{Contains}
+use Rattle.std.specs.List.Sorted.{IsStrictlyIncreasing}
 use Rattle.stamp_picture.specs.declared.bar.Bar.{Bar}
 use Rattle.stamp_picture.specs.declared.picture.Fault.{Fault}
 use Rattle.stamp_picture.specs.declared.state.Mode.{Mode}
 use Rattle.stamp_picture.specs.declared.state.Mode.TheVariants.{Free, Reading, Writing}
 use Rattle.stamp_picture.specs.declared.state.State.{State}
-use Rattle.stamp_picture.specs.declared.state.Moment.{Moment}
 use Rattle.stamp_picture.specs.declared.frames.Class.{Class}
 use Rattle.stamp_picture.specs.declared.frames.Class.TheVariants as class
 use Rattle.stamp_picture.specs.declared.frames.Frame.{Frame}
@@ -20,32 +21,39 @@ abbrev pub positions_of : List Bar → List ℕ
 positions_of [] = []
 positions_of (b ∷ bs) = positions_in b ++ positions_of bs
 
--- how many of them are before the position, and how many are not behind it: positions that no bar has
--- take no room, and those of several bars take more
+-- each of them once, in rising order
+pub record ArePositionsInOrder (bars : List Bar) (positions : List ℕ) : Type 0 where
+  pub rising : IsStrictlyIncreasing positions
+  pub all : (t : ℕ) → Contains (positions_of bars) t → Contains positions t
+  pub no_more : (t : ℕ) → Contains positions t → Contains (positions_of bars) t
+
+-- each of them has a column, and other positions take no room: how many are before a position, and how many
+-- are not behind it
 abbrev pub column : List ℕ → ℕ → ℕ
 column positions position = count_by (λ other. nat_lt other position) positions
 
 abbrev pub column_after : List ℕ → ℕ → ℕ
 column_after positions position = count_by (λ other. nat_le other position) positions
 
--- in pixels: a column, the border with the lanes' names, the first column, a lane, the first lane
-abbrev pub unit : ℕ
-unit = 40
+-- in pixels: a column; where there are many, 1,200 hold them all, as long as each has 16; of over 2,000 each has 5
+abbrev pub unit : List ℕ → ℕ
+unit positions = if nat_le (length positions) 2000 then max 16 (min 60 (1200 / max 1 (length positions))) else 5
 
+-- the border with the lanes' names, the first column, a lane, the first lane
 abbrev pub border : ℕ
 border = 96
 
 abbrev pub left : ℕ
-left = 136
+left = 112
 
 abbrev pub lane_height : ℕ
 lane_height = 44
 
 abbrev pub lanes_top : ℕ
-lanes_top = 104
+lanes_top = 120
 
-abbrev pub x_of : ℕ → ℕ
-x_of columns = left + unit * columns
+abbrev pub x_of : List ℕ → ℕ → ℕ
+x_of positions columns = left + unit positions * columns
 
 abbrev pub lane_y : ℕ → ℕ
 lane_y lane = lanes_top + lane_height * lane
@@ -62,15 +70,15 @@ bar_class verdict bar = if is_bad verdict bar then class.Bad else class.Bar
 abbrev pub bar_frame : Result ℕ Fault → List ℕ → Bar → Frame
 bar_frame verdict positions bar = record {
   class = bar_class verdict bar;
-  x = x_of (column positions bar.begin);
+  x = x_of positions (column positions bar.begin);
   y = lane_y bar.lane + 4;
-  width = unit * (column_after positions bar.end - column positions bar.begin);
+  width = x_of positions (column_after positions bar.end) - x_of positions (column positions bar.begin);
   height = 36;
 }
 
 -- the middle of the column of a point
 abbrev pub point_x : List ℕ → ℕ → ℕ
-point_x positions point = x_of (column positions point) + 20
+point_x positions point = x_of positions (column positions point) + unit positions / 2
 
 -- at its point, on the lower side of the bar
 abbrev pub point_frame : List ℕ → Bar → Frame
@@ -92,34 +100,17 @@ abbrev pub lanes_in : List Bar → ℕ
 lanes_in [] = 0
 lanes_in (b ∷ bs) = max (b.lane + 1) (lanes_in bs)
 
--- the right border
+-- the right border, with room for what the last point left
 abbrev pub right_of : List ℕ → ℕ
-right_of positions = x_of (length positions)
+right_of positions = x_of positions (length positions) + 28
 
--- from its point to the right border; the moments behind it cover it
-abbrev pub moment_frame : List ℕ → Moment → Frame
-moment_frame positions moment = record {
-  class = class_of moment.state.mode;
-  x = point_x positions moment.point;
-  y = 32;
-  width = right_of positions - point_x positions moment.point;
-  height = 36;
-}
+-- what the lock is, from one side to another
+abbrev pub state_frame : ℕ → ℕ → State → Frame
+state_frame x until state = record { class = class_of state.mode; x = x; y = 32; width = until - x; height = 36 }
 
--- the state before the first of them, from the border
-abbrev pub opening_frame : List ℕ → State → Frame
-opening_frame positions state = record {
-  class = class_of state.mode;
-  x = border;
-  y = 32;
-  width = right_of positions - border;
-  height = 36;
-}
-
--- what the record holds, from here to the right border
-abbrev pub content_frame : List ℕ → ℕ → Frame
-content_frame positions x =
-    record { class = class.Content; x = x; y = 72; width = right_of positions - x; height = 22 }
+-- what the record holds
+abbrev pub content_frame : ℕ → ℕ → Frame
+content_frame x until = record { class = class.Content; x = x; y = 72; width = until - x; height = 22 }
 
 -- a lane, from side to side
 abbrev pub lane_frame : List ℕ → ℕ → Frame
@@ -134,3 +125,17 @@ lane_frame positions lane = record {
 -- below the lanes
 abbrev pub foot_of : List Bar → ℕ
 foot_of bars = lane_y (lanes_in bars) + 10
+
+-- every how many columns there is a position on the axis: so many that six digits have room
+abbrev pub stride : List ℕ → ℕ
+stride positions = 48 / unit positions + 1
+
+-- from the axis to below the lanes, as wide as the columns up to the next position there
+abbrev pub axis_frame : List ℕ → ℕ → ℕ → Frame
+axis_frame positions lanes column = record {
+  class = class.Axis;
+  x = x_of positions column;
+  y = 98;
+  width = min (x_of positions (column + stride positions)) (right_of positions) - x_of positions column;
+  height = lane_y lanes - 98;
+}

@@ -1,6 +1,6 @@
 -- The labels of a picture: its states and verdicts as texts.
-use Rattle.std.specs.Prelude.{ℕ, ◌==◌, List, [], ◌++◌, Option, Some, None, Result, Ok, Err}
-use Rattle.std.specs.Prelude.{codes, decimal, if◌then◌else◌}
+use Rattle.std.specs.Prelude.{ℕ, ◌-◌, ◌==◌, nat_le, List, [], ◌++◌, Option, Some, None, Result, Ok, Err}
+use Rattle.std.specs.Prelude.{codes, decimal, length, take, if◌then◌else◌}
 use Rattle.stamp_core.specs.Call.{is_lock_call}
 use Rattle.stamp_core.specs.Texts.{call_text, reply_text, words_text}
 use Rattle.stamp_core.specs.declared.call.Call.{Call}
@@ -72,3 +72,9 @@ abbrev pub verdict_text : Result ℕ Fault → List ℕ
 verdict_text (Ok n) = decimal n ++ codes " entries, in order"
 verdict_text (Err fault) =
     codes "entry " ++ (decimal fault.bad.entry ++ (codes ": " ++ reason_text fault.call fault.due fault.bad.why))
+
+-- a line; one that is longer than the width is cut off there, and ends in a sign of it
+abbrev pub shortened : ℕ → List ℕ → List ℕ
+shortened width line =
+    if nat_le (length line) width then line
+    else if width == 0 then [] else take (width - 1) line ++ codes ">"

@@ -1,26 +1,18 @@
 -- A picture in characters, in which time goes down: a line for each moment, and in it a column for each lane.
 use Rattle.std.specs.Prelude.{ℕ, ◌≡◌, ◌≤◌, ◌==◌, ◌&&◌, ◌||◌, ◌^◌, ◌-◌}
 use Rattle.std.specs.Prelude.{nat_le, nat_lt, Bool, false, List, [], ◌∷◌, ◌++◌, Result}
-use Rattle.std.specs.Prelude.{map, take, reverse, length, codes, decimal, if◌then◌else◌}
+use Rattle.std.specs.Prelude.{map, reverse, length, codes, decimal, if◌then◌else◌}
 use Rattle.std.specs.Fmt.{padded_integral, format_spec}
-use Rattle.std.specs.List.{concat, filter, find, range_with_len, Contains}
-use Rattle.std.specs.List.Sorted.{IsStrictlyIncreasing}
+use Rattle.std.specs.List.{concat, filter, find, range_with_len}
 use Rattle.std.specs.Option.{option_map_or}
 use Rattle.stamp_picture.specs.declared.bar.Bar.{Bar}
 use Rattle.stamp_picture.specs.declared.picture.Fault.{Fault}
 use Rattle.stamp_picture.specs.declared.state.State.{State}
 use Rattle.stamp_picture.specs.declared.state.Moment.{Moment}
 use Rattle.stamp_picture.specs.Picture.{Drawn}
-use Rattle.stamp_picture.specs.Frames.{positions_of, is_bad, lanes_in}
+use Rattle.stamp_picture.specs.Frames.{ArePositionsInOrder, is_bad, lanes_in}
 use Rattle.stamp_core.specs.Texts.{call_text, reply_text}
-use Rattle.stamp_picture.specs.Labels.{answered_text, brief_text, verdict_text}
-
--- the positions at which the drawn part of a bar begins or ends, and the points that are shown: each of
--- them once, in rising order
-pub record ArePositionsInOrder (bars : List Bar) (positions : List ℕ) : Type 0 where
-  pub rising : IsStrictlyIncreasing positions
-  pub all : (t : ℕ) → Contains (positions_of bars) t → Contains positions t
-  pub no_more : (t : ℕ) → Contains positions t → Contains (positions_of bars) t
+use Rattle.stamp_picture.specs.Labels.{answered_text, brief_text, shortened, verdict_text}
 
 -- the bar is there at that position: in the part that is drawn, or at its point
 abbrev pub is_at : ℕ → Bar → Bool
@@ -90,12 +82,6 @@ abbrev pub lines_of : Drawn → List ℕ → List (List ℕ)
 lines_of p positions =
     legend_text ∷ at_first_text p.opening ∷ heading_text (lanes_in p.bars) ∷
     (map (row_text p) positions ++ verdict_text p.verdict ∷ [])
-
--- a line; one that is longer than the width is cut off there, and ends in a sign of it
-abbrev pub shortened : ℕ → List ℕ → List ℕ
-shortened width line =
-    if nat_le (length line) width then line
-    else if width == 0 then [] else take (width - 1) line ++ codes ">"
 
 abbrev pub cut_text : ℕ → List ℕ → List ℕ
 cut_text width line = shortened width line ++ 10 ∷ []

@@ -1,11 +1,12 @@
 -- The text of a sheet as SVG.
-use Rattle.std.specs.Prelude.{ℕ, List, [], ◌∷◌, ◌++◌, map, codes, decimal, string_bytes}
+use Rattle.std.specs.Prelude.{ℕ, ◌-◌, ◌/◌, List, [], ◌∷◌, ◌++◌, map, codes, decimal, string_bytes}
 use Rattle.std.specs.List.{concat}
 use Rattle.stamp_picture.specs.declared.frames.Class.{Class}
 use Rattle.stamp_picture.specs.declared.frames.Class.TheVariants.{Free, Reading, Writing, Content}
-use Rattle.stamp_picture.specs.declared.frames.Class.TheVariants.{Lane, Bar, Bad, Point, Note}
+use Rattle.stamp_picture.specs.declared.frames.Class.TheVariants.{Lane, Axis, Bar, Bad, Point, Note}
 use Rattle.stamp_picture.specs.declared.sheet.LabelledBox.{LabelledBox}
 use Rattle.stamp_picture.specs.declared.sheet.Sheet.{Sheet}
+use Rattle.stamp_picture.specs.Labels.{shortened}
 use Rattle.stamp_picture.specs.Markup.{Attribute, escaped, element_text}
 
 abbrev pub class_name : Class → List ℕ
@@ -14,6 +15,7 @@ class_name Reading = codes "reading"
 class_name Writing = codes "writing"
 class_name Content = codes "content"
 class_name Lane = codes "lane"
+class_name Axis = codes "axis"
 class_name Bar = codes "bar"
 class_name Bad = codes "bad"
 class_name Point = codes "mark"
@@ -31,11 +33,16 @@ rect_text = element_text (codes "rect") ((codes "width", codes "100%") ∷ (code
 abbrev pub line_text : List ℕ → List ℕ → List ℕ
 line_text y line = element_text (codes "text") ((codes "x", codes "4") ∷ (codes "y", y) ∷ []) (escaped line)
 
+-- what of a line has room in a box of this width: a character takes less than 7 pixels
+abbrev pub fitted : ℕ → List ℕ → List ℕ
+fitted width line = shortened ((width - 4) / 7) line
+
 -- a title, a box and two lines
 abbrev pub inside_text : LabelledBox → List ℕ
 inside_text s =
     element_text (codes "title") [] (escaped (string_bytes s.title)) ++ (rect_text ++
-    (line_text (codes "15") (string_bytes s.upper) ++ line_text (codes "29") (string_bytes s.lower)))
+    (line_text (codes "15") (fitted s.frame.width (string_bytes s.upper)) ++
+    line_text (codes "29") (fitted s.frame.width (string_bytes s.lower))))
 
 unfoldable pub box_text : LabelledBox → List ℕ
 box_text s = element_text (codes "svg") (box_attributes s) (inside_text s)
@@ -45,8 +52,9 @@ boxes_text boxes = concat (map box_text boxes)
 
 abbrev pub sheet_text : Sheet → List ℕ
 sheet_text s =
-    boxes_text s.lanes.items ++ (boxes_text s.ribbon.items ++ (boxes_text s.content.items ++
-    (boxes_text s.bars.items ++ (boxes_text s.points.items ++ boxes_text s.notes.items))))
+    boxes_text s.lanes.items ++ (boxes_text s.axis.items ++ (boxes_text s.ribbon.items ++
+    (boxes_text s.content.items ++ (boxes_text s.bars.items ++ (boxes_text s.points.items ++
+    boxes_text s.notes.items)))))
 
 abbrev pub view_text : ℕ → ℕ → List ℕ
 view_text width height = codes "0 0 " ++ (decimal width ++ (codes " " ++ decimal height))

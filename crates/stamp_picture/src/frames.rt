@@ -1,27 +1,30 @@
 //! Where bars, points and moments stand on the sheet.
 ghost use Rattle.std.specs.Prelude.{◌≡◌, ◌≤◌, ◌<◌, ◌*◌, length, IfOk, All};
 ghost use Rattle.stamp_picture.specs.Frames as frames;
-ghost use Rattle.stamp_picture.specs.Frames.{positions_of};
+ghost use Rattle.stamp_picture.specs.Frames.{positions_of, ArePositionsInOrder};
 
 use crate::bar::Bar;
 use crate::picture::Fault;
-use crate::state::{Mode, Moment, State};
+use crate::state::{Mode, State};
 use std::alloc::{AllocError, Global};
-
-/// A column, in pixels.
-const UNIT: u64 = 40;
 
 /// The border with the threads of the lanes.
 pub(crate) const BORDER: u64 = 96;
 
 /// Where the first column begins.
-const LEFT: u64 = 136;
+const LEFT: u64 = 112;
+
+/// Behind the last column: room for what the last point left.
+const RIGHT: u64 = 28;
 
 /// A lane.
 const LANE_HEIGHT: u64 = 44;
 
 /// Where the first lane begins.
-const LANES_TOP: u64 = 104;
+const LANES_TOP: u64 = 120;
+
+/// Where the axis begins.
+const AXIS_TOP: u64 = 98;
 
 /// What a box is, by which it has its colour.
 #[derive(Clone, Copy, Debug, PartialEq, Eq)]
@@ -36,6 +39,8 @@ pub enum Class {
     Content,
     /// The lane of a thread.
     Lane,
+    /// A position.
+    Axis,
     /// A call.
     Bar,
     /// The call of the first fault.
@@ -77,6 +82,17 @@ pub(crate) fn positions_of(alloc: Global, bars: &[Bar]) -> Result<Vec<u64>, Allo
     Ok(positions)
 }
 
+/// Each of them once, in rising order.
+pub(crate) fn positions_in_order(alloc: Global, bars: &[Bar]) -> Result<Vec<u64>, AllocError>
+    ensures is { IfOk result (λ positions. ArePositionsInOrder bars.now positions.items) }
+    ensures three { IfOk result (λ positions. length positions.items ≤ 3 * length bars.now) }
+{
+    let mut positions = positions_of(alloc, bars)?;
+    positions.sort_unstable();
+    positions.dedup();
+    Ok(positions)
+}
+
 fn column(positions: &[u64], position: u64) -> u64
     ensures is { result ≡ frames.column positions.now position }
     ensures few { result ≤ length positions.now }
@@ -91,11 +107,26 @@ fn column_after(positions: &[u64], position: u64) -> u64
     positions.iter().filter(|other| **other <= position).count() as u64
 }
 
-fn x_of(columns: u64) -> u64
-    requires { columns ≤ 6000 }
-    ensures { result ≡ frames.x_of columns }
+/// A column, in pixels.
+fn unit(positions: &[u64]) -> u64
+    ensures is { result ≡ frames.unit positions.now }
+    ensures some { 0 < result }
+    ensures few { result ≤ 60 }
 {
-    LEFT + UNIT * columns
+    let columns = positions.len() as u64;
+    if columns <= 2000 {
+        (1200 / columns.max(1)).min(60).max(16)
+    } else {
+        5
+    }
+}
+
+fn x_of(positions: &[u64], columns: u64) -> u64
+    requires { columns ≤ 12000 }
+    ensures is { result ≡ frames.x_of positions.now columns }
+    ensures few { result ≤ 1000000 }
+{
+    LEFT + unit(positions) * columns
 }
 
 fn lane_y(lane: u64) -> u64
@@ -121,9 +152,10 @@ pub(crate) fn lanes_in(bars: &[Bar]) -> u64
 /// The right side of the picture, after the last column.
 pub(crate) fn right_of(positions: &[u64]) -> u64
     requires { length positions.now ≤ 6000 }
-    ensures { result ≡ frames.right_of positions.now }
+    ensures is { result ≡ frames.right_of positions.now }
+    ensures few { result ≤ 32140 }
 {
-    x_of(positions.len() as u64)
+    x_of(positions, positions.len() as u64) + RIGHT
 }
 
 /// Whether the bar is that of the first fault.
@@ -154,11 +186,12 @@ pub(crate) fn bar_frame(verdict: &Result<u64, Fault>, positions: &[u64], bar: &B
 {
     let begin = column(positions, bar.begin);
     let end = column_after(positions, bar.end);
+    let x = x_of(positions, begin);
     Frame {
         class: bar_class(verdict, bar),
-        x: x_of(begin),
+        x,
         y: lane_y(bar.lane) + 4,
-        width: UNIT * end.saturating_sub(begin),
+        width: x_of(positions, end).saturating_sub(x),
         height: 36,
     }
 }
@@ -168,7 +201,7 @@ pub(crate) fn point_x(positions: &[u64], point: u64) -> u64
     requires { length positions.now ≤ 6000 }
     ensures { result ≡ frames.point_x positions.now point }
 {
-    x_of(column(positions, point)) + 20
+    x_of(positions, column(positions, point)) + unit(positions) / 2
 }
 
 /// The box at the point of a call.
@@ -197,45 +230,28 @@ pub(crate) fn class_of(mode: Mode) -> Class
     }
 }
 
-/// The box of what the lock is from a moment on, to the right side.
-pub(crate) fn moment_frame(positions: &[u64], moment: &Moment) -> Frame
-    requires { length positions.now ≤ 6000 }
-    ensures { result ≡ frames.moment_frame positions.now moment.now }
-{
-    let x = point_x(positions, moment.point);
-    Frame {
-        class: class_of(moment.state.mode),
-        x,
-        y: 32,
-        width: right_of(positions).saturating_sub(x),
-        height: 36,
-    }
-}
-
-/// What lock and record are at first, from the border on.
-pub(crate) fn opening_frame(positions: &[u64], state: &State) -> Frame
-    requires { length positions.now ≤ 6000 }
-    ensures { result ≡ frames.opening_frame positions.now state.now }
+/// The box of what the lock is, from one side to another.
+pub(crate) fn state_frame(x: u64, until: u64, state: &State) -> Frame
+    ensures { result ≡ frames.state_frame x until state.now }
 {
     Frame {
         class: class_of(state.mode),
-        x: BORDER,
+        x,
         y: 32,
-        width: right_of(positions) - BORDER,
+        width: until.saturating_sub(x),
         height: 36,
     }
 }
 
-/// The box of what the record holds from here on, to the right side.
-pub(crate) fn content_frame(positions: &[u64], x: u64) -> Frame
-    requires { length positions.now ≤ 6000 }
-    ensures { result ≡ frames.content_frame positions.now x }
+/// The box of what the record holds.
+pub(crate) fn content_frame(x: u64, until: u64) -> Frame
+    ensures { result ≡ frames.content_frame x until }
 {
     Frame {
         class: Class::Content,
         x,
         y: 72,
-        width: right_of(positions).saturating_sub(x),
+        width: until.saturating_sub(x),
         height: 22,
     }
 }
@@ -261,4 +277,31 @@ pub(crate) fn foot_of(bars: &[Bar]) -> u64
     ensures { result ≡ frames.foot_of bars.now }
 {
     lane_y(lanes_in(bars)) + 10
+}
+
+/// Every how many columns there is a position on the axis.
+pub(crate) fn stride(positions: &[u64]) -> u64
+    ensures is { result ≡ frames.stride positions.now }
+    ensures some { 0 < result }
+    ensures few { result ≤ 49 }
+{
+    48 / unit(positions) + 1
+}
+
+/// The box of a position where this column begins, above so many lanes.
+pub(crate) fn axis_frame(positions: &[u64], lanes: u64, column: u64) -> Frame
+    requires few { length positions.now ≤ 6000 }
+    requires lanes { lanes ≤ 64 }
+    requires column { column ≤ 6000 }
+    ensures { result ≡ frames.axis_frame positions.now lanes column }
+{
+    let x = x_of(positions, column);
+    let next = x_of(positions, column + stride(positions));
+    Frame {
+        class: Class::Axis,
+        x,
+        y: AXIS_TOP,
+        width: next.min(right_of(positions)).saturating_sub(x),
+        height: lane_y(lanes) - AXIS_TOP,
+    }
 }

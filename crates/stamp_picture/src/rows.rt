@@ -3,12 +3,12 @@ ghost use Rattle.std.specs.Prelude.{◌≡◌, ◌<◌, ◌==◌, ◌++◌, map,
 ghost use Rattle.std.specs.List.{concat, find};
 ghost use Rattle.stamp_picture.specs.Frames.{lanes_in};
 ghost use Rattle.stamp_picture.specs.Rows as rows;
-ghost use Rattle.stamp_picture.specs.Rows.{ArePositionsInOrder, IsRows, AreNarrow};
+ghost use Rattle.stamp_picture.specs.Rows.{IsRows, AreNarrow};
 ghost use Rattle.stamp_picture.specs.Rows.{sign_text, lane_text, lanes_text, position_text, told_text, left_text};
 ghost use Rattle.stamp_picture.specs.Rows.{row_text, number_text, heading_text, at_first_text, cut_text};
 
 use crate::bar::Bar;
-use crate::frames::{is_bad, lanes_in, positions_of};
+use crate::frames::{is_bad, lanes_in, positions_in_order};
 use crate::labels::{AnsweredLabel, BriefLabel, VerdictLabel};
 use crate::markup::push_text;
 use crate::picture::{Fault, Picture};
@@ -19,17 +19,6 @@ const LEGEND: &str = ", begins  | goes on  * takes effect  ' ends; the faulty en
 
 const HEADING_TAIL: &str =
     "    at  thread: call = reply -> what the lock was then (v: its version)";
-
-/// The positions at which the drawn part of a bar begins or ends, and the points that are shown: each of
-/// them once, in rising order.
-fn positions_in_order(alloc: Global, bars: &[Bar]) -> Result<Vec<u64>, AllocError>
-    ensures { IfOk result (λ positions. ArePositionsInOrder bars.now positions.items) }
-{
-    let mut positions = positions_of(alloc, bars)?;
-    positions.sort_unstable();
-    positions.dedup();
-    Ok(positions)
-}
 
 fn is_at(bar: &Bar, position: u64) -> bool
     ensures { result ≡ rows.is_at position bar.now }

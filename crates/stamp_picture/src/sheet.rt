@@ -1,21 +1,21 @@
 //! The boxes of a picture, with their labels.
-ghost use Rattle.std.specs.Prelude.{◌≡◌, ◌≤◌, ◌<◌, ◌∷◌, [], map, length, IfOk, All, string_bytes, codes, decimal, Some};
+ghost use Rattle.std.specs.Prelude.{◌≡◌, ◌≤◌, ◌<◌, map, length, IfOk, All, string_bytes};
 ghost use Rattle.std.specs.List.{range_with_len};
 ghost use Rattle.stamp_picture.specs.Picture.{most_bars};
-ghost use Rattle.stamp_picture.specs.Frames.{positions_of, opening_frame};
+ghost use Rattle.stamp_picture.specs.Frames.{border};
 ghost use Rattle.stamp_picture.specs.Sheet as spec;
 ghost use Rattle.stamp_picture.specs.Sheet.{IsSheet, box_of, boxes_of, bar_box, point_box, point_boxes};
-ghost use Rattle.stamp_picture.specs.Sheet.{state_box, moment_box};
-ghost use Rattle.stamp_picture.specs.Sheet.{plain_box, content_box, content_boxes, lane_box, legend_box, note_boxes};
+ghost use Rattle.stamp_picture.specs.Sheet.{state_box, ribbon_boxes, plain_box, content_box, content_boxes};
+ghost use Rattle.stamp_picture.specs.Sheet.{lane_box, axis_box, axis_boxes, legend_box, note_boxes};
 
 use crate::bar::Bar;
 use crate::frames::{
-    BORDER, Class, Frame, bar_frame, class_of, content_frame, foot_of, lane_frame, lanes_in,
-    moment_frame, opening_frame, point_frame, point_x, positions_of, right_of,
+    BORDER, Class, Frame, axis_frame, bar_frame, content_frame, foot_of, lane_frame, lanes_in,
+    point_frame, point_x, positions_in_order, right_of, state_frame, stride,
 };
 use crate::labels::{AnsweredLabel, ContentLabel, ShortModeLabel, StateLabel, VerdictLabel};
 use crate::picture::{Fault, Picture};
-use crate::state::{Mode, Moment, State};
+use crate::state::{Moment, State};
 use stamp_core::Words;
 use std::alloc::{AllocError, Global};
 
@@ -41,9 +41,11 @@ pub struct Sheet {
     pub height: u64,
     /// The lanes of the threads.
     pub lanes: Vec<LabelledBox>,
+    /// Positions, of which the axis names as many as have room.
+    pub axis: Vec<LabelledBox>,
     /// What the lock was at first, and after each point.
     pub ribbon: Vec<LabelledBox>,
-    /// What the record holds, at first and where it changes, behind its name.
+    /// What the record held at first, and from each change on, behind its name.
     pub content: Vec<LabelledBox>,
     /// The calls.
     pub bars: Vec<LabelledBox>,
@@ -128,18 +130,19 @@ fn point_boxes(
     Ok(boxes)
 }
 
-fn state_box(alloc: Global, frame: Frame, state: &State) -> Result<LabelledBox, AllocError>
-    ensures { IfOk result (λ labelled. box_of labelled ≡ state_box frame state.now) }
+fn state_box(alloc: Global, x: u64, until: u64, state: &State) -> Result<LabelledBox, AllocError>
+    ensures { IfOk result (λ labelled. box_of labelled ≡ state_box x until state.now) }
 {
     let version = state.version;
     Ok(LabelledBox {
-        frame,
+        frame: state_frame(x, until, state),
         title: StateLabel(*state).to_string(alloc)?,
         upper: ShortModeLabel(state.mode).to_string(alloc)?,
         lower: format!(in alloc; "v {version}")?,
     })
 }
 
+/// A box for each state, to where the next begins.
 fn ribbon_boxes(
     alloc: Global,
     opening: &State,
@@ -148,13 +151,18 @@ fn ribbon_boxes(
 ) -> Result<Vec<LabelledBox>, AllocError>
     requires { length positions.now ≤ 6000 }
     ensures { IfOk result (λ boxes. boxes_of boxes.items
-        ≡ state_box (opening_frame positions.now opening.now) opening.now ∷ map (moment_box positions.now) ribbon.now) }
+        ≡ ribbon_boxes positions.now border opening.now ribbon.now) }
 {
     let mut boxes = Vec::new(alloc);
-    boxes.push(state_box(alloc, opening_frame(positions, opening), opening)?)?;
+    let mut x = BORDER;
+    let mut state = *opening;
     for moment in ribbon {
-        boxes.push(state_box(alloc, moment_frame(positions, moment), &moment.state)?)?;
+        let until = point_x(positions, moment.point);
+        boxes.push(state_box(alloc, x, until, &state)?)?;
+        x = until;
+        state = moment.state;
     }
+    boxes.push(state_box(alloc, x, right_of(positions), &state)?)?;
     Ok(boxes)
 }
 
@@ -185,15 +193,14 @@ fn name_box(alloc: Global, y: u64, name: &str) -> Result<LabelledBox, AllocError
 
 fn content_box(
     alloc: Global,
-    positions: &[u64],
     x: u64,
+    until: u64,
     content: Option<Words>,
 ) -> Result<LabelledBox, AllocError>
-    requires { length positions.now ≤ 6000 }
-    ensures { IfOk result (λ labelled. box_of labelled ≡ content_box positions.now x content) }
+    ensures { IfOk result (λ labelled. box_of labelled ≡ content_box x until content) }
 {
     let label = ContentLabel(content).to_string(alloc)?;
-    plain_box(alloc, content_frame(positions, x), &label)
+    plain_box(alloc, content_frame(x, until), &label)
 }
 
 fn same_content(one: &Option<Words>, other: &Option<Words>) -> bool
@@ -206,7 +213,7 @@ fn same_content(one: &Option<Words>, other: &Option<Words>) -> bool
     }
 }
 
-/// What the record holds at first, and where it changes.
+/// What the record held, each time to where it changes.
 fn content_boxes(
     alloc: Global,
     opening: &State,
@@ -222,15 +229,18 @@ fn content_boxes(
         return Ok(boxes);
     }
     boxes.push(name_box(alloc, 72, "record")?)?;
-    boxes.push(content_box(alloc, positions, BORDER, opening.content)?)?;
+    let mut x = BORDER;
     let mut held = opening.content;
     for moment in ribbon {
         let content = moment.state.content;
         if !same_content(&held, &content) {
-            boxes.push(content_box(alloc, positions, point_x(positions, moment.point), content)?)?;
+            let until = point_x(positions, moment.point);
+            boxes.push(content_box(alloc, x, until, held)?)?;
+            x = until;
             held = content;
         }
     }
+    boxes.push(content_box(alloc, x, right_of(positions), held)?)?;
     Ok(boxes)
 }
 
@@ -255,6 +265,43 @@ fn lane_boxes(alloc: Global, lanes: u64, positions: &[u64]) -> Result<Vec<Labell
     let mut boxes = Vec::new(alloc);
     for lane in 0..lanes {
         boxes.push(lane_box(alloc, positions, lane)?)?;
+    }
+    Ok(boxes)
+}
+
+/// A position where its column begins.
+fn axis_box(
+    alloc: Global,
+    positions: &[u64],
+    lanes: u64,
+    column: usize,
+) -> Result<LabelledBox, AllocError>
+    requires few { length positions.now ≤ 6000 }
+    requires lanes { lanes ≤ 64 }
+    requires column { column < length positions.now }
+    ensures { IfOk result (λ labelled. box_of labelled ≡ axis_box positions.now lanes column) }
+{
+    let position = positions[column];
+    Ok(LabelledBox {
+        frame: axis_frame(positions, lanes, column as u64),
+        title: format!(in alloc; "position {position}")?,
+        upper: position.to_string(alloc)?,
+        lower: String::new(alloc),
+    })
+}
+
+/// A box for each position that the axis names.
+fn axis_boxes(alloc: Global, lanes: u64, positions: &[u64]) -> Result<Vec<LabelledBox>, AllocError>
+    requires few { length positions.now ≤ 6000 }
+    requires lanes { lanes ≤ 64 }
+    ensures { IfOk result (λ boxes. boxes_of boxes.items ≡ axis_boxes positions.now lanes) }
+{
+    let mut boxes = Vec::new(alloc);
+    let stride = stride(positions) as usize;
+    for column in 0..positions.len() {
+        if column % stride == 0 {
+            boxes.push(axis_box(alloc, positions, lanes, column)?)?;
+        }
     }
     Ok(boxes)
 }
@@ -319,23 +366,27 @@ fn note_boxes(
     ]?)
 }
 
-/// The picture as boxes with their labels, on a sheet. Each call stands in its thread's lane, from
-/// its first position to its last as far as the window has them, and in the ribbon stands what the
-/// lock was from each point on. The picture has at most 2,000 bars, in lanes below 64, as each of
-/// `picture_of` has. It refuses only for want of memory.
+/// The picture as boxes with their labels, on a sheet of at most 32,152 by 2,978 pixels, which viewers
+/// take. Each position at which a bar begins or ends, and each point, has a column. Each call stands in
+/// its thread's lane, from its first position to its last as far as the window has them, and in the
+/// ribbon stands what the lock was from each point to the next. The picture has at most 2,000 bars, in
+/// lanes below 64, as each of `picture_of` has. It refuses only for want of memory.
 pub fn sheet_of(alloc: Global, picture: &Picture) -> Result<Sheet, AllocError>
     requires few { length picture.now.bars ≤ most_bars }
     requires lanes { All (λ bar. bar.lane < 64) picture.now.bars }
-    ensures { IfOk result (λ sheet. IsSheet picture.now sheet) }
+    ensures sheet { IfOk result (λ sheet. IsSheet picture.now sheet) }
+    ensures wide { IfOk result (λ sheet. sheet.width ≤ 32152) }
+    ensures high { IfOk result (λ sheet. sheet.height ≤ 2978) }
 {
     let bars = picture.bars();
-    let positions = positions_of(alloc, bars)?;
-    let foot = foot_of(bars);
+    let positions = positions_in_order(alloc, bars)?;
+    let (lanes, foot) = (lanes_in(bars), foot_of(bars));
     let (opening, ribbon) = (picture.opening(), picture.ribbon());
     Ok(Sheet {
         width: right_of(&positions).max(716) + 12,
         height: foot + 32,
-        lanes: lane_boxes(alloc, lanes_in(bars), &positions)?,
+        lanes: lane_boxes(alloc, lanes, &positions)?,
+        axis: axis_boxes(alloc, lanes, &positions)?,
         ribbon: ribbon_boxes(alloc, &opening, ribbon, &positions)?,
         content: content_boxes(alloc, &opening, ribbon, &positions)?,
         bars: bar_boxes(alloc, picture.verdict(), bars, &positions)?,

@@ -1,7 +1,7 @@
 //! The text of a sheet as SVG.
 ghost use Rattle.std.specs.Prelude.{◌≡◌, ◌++◌, ◌∷◌, [], codes, OnOk, IfOk, string_bytes};
 ghost use Rattle.stamp_picture.specs.Markup.{escaped, element_text, IsDocument};
-ghost use Rattle.stamp_picture.specs.Svg.{class_name, inside_text, box_text, boxes_text, sheet_text, svg_text};
+ghost use Rattle.stamp_picture.specs.Svg.{class_name, fitted, inside_text, box_text, boxes_text, sheet_text, svg_text};
 ghost use Rattle.stamp_picture.specs.Svg as spec;
 
 use crate::frames::Class;
@@ -18,6 +18,7 @@ fn class_name(class: Class) -> &'static str
         Class::Writing => "writing",
         Class::Content => "content",
         Class::Lane => "lane",
+        Class::Axis => "axis",
         Class::Bar => "bar",
         Class::Bad => "bad",
         // A style names the classes, so this one keeps the name that it was printed with first.
@@ -32,13 +33,27 @@ fn push_rect(text: &mut Vec<u8>) -> Result<(), AllocError>
     push_text(text, "<rect width=\"100%\" height=\"100%\"></rect>")
 }
 
-fn push_line(text: &mut Vec<u8>, y: &str, line: &str) -> Result<(), AllocError>
-    ensures { OnOk result (text.new.items ≡ text.old.items ++ spec.line_text y.now line.now) }
+/// As much of a line as has room in a box of this width; where it is cut, it ends in a sign of it.
+fn push_fitted(text: &mut Vec<u8>, width: u64, line: &[u8]) -> Result<(), AllocError>
+    ensures { OnOk result (text.new.items ≡ text.old.items ++ escaped (fitted width line.now)) }
+{
+    let room = (width.saturating_sub(4) / 7) as usize;
+    if line.len() <= room {
+        push_escaped(text, line)?;
+    } else if room > 0 {
+        push_escaped(text, &line[..room - 1])?;
+        push_text(text, "&gt;")?;
+    }
+    Ok(())
+}
+
+fn push_line(text: &mut Vec<u8>, y: &str, width: u64, line: &str) -> Result<(), AllocError>
+    ensures { OnOk result (text.new.items ≡ text.old.items ++ spec.line_text y.now (fitted width line.now)) }
 {
     push_text(text, "<text x=\"4\"")?;
     push_attribute(text, "y", y)?;
     push_text(text, ">")?;
-    push_escaped(text, line.as_bytes())?;
+    push_fitted(text, width, line.as_bytes())?;
     push_text(text, "</text>")?;
     Ok(())
 }
@@ -46,10 +61,11 @@ fn push_line(text: &mut Vec<u8>, y: &str, line: &str) -> Result<(), AllocError>
 fn push_inside(text: &mut Vec<u8>, labelled: &LabelledBox) -> Result<(), AllocError>
     ensures { OnOk result (text.new.items ≡ text.old.items ++ inside_text labelled.now) }
 {
+    let width = labelled.frame.width;
     push_plain(text, "title", &labelled.title)?;
     push_rect(text)?;
-    push_line(text, "15", &labelled.upper)?;
-    push_line(text, "29", &labelled.lower)?;
+    push_line(text, "15", width, &labelled.upper)?;
+    push_line(text, "29", width, &labelled.lower)?;
     Ok(())
 }
 
@@ -81,6 +97,7 @@ fn push_sheet(text: &mut Vec<u8>, sheet: &Sheet) -> Result<(), AllocError>
     ensures { OnOk result (text.new.items ≡ text.old.items ++ sheet_text sheet.now) }
 {
     push_boxes(text, &sheet.lanes)?;
+    push_boxes(text, &sheet.axis)?;
     push_boxes(text, &sheet.ribbon)?;
     push_boxes(text, &sheet.content)?;
     push_boxes(text, &sheet.bars)?;

@@ -3,8 +3,8 @@
 /// The style of the SVG.
 pub(crate) const STYLE: &str = "svg{font:11px monospace}
 text{fill:#000}
-.lane rect{fill:none;stroke:#999;stroke-width:0.5}
-.lane text,.note text{fill:#333}
+.lane rect,.axis rect{fill:none;stroke:#999;stroke-width:0.5}
+.lane text,.axis text,.note text{fill:#333}
 .note rect{fill:none}
 .free rect{fill:#dddddd;stroke:#fff}
 .reading rect{fill:#56b4e9;stroke:#fff}
@@ -14,4 +14,4 @@ text{fill:#000}
 .bar text{fill:#fff}
 .bad rect{fill:#d55e00;stroke:#000;stroke-width:3}
 .mark rect{fill:#000;stroke:#fff}
-@media (prefers-color-scheme:dark){.lane text,.note text{fill:#eee}.mark rect{fill:#fff;stroke:#000}.bad rect{stroke:#fff}}";
+@media (prefers-color-scheme:dark){.lane text,.axis text,.note text{fill:#eee}.mark rect{fill:#fff;stroke:#000}.bad rect{stroke:#fff}}";

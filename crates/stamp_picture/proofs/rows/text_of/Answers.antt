@@ -4,10 +4,10 @@ use Rattle.std.specs.List.{concat}
 use Rattle.stamp_picture.specs.declared.bar.Bar.{Bar}
 use Rattle.stamp_picture.specs.declared.picture.Fault.{Fault}
 use Rattle.stamp_picture.specs.declared.state.State.{State}
-use Rattle.stamp_picture.specs.Frames.{lanes_in}
+use Rattle.stamp_picture.specs.Frames.{ArePositionsInOrder, lanes_in}
 use Rattle.stamp_picture.specs.Labels.{verdict_text}
 use Rattle.stamp_picture.specs.Rows.{row_text, cut_text, legend_text, at_first_text, heading_text, lines_of}
-use Rattle.stamp_picture.specs.Rows.{ArePositionsInOrder, AreNarrow}
+use Rattle.stamp_picture.specs.Rows.{AreNarrow}
 use Rattle.stamp_picture.proofs.Appending.{onto}
 use Rattle.stamp_picture.proofs.Narrow.{rows_joined, all_narrow}
 use Rattle.stamp_picture.proofs.rows.text_of.Goals as goal
@@ -32,7 +32,7 @@ returns-clause-rows c =
     record {
       positions = positions;
       are_in_order = subst (λ (bars : List Bar). ArePositionsInOrder bars positions) c.bars-2.ensures
-          c.in_ok-positions.ensures;
+          c.in_ok-positions.ensures.is;
       is =
           onto _ legend (first ++ (heading ++ (rows ++ last)))
           (rw c.as_bytes.ensures.value at c.in_ok-push_line.ensures)

@@ -2,10 +2,10 @@ use Rattle.std.proofs.lemmas.List.Filters.{dedup_is}
 use Rattle.std.proofs.lemmas.List.Kept.{Contains-dedup_nat, Contains-from_dedup}
 use Rattle.std.proofs.lemmas.List.Sorted.{Contains-permutation, IsPermutation-sym}
 use Rattle.std.proofs.lemmas.Map.Keys.{IsStrictlyIncreasing-dedup}
-use Rattle.stamp_picture.proofs.rows.positions_in_order.Goals as goal
+use Rattle.stamp_picture.proofs.frames.positions_in_order.Goals as goal
 
-pub returns : goal.returns
-returns c =
+pub returns-clause-is : goal.returns-clause-is
+returns-clause-is c =
     let is = dedup_is _ _ _ c.dedup.ensures.filtered in
     let moved = rw c.in_ok-positions.ensures.is at c.sort_unstable.ensures.permutation in
     record {
