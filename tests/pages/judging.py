@@ -22,7 +22,7 @@ BUILT = {"(cd crates/stamped_explain && rt run < stdin)", "PATH=$PWD/crates/stam
 JUDGE, ENTRY, PLANT = "stamped_explain --judge --told < run.json", "17", "planted upgrade 4 1500"
 PRINT = ("python3 -c 'import json, sys; print(json.load(open(sys.argv[1]))[\"entries\"][int(sys.argv[2])])' "
          "run.json 17")
-UNTIL = "python3 recorders/until.py 17 '[1, 2]' < run.json | stamped_explain | stamped_picture --text"
+UNTIL = "python3 recorders/until.py 17 '[1, 2]' < run.json | stamped_explain | stamped_picture --text --width 200"
 PAGE_OF_RUN = "stamped_picture --html < run.json > run.html"
 JAVA = ["javac -d classes recorders/java/*.java", "java -cp classes Accounts > run.json", JUDGE]
 LIVE = ["mkfifo run.events",
