@@ -71,6 +71,23 @@ SMALL = [
      '{"call":["try_write"],"first":5,"last":8,"reply":768,"thread":1}],'
      '"format":1,"readers":1,"versions":9,"width":0}'),
 ]
+# With 25 configurations the return of entry 5 is stuck. The calls by their beginnings would want more, since then the
+# readers are tried before the writer: so no small history is found, and it is what was seen when entry 5 returned.
+LONG = """{"entries":[
+    {"call":["try_write"],"first":1,"thread":7},
+    {"call":["try_read"],"first":0,"last":8,"reply":0,"thread":1},
+    {"call":["try_read"],"first":0,"thread":2},
+    {"call":["try_read"],"first":0,"thread":3},
+    {"call":["optimistic"],"first":0,"last":5,"reply":0,"thread":0},
+    {"call":["try_read"],"first":0,"last":6,"reply":999,"thread":4},
+    {"call":["read_count"],"first":7,"last":9,"reply":{"count":0},"thread":5}],
+    "format":1,"readers":127,"versions":100,"width":0}"""
+LONG_NOTE = "entry 5 of thread 4: try_read answered 999; what was possible is undecided"
+CUT = ('{"entries":[{"call":["try_write"],"first":1,"thread":7},{"call":["try_read"],"first":0,"thread":1},'
+       '{"call":["try_read"],"first":0,"thread":2},{"call":["try_read"],"first":0,"thread":3},'
+       '{"call":["optimistic"],"first":0,"last":5,"reply":0,"thread":0},'
+       '{"call":["try_read"],"first":0,"last":6,"reply":999,"thread":4}],'
+       '"format":1,"readers":127,"versions":100,"width":0}')
 # What the program tells of itself: each of its options, and how many configurations it looks at without `--most`.
 HELPED = ["stamped_explain [--judge] [--told] [--small] [--most N]", "4000000", "--judge  ", "--told  ", "--small  ",
           "stamped_explain --help\n"]
@@ -113,11 +130,14 @@ def try_told(program):
 
 
 def try_small(program):
-    """A small history takes the place of the entry alone, and is stuck itself."""
+    """A small history takes the place of the entry alone, and is stuck itself; so does the run where none is found."""
     for text, note, small in SMALL:
         expect(program, ["--small"], text, small, note, 1)
         expect(program, [], small, "stuck 2", note.replace("entry 3", "entry 2"), 1)
-    print(f"small histories: {len(SMALL)} as they are to be")
+    expect(program, ["--small", "--most", "25"], LONG, CUT, LONG_NOTE, 1)
+    for text in (LONG, CUT):
+        expect(program, ["--most", "25"], text, "stuck 5", LONG_NOTE, 1)
+    print(f"small histories: {len(SMALL) + 1} as they are to be")
 
 
 def forms_with(*option):

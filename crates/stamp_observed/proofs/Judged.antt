@@ -1,6 +1,8 @@
--- A candidate whose history is stuck at its last call, with the same possible replies, is stuck as the run is.
-use Rattle.std.proofs.Common.{◌≡◌, ◌++◌, ◌∷◌, [], ℕ, List, Some, length, length-append, arith, refl, ap, ◌∙◌}
+-- A candidate whose history is stuck at its last call, where it ends, with the same possible replies, is stuck as the
+-- run is.
+use Rattle.std.proofs.Common.{◌≡◌, ◌≤◌, ◌+◌, ◌++◌, ◌∷◌, [], ℕ, List, Some, length, length-append, arith, refl, ap, ◌∙◌}
 use Rattle.std.specs.Prelude.{slice_get}
+use Rattle.std.specs.List.{All}
 use Rattle.std.proofs.lemmas.Option.{slice_get-get_or}
 use Rattle.std.proofs.Math.Seq.{get_or-append_seam}
 use Rattle.stamp_core.specs.Limits.{units}
@@ -12,6 +14,8 @@ use Rattle.stamp_observed.specs.declared.candidate.Candidate.{Candidate}
 use Rattle.stamp_observed.specs.Small.{ArePossibleToo, IsStuckAs, renumbered_possible}
 use Rattle.stamp_observed.specs.inner.Fault.{IsFaultOf, replies_in}
 use Rattle.stamp_observed.specs.inner.Candidate.{history_of, return_in, stand_in}
+use Rattle.stamp_observed.specs.inner.Over.{IsOverBy}
+use Rattle.stamp_observed.proofs.CutAgain.{all_over}
 
 last_of : (es : List Observation) (e : Observation) → slice_get (es ++ e ∷ []) (length es) ≡ Some e
 last_of es e =
@@ -21,10 +25,10 @@ last_of es e =
 pub stuck_as : (h : ObservedHistory) (most : ℕ) (fault : Fault) (c : Candidate) (small : ObservedHistory)
     (place : ℕ) →
     IsFaultOf h most fault → IsObserved small → small ≡ history_of h fault c → place ≡ length c.others.items →
-    IsStuck small place →
+    All (IsOverBy c.last) small.entries → IsStuck small place →
     ArePossibleToo small place (renumbered_possible (units h.limits) c.versions (replies_in fault.possible)) →
     IsStuckAs h most fault.entry small
-stuck_as h most fault c small place is observed same here stuck too = record {
+stuck_as h most fault c small place is observed same here over stuck too = record {
   observed = observed;
   limits = ap (λ (g : ObservedHistory). g.limits) same;
   width = ap (λ (g : ObservedHistory). g.width) same;
@@ -39,9 +43,18 @@ stuck_as h most fault c small place is observed same here stuck too = record {
     returned = refl;
   };
   stuck = stuck;
+  whole = all_over small c.last (place + 1) over length_is;
   versions = c.versions;
   renumbered = record { thread = refl; call = refl; reply = refl };
   replies = replies_in fault.possible;
   possible = is.possible;
   too = too;
 }
+  where
+    length_is : length small.entries ≤ place + 1
+    length_is = omega (
+      arith,
+      here,
+      ap (λ (g : ObservedHistory). length g.entries) same,
+      length-append c.others.items (stand_in (units h.limits) fault c ∷ []),
+    )

@@ -5,4 +5,7 @@ pub mod Known
 pub mod OneFault
 pub mod ObservedParts
 pub mod ReadsAgain
+pub mod CutAgain
+pub mod NoneLeftOut
+pub mod SeenStuck
 pub mod Judged

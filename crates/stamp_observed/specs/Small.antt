@@ -1,12 +1,12 @@
 -- When an observed history is stuck as another one.
-use Rattle.std.specs.Prelude.{ℕ, ◌≡◌, List, map, Option, Some, None}
+use Rattle.std.specs.Prelude.{ℕ, ◌≡◌, ◌+◌, List, map, Option, Some, None}
 use Rattle.std.specs.List.{All, Contains}
 use Rattle.stamp_core.specs.Layout.{Units}
 use Rattle.stamp_core.specs.Limits.{units}
 use Rattle.stamp_core.specs.declared.reply.Reply.{Reply}
 use Rattle.stamp_explain.specs.declared.observed.Observation.{Observation}
 use Rattle.stamp_explain.specs.declared.observed.Returned.{Returned}
-use Rattle.stamp_explain.specs.Cut.{IsStuck}
+use Rattle.stamp_explain.specs.Cut.{IsStuck, seen_at}
 use Rattle.stamp_explain.specs.Observed.{ObservedHistory, IsObserved, IsReturnAt}
 use Rattle.stamp_explain.specs.Possible.{AreAllPossible, IsUndecidedAtAny}
 use Rattle.stamp_observed.specs.Renumbering.{renumbered_call, renumbered_reply}
@@ -38,8 +38,13 @@ pub record IsRenumbered (u : Units) (k : ℕ) (e : Observation) (r : Returned) (
     pub call : f.call ≡ renumbered_call u k e.call
     pub reply : s.reply ≡ renumbered_reply u k r.reply
 
+-- nothing in a history is later than this return, of the call of this entry: what is seen then is all of it. So no
+-- call begins behind it, and each other that has returned did so before, or at that position and is listed before
+abbrev pub IsCutThere : ObservedHistory → ℕ → Returned → Type 0
+IsCutThere h i r = seen_at r.last (i + 1) h ≡ h
+
 -- a history under the same limits is stuck, at the return of a call that is the one of this entry with stamps
--- renumbered; and the same replies were possible, renumbered
+-- renumbered, and nothing in it is later; and the same replies were possible, renumbered
 pub record IsStuckAs (h : ObservedHistory) (most i : ℕ) (small : ObservedHistory) : Type 0 where
   pub observed : IsObserved small
   pub limits : small.limits ≡ h.limits
@@ -48,6 +53,7 @@ pub record IsStuckAs (h : ObservedHistory) (most i : ℕ) (small : ObservedHisto
   pub place : ℕ
   pub there : IsReturnAt small.entries place
   pub stuck : IsStuck small place
+  pub whole : IsCutThere small place there.return
   pub versions : ℕ
   pub renumbered : IsRenumbered (units h.limits) versions at.entry at.return there.entry there.return
   pub replies : Option (List Reply)

@@ -3,3 +3,4 @@ pub mod Span
 pub mod ProgramValue
 pub mod Fault
 pub mod Candidate
+pub mod Over

@@ -7,12 +7,13 @@ ghost use Rattle.stamp_explain.specs.Observed.{IsObserved, IsReturnAt};
 ghost use Rattle.stamp_observed.specs.Renumbering.{renumbered_reply};
 ghost use Rattle.stamp_observed.specs.Small.{ArePossibleToo, HaveSame, IsStuckAs, renumbered_possible};
 ghost use Rattle.stamp_observed.specs.inner.Fault.{IsFaultOf, replies_in};
+ghost use Rattle.stamp_observed.specs.inner.Over.{IsOverBy};
 
 use crate::candidate::{Candidate, history_of};
 use crate::fault::Fault;
 use crate::renumbering::renumbered_replies;
 use stamp_core::{Layout, Reply};
-use stamp_explain::{ExplainError, Observed, PossibleError, explain, possible_at};
+use stamp_explain::{ExplainError, Observation, Observed, PossibleError, explain, possible_at};
 use std::alloc::{AllocError, Global};
 
 /// A candidate that is stuck as the run is, and its history.
@@ -115,6 +116,28 @@ fn has_same_possible(
     }
 }
 
+/// Whether the call begins no later than at this position, and hasn't returned later.
+fn is_over_by(call: &Observation, last: u64) -> bool
+    ensures { IsTrue result → IsOverBy last call.now }
+{
+    match &call.returned {
+        None => call.first <= last,
+        Some(returned) => call.first <= last && returned.last <= last,
+    }
+}
+
+/// Whether nothing in the history is later than this position.
+fn are_over_by(small: &Observed, last: u64) -> bool
+    ensures { IsTrue result → All (IsOverBy last) small.now.entries }
+{
+    for call in small.entries() {
+        if !is_over_by(call, last) {
+            return false;
+        }
+    }
+    true
+}
+
 /// The candidate with its history, if that is found to be stuck as the run is.
 pub(crate) fn found_of(
     alloc: Global,
@@ -129,6 +152,9 @@ pub(crate) fn found_of(
     let Some(small) = history_of(alloc, observed, fault, &candidate)? else {
         return Ok(None);
     };
+    if !are_over_by(&small, candidate.last) {
+        return Ok(None);
+    }
     let place = candidate.others.len();
     if !is_stuck_at(alloc, &small, place, most)? {
         return Ok(None);

@@ -1,6 +1,7 @@
 //! A small history that is stuck as a long one is.
 ghost use Rattle.std.specs.Prelude.{IfOk, IfSome};
-ghost use Rattle.stamp_explain.specs.Observed.{IsObserved, IsReturnAt};
+ghost use Rattle.stamp_explain.specs.Cut.{IsStuck};
+ghost use Rattle.stamp_explain.specs.Observed.{IsObserved};
 ghost use Rattle.stamp_observed.specs.Small.{IsStuckAs};
 ghost use Rattle.stamp_observed.specs.inner.Fault.{IsFaultOf};
 
@@ -11,7 +12,7 @@ use crate::judging_again::{Found, found_of};
 use crate::leaving::without_more;
 use crate::window::{OlderStamps, window_behind};
 use stamp_core::Entry;
-use stamp_explain::Observed;
+use stamp_explain::{Observed, seen_until};
 use std::alloc::{AllocError, Global};
 
 /// How many calls of an order a window has, one window after the other.
@@ -74,7 +75,7 @@ fn any_window_found(
     }
 }
 
-/// What is stuck as the run is: a window of it, or else the run up to the return.
+/// What is found to be stuck as the run is: a window of it, or else the run up to the return.
 fn first_found(
     alloc: Global,
     observed: &Observed,
@@ -92,26 +93,26 @@ fn first_found(
 }
 
 /// A small history that is stuck as this one is at the return of an entry: at the return of the same call by the
-/// same thread, with the same reply, where the same replies were possible. The versions of its stamps are counted
-/// from a later one on; a stamp of an earlier version is 0 there. It is made of the last calls that took effect
-/// before the return, behind calls that bring a new lock and record to where they begin; or, where that isn't
-/// stuck so, of the whole run up to the return. Calls that don't matter are left out. Each search of it gives up
-/// once it has looked at more than `most` configurations; there is none where no such history is found. Where it
-/// is undecided which replies were possible, they aren't compared. It refuses only for want of memory.
+/// same thread, with the same reply, where the same replies were possible. Nothing in it is later than this return.
+/// The versions of its stamps are counted from a later one on; a stamp of an earlier version is 0 there. It is made
+/// of the last calls that took effect before the return, behind calls that bring a new lock and record to where they
+/// begin; or, where that isn't stuck so, of the whole run up to the return. Calls that don't matter are left out.
+/// Each search of it gives up once it has looked at more than `most` configurations. Where none is found so, it is
+/// what was seen of the run when the entry returned. Where it is undecided which replies were possible, they aren't
+/// compared. It refuses only for want of memory.
 pub fn small_of(
     alloc: Global,
     observed: &Observed,
     entry: usize,
     most: u64,
-) -> Result<Option<Observed>, AllocError>
+) -> Result<Observed, AllocError>
     requires observed { IsObserved observed.now }
-    requires returned { IsReturnAt observed.now.entries entry }
-    ensures { IfOk result (λ found. IfSome found (λ small. IsStuckAs observed.now most entry small)) }
+    requires stuck { IsStuck observed.now entry }
+    ensures { IfOk result (λ small. IsStuckAs observed.now most entry small) }
 {
     let fault = fault_at(alloc, observed, entry, most)?;
-    let Some(found) = first_found(alloc, observed, &fault, most)? else {
-        return Ok(None);
-    };
-    let fewer = without_more(alloc, observed, &fault, found, most)?;
-    Ok(Some(fewer.small))
+    match first_found(alloc, observed, &fault, most)? {
+        Some(found) => Ok(without_more(alloc, observed, &fault, found, most)?.small),
+        None => seen_until(alloc, observed, entry, Some(fault.returned.reply)),
+    }
 }

@@ -1,5 +1,5 @@
 -- The line of what is found of an observed history, and what it says.
-use Rattle.std.specs.Prelude.{ℕ, ◌≡◌, ◌⊎◌, List, ◌++◌, codes, decimal, length}
+use Rattle.std.specs.Prelude.{ℕ, ◌≡◌, List, ◌++◌, codes, decimal, length}
 use Rattle.stamp_cli.specs.CheckText.{ok_text}
 use Rattle.stamp_cli.specs.declared.line.Verdict.{Verdict}
 use Rattle.stamp_cli.specs.declared.line.Verdict.TheVariants.{Accepted, Bad}
@@ -44,14 +44,10 @@ pub record IsTextOfSmall (h : ObservedHistory) (most i : ℕ) (text : List ℕ) 
   pub stuck : IsStuckAs h most i small
   pub says : text ≡ observed_text small
 
--- such a text, or the entry, where no such history was found
-abbrev pub IsSmallText : ObservedHistory → ℕ → ℕ → List ℕ → Type 0
-IsSmallText h most i text = IsTextOfSmall h most i text ⊎ (text ≡ stuck_line i)
-
 -- what is written of a history that is stuck at the return of this entry
 abbrev pub IsStuckText : Shown → ObservedHistory → ℕ → ℕ → List ℕ → Type 0
 IsStuckText Entry h most i text = text ≡ stuck_line i
-IsStuckText Small h most i text = IsSmallText h most i text
+IsStuckText Small h most i text = IsTextOfSmall h most i text
 
 -- what is written of what is found
 abbrev pub IsFindingText : ObservedHistory → Explaining → Finding → List ℕ → Type 0

@@ -3,9 +3,9 @@
 ghost use Rattle.std.specs.Prelude.{◌≡◌, Some, IfOk, IfErr, length};
 ghost use Rattle.stamp_core.specs.Linearized.{IsLinearized};
 ghost use Rattle.stamp_explain.specs.Cut.{IsStuck};
-ghost use Rattle.stamp_explain.specs.Observed.{IsObserved, IsReturnAt};
+ghost use Rattle.stamp_explain.specs.Observed.{IsObserved};
 ghost use Rattle.stamped_explain.specs.FindingText.{why_text, bad_text, explained_text, stuck_line, finding_verdict};
-ghost use Rattle.stamped_explain.specs.FindingText.{IsSmallText, IsStuckText, IsFindingText};
+ghost use Rattle.stamped_explain.specs.FindingText.{IsTextOfSmall, IsStuckText, IsFindingText};
 ghost use Rattle.stamped_explain.specs.Finding.{IsFinding, IsLinearizedIfMade};
 
 use crate::finding::Finding;
@@ -78,8 +78,7 @@ fn entry_text(alloc: Global, entry: usize) -> Result<Vec<u8>, ServeFault>
     Ok(format!(in alloc; "stuck {entry}")?.into_bytes())
 }
 
-/// The text of a history that is stuck at the return of this entry: a small history that is stuck so, or the
-/// line, if no small one is found.
+/// The text of a small history that is stuck as this one is at the return of this entry.
 fn small_text(
     alloc: Global,
     observed: &Observed,
@@ -87,13 +86,11 @@ fn small_text(
     most: u64,
 ) -> Result<Vec<u8>, ServeFault>
     requires observed { IsObserved observed.now }
-    requires returned { IsReturnAt observed.now.entries entry }
-    ensures text { IfOk result (λ text. IsSmallText observed.now most entry text.items) }
+    requires stuck { IsStuck observed.now entry }
+    ensures text { IfOk result (λ text. IsTextOfSmall observed.now most entry text.items) }
     ensures memory { IfErr result (λ e. e ≡ ServeFault.Memory) }
 {
-    let Some(small) = small_of(alloc, observed, entry, most)? else {
-        return entry_text(alloc, entry);
-    };
+    let small = small_of(alloc, observed, entry, most)?;
     match write_observed(alloc, &small) {
         Ok(text) => Ok(text),
         Err(_) => Err(ServeFault::Memory),

@@ -7,6 +7,6 @@ pub(crate) const HELP: &str =
   writes the recorded history found, stuck E, undecided E or bad E WHY; status 0 for a history alone
   --judge  writes ok N in place of the history, which is checked: it has N entries
   --told   tells on standard error, of a history that is explained, how many calls overlapped or failed
-  --small  writes in place of stuck E a small history that is stuck so, if one is found
+  --small  writes in place of stuck E a small history that is stuck so
 stamped_explain --help
 ";
