@@ -1,9 +1,10 @@
 -- Where the events that a judge keeps begin: the words and open calls that are possible there.
-use Rattle.std.specs.Prelude.{ℕ, ◌≡◌, ◌<◌, ◌&&◌, ◌==◌, ◌⊎◌, Option, Some, None, MatchOption, option_map, option_and_then}
+use Rattle.std.specs.Prelude.{ℕ, ◌≡◌, ◌≤◌, ◌&&◌, ◌==◌, Option, Some, None, MatchOption, option_map, option_and_then}
 use Rattle.std.specs.Prelude.{nat_lt, slice_get, if◌then◌else◌}
 use Rattle.std.specs.Int.{bit_at}
 use Rattle.stamp_core.specs.declared.call.Call.{Call}
 use Rattle.stamp_watch.specs.declared.late.LateJudge.{LateJudge}
+use Rattle.stamp_watch.specs.declared.online.Judge.{Judge}
 use Rattle.stamp_watch.specs.declared.open_call.OpenCall.{OpenCall}
 use Rattle.stamp_watch.specs.declared.position.Position.{Position}
 use Rattle.stamp_watch.specs.declared.watch.Watch.{Watch}
@@ -29,6 +30,11 @@ waiting_in watch lane p =
 abbrev pub waiting_of : Watch → ℕ → ℕ → Option Call
 waiting_of watch start lane = option_and_then (waiting_in watch lane) (position_of watch start)
 
--- a call that began before the event with this number was put aside
-abbrev pub BeganLateBefore : LateJudge → ℕ → Type 0
-BeganLateBefore judge number = MatchOption judge.delay.first_late ⊥ (λ (first : ℕ). first < number)
+-- a call that begins no later than at the event with this number was put aside
+abbrev pub BeganLateBy : LateJudge → ℕ → Type 0
+BeganLateBy judge number = MatchOption judge.delay.first_late ⊥ (λ (first : ℕ). first ≤ number)
+
+-- it is the judge inside, and none was
+pub record IsJudgeUpTo (judge : LateJudge) (number : ℕ) (inner : Judge) : Type 0 where
+  pub is : inner ≡ judge.delay.judge
+  pub none : ¬ BeganLateBy judge number

@@ -1,7 +1,7 @@
 //! Where the events that a judge keeps begin. It doesn't know in which of some configurations lock and lanes are there:
 //! each is a start. From one of them at least the events are explained as far as the run is.
 ghost use Rattle.std.specs.Prelude.{◌≡◌, MatchOption, length};
-ghost use Rattle.stamp_watch.specs.Start.{BeganLateBefore, waiting_in, waiting_of, word_of};
+ghost use Rattle.stamp_watch.specs.Start.{BeganLateBy, IsJudgeUpTo, waiting_in, waiting_of, word_of};
 
 use crate::late::LateJudge;
 use crate::online::Judge;
@@ -69,14 +69,14 @@ impl Judge {
 }
 
 impl LateJudge {
-    /// The judge of the events as they came, up to the one with this number; none where a call that began before it
-    /// began late.
+    /// The judge of the events as they came, up to the one with this number; none where one of them begins a call that
+    /// begins late.
     pub fn judge_up_to(&self, number: u64) -> Option<&Judge>
-        ensures { MatchOption result (BeganLateBefore self.now number)
-            (λ judge. judge.now ≡ self.now.delay.judge) }
+        ensures { MatchOption result (BeganLateBy self.now number)
+            (λ judge. IsJudgeUpTo self.now number judge.now) }
     {
         match self.delay.first_late {
-            Some(first) if first < number => None,
+            Some(first) if first <= number => None,
             _ => Some(&self.delay.judge),
         }
     }
