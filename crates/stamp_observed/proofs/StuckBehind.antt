@@ -1,7 +1,7 @@
 -- A history that is stuck behind an opening, and one made small of it, are stuck at the same call.
-use Rattle.std.proofs.Common.{◌≡◌, [], ℕ, List, Some, length, arith, refl, ap, ◌∙◌}
+use Rattle.std.proofs.Common.{◌≡◌, [], ℕ, List, length, arith, refl, ap, ◌∙◌}
 use Rattle.std.proofs.Common.{◌+◌}
-use Rattle.std.specs.Prelude.{slice_get, Option, None, IfSome}
+use Rattle.std.specs.Prelude.{slice_get}
 use Rattle.std.proofs.lemmas.Bool.Decides.{nat_tests}
 use Rattle.stamp_core.specs.Layout.{Units, narrow, wide, units_of}
 use Rattle.stamp_core.specs.Limits.{Bounds, units}
@@ -131,11 +131,8 @@ stuck_with limits e most found small is so =
       place = so.place;
       there = so.there;
       stuck = so.stuck;
+      whole = so.whole;
       versions = is.versions + so.versions;
       renumbered = renumbered_twice limits.layout is.versions so.versions e is.there.entry so.there.entry
           is.fault.returned is.there.return so.there.return is.renumbered second;
     }
-
-pub some_weaker : {X : Type 0} (o : Option X) (P Q : X → Type 0) → ((x : X) → P x → Q x) → IfSome o P → IfSome o Q
-some_weaker None P Q weaker is = is
-some_weaker (Some x) P Q weaker is = weaker x is
