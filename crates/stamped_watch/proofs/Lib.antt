@@ -8,3 +8,4 @@ pub mod ReadingOn
 pub mod Files
 pub mod LinesTold
 pub mod Witnessing
+pub mod Showing

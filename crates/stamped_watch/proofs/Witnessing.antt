@@ -1,12 +1,12 @@
 -- A witness by the events that a judge keeps is one of the stream.
 use Rattle.std.proofs.Common.{ℕ, ◌≡◌, ◌++◌, ◌∷◌, [], List, Option, Some, None, Bool, true, false, length, take, drop, refl, ap}
 use Rattle.std.proofs.Common.{sym, subst, ◌∙◌, ◌+◌, ◌-◌, ◌<◌, ◌≤◌, arith, inl, inr, length-append}
-use Rattle.std.specs.Prelude.{◌⊎◌, ◌==◌, slice_get, nat_le, if◌then◌else◌, option_map, option_and_then, MatchOption, ⊤}
+use Rattle.std.specs.Prelude.{◌⊎◌, ◌==◌, IfSome, slice_get, nat_le, if◌then◌else◌, option_map, option_and_then, MatchOption, ⊤}
 use Rattle.std.specs.List.{fold}
 use Rattle.std.proofs.Math.ListN.{get_or-append}
 use Rattle.std.proofs.Math.Seq.{take-append-add}
 use Rattle.std.proofs.lemmas.Bool.Decides.{nat_tests}
-use Rattle.std.proofs.lemmas.List.{get_or-append-add, length-take, take-append-drop, take-append-le}
+use Rattle.std.proofs.lemmas.List.{get_or-append-add, length-take-le, take-append-drop, take-append-le}
 use Rattle.std.proofs.lemmas.List.Sums.{fold-append}
 use Rattle.std.proofs.lemmas.Option.{get_or_from_slice_get, slice_get-get_or, slice_get_within}
 use Rattle.stamp_core.specs.Limits.{Bounds}
@@ -143,8 +143,8 @@ same_ended run given None k x (more, is) none ended_is =
     ap (λ (xs : List Event). ended_at xs k) is ∙ front_ended given more k (ended_within given k x ended_is) ∙ ended_is
 same_ended run given (Some first) k x (some, many, same) none ended_is =
     let less : k < first = omega (arith, none) in
-    let long = length-take first given in
-    let longer = length-take first run in
+    let long = length-take-le first given some in
+    let longer = length-take-le first run many in
     ap (λ (xs : List Event). ended_at xs k) (sym (take-append-drop first run)) ∙
     front_ended (take first run) (drop first run) k (omega (arith, longer, less, many)) ∙
     ap (λ (xs : List Event). ended_at xs k) (sym same) ∙
@@ -158,7 +158,7 @@ witness_of_kept fed inner keeps k base up small at =
     let of_run = keeps.keeps in
     let kept = of_run.keeps in
     let same : IsWitnessAt inner.delay.judge k small =
-        subst (λ (j : Judge). IsWitnessAt j k small) up.is at in record {
+    subst (λ (j : Judge). IsWitnessAt j k small) up.is at in record {
       limits = keeps.limits;
       events = keeps.events;
       rest = keeps.rest;
@@ -180,3 +180,7 @@ witness_told fed judge keeps inner some k base up text is = record {
       k base up is.small is.witness;
   text_is = is.text_is;
 }
+
+pub some_weaker : {X : Type 0} (o : Option X) (P Q : X → Type 0) → ((x : X) → P x → Q x) → IfSome o P → IfSome o Q
+some_weaker None P Q weaker is = is
+some_weaker (Some x) P Q weaker is = weaker x is

@@ -99,24 +99,26 @@ impl Calls {
 
     /// Where the open call of this lane began, if it has one. It is no longer among them.
     pub(crate) fn take(&mut self, lane: u64) -> Option<u64> {
-        let begun = self.open_in(lane)?;
+        let Some(begun) = self.open_in(lane) else {
+            return None;
+        };
         self.put(lane, None);
         Some(begun.first)
     }
 
     /// All of them; the open ones are under way.
-    pub(crate) fn into_observations(self) -> Result<Vec<Observation>, AllocError> {
-        let Calls { open, mut returned } = self;
-        for (lane, begun) in open.iter().enumerate() {
-            if let Some(begun) = begun {
-                returned.push(Observation {
-                    thread: lane as u64,
+    pub(crate) fn observations(&self, alloc: Global) -> Result<Vec<Observation>, AllocError> {
+        let mut all = Vec::from_slice(alloc, self.returned.as_slice())?;
+        for lane in 0..LANES as u64 {
+            if let Some(begun) = self.open_in(lane) {
+                all.push(Observation {
+                    thread: lane,
                     call: begun.call,
                     first: begun.first,
                     returned: None,
                 })?;
             }
         }
-        Ok(returned)
+        Ok(all)
     }
 }

@@ -108,12 +108,7 @@ fn possible_for(
 
 /// Writes a witness of a stream that is stuck, if that is asked for and one is found. Without memory for it none is
 /// written. Where a write fails nothing more is.
-fn show_witness<W: Sink>(
-    asked: Watching,
-    finding: &Finding,
-    judge: &StreamJudge,
-    witness: &mut W,
-)
+fn show_witness<W: Sink>(asked: Watching, finding: &Finding, judge: &StreamJudge, witness: &mut W)
     ensures { (left left_then : Option (List ℕ)) (reads reads_then : Results)
         → IsFoundOfSource asked left left_then reads reads_then finding.now
         → KeepsAll left left_then reads reads_then judge.now

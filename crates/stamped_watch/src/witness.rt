@@ -59,7 +59,7 @@ fn witness_from(
     let Some(call) = observed_call(ended, first, place as u64 + 1) else {
         return Ok(None);
     };
-    let others = calls.into_observations()?;
+    let others = calls.observations(alloc)?;
     small_behind(alloc, judge.limits(), word, &others, &call, most)
 }
 
