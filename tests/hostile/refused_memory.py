@@ -182,7 +182,8 @@ def main():
         ([explain, b"\xff"], b"", bad_line(explain), untold),
         ([watch], WRITTEN, (0, b"ok 1\n", b""), unwatched),
         ([watch], WRITTEN[:-1], (1, b"bad 1 cut\n", b""), unwatched),
-        ([watch, "--most", "9"], UNREAD, (1, b"stuck 4\n", UNREAD_LINE), [*unwatched, (1, b"stuck 4\n", b"")]),
+        *(([watch, *words], UNREAD, (1, b"stuck 4\n", UNREAD_LINE), [*unwatched, (1, b"stuck 4\n", b"")])
+          for words in (["--most", "9"], ["--witness", "/dev/null"])),
         ([watch], b"stmp", (1, b"bad header cut\n", b""), unwatched),
         ([watch, "--help"], b"", drawn(watch, b"", 0, "--help"), unwatched),
         ([watch, "--most"], b"", bad_line(watch), unwatched),

@@ -6,8 +6,8 @@ Run at the top of the repository. Threads make random calls on the lock of bench
 withdrawn, and some under way at the end. Their streams are explained, with all their calls. With a reply changed a
 stream is stuck at an event exactly where what was seen by then is stuck as a history, and is explained before; where
 no call is withdrawn, it is so of the whole history, too. Both programs tell the same call and reply, and, but for
-stamps, the same possible replies. Progress is told each 2^24 events. Broken streams are told at their event. A stream
-may come in pieces of any length, the program ends once something is found, and long streams take no more memory than
+stamps, the same possible replies. A witness of a stuck stream is a history that is stuck at the same call, and found of
+nine in ten; of no other stream is one written. Progress is told each 2^24 events. Broken streams are told at their event. A stream may come in pieces of any length, the program ends once something is found, and long streams take no more memory than
 short ones."""
 import contextlib
 import json
@@ -78,12 +78,32 @@ def must_tell(name, note, number, thread, told, possible):
         must_be(name, sorted(re.split(": |, ", replies)), sorted(re.split(": |, ", possible)))
 
 
-def try_changed(watch, explain, name, stream):
-    """Whether the stream with a reply changed is stuck."""
-    line, note = judged(watch, stream)
+def without_stamps(told):
+    return re.sub(r"\b\d+", "N", told)
+
+
+def must_be_witness(name, explain, path, note):
+    """The history in the file is stuck at the call that the note tells of, by the same thread and with the same reply,
+    but for stamps. It is removed."""
+    with open(path, encoding="utf-8") as file:
+        history = json.load(file)
+    os.remove(path)
+    stuck = re.fullmatch(r"stuck (\d+)", verdict(explain, history))
+    if not stuck or int(stuck[1]) >= len(history["entries"]):
+        fail(name, note, "no witness", history)
+    thread, told, _ = told_by(explain, history)
+    lane, call = re.match(r"stamped_watch: event \d+, lane (\d+): (.*?)(?:; .*)?$", note).groups()
+    must_be(name, (thread, without_stamps(told)), (lane, without_stamps(call)))
+    return len(history["entries"])
+
+
+def try_changed(watch, explain, name, stream, path, lacking):
+    """Whether the stream with a reply changed is stuck. Where no witness of that was found, the note is kept."""
+    line, note = judged(watch, stream, "--witness", path)
     history = history_of(name, stream)
     if line.startswith("ok "):
         must_be(name, verdict(explain, history), "explained")
+        must_be(name, os.path.exists(path), False)
         return False
     stuck = re.fullmatch(r"stuck (\d+)", line)
     if not stuck:
@@ -93,11 +113,16 @@ def try_changed(watch, explain, name, stream):
     if WITHDRAWN not in kinds_of(stream):
         must_be(name, verdict(explain, history), f"stuck {entry_that_returns_at(history, number)}")
         must_tell(name, note, number, *told_by(explain, history))
+    if os.path.exists(path):
+        must_be(name, kinds_of(stream)[number] == WITHDRAWN, False)
+        must_be_witness(name, explain, path, note)
+    elif kinds_of(stream)[number] != WITHDRAWN:
+        lacking.append(note)
     return True
 
 
-def try_random(watch, explain):
-    chance, calls, stuck = random.Random(4), 0, 0
+def try_random(watch, explain, path):
+    chance, calls, stuck, lacking = random.Random(4), 0, 0, []
     for lanes, events in SIZES:
         for withdraws in (False, True):
             name = f"{lanes} lanes"
@@ -105,7 +130,9 @@ def try_random(watch, explain):
             must_be(name, judged(watch, stream), (f"ok {calls_of(stream)}", ""))
             calls += calls_of(stream)
             for _ in range(4):
-                stuck += try_changed(watch, explain, name, with_wrong_reply(chance, stream))
+                stuck += try_changed(watch, explain, name, with_wrong_reply(chance, stream), path, lacking)
+    if 10 * len(lacking) > stuck:
+        fail("witnesses", f"of {stuck} none for {len(lacking)}", *lacking)
     return calls, stuck
 
 
@@ -176,7 +203,8 @@ def try_options(watch):
     must_be("--most", judged(watch, within, "--ahead", "99", "--most", "1"),
             ("undecided 3", "stamped_watch: no order explains the run; from which event on is undecided"))
     for words in (["--most"], ["--ahead", "4294967297"], ["run.events", "more"], ["--progress", "--help"],
-                  ["--most", "9", "--progress"]):
+                  ["--most", "9", "--progress"], ["--witness"], ["--witness", "-a"],
+                  ["--witness", "a", "--most", "9", "--witness", "b"]):
         made = run([watch, *words], late)
         must_be("options", (made.returncode, made.stdout, made.stderr), (2, b"", b"stamped_watch: bad command line\n"))
     told = run([watch, "--help"])
@@ -205,6 +233,22 @@ def try_stuck(watch):
         number = told.partition(",")[0]
         must_be("stuck", judged(watch, header() + events), (f"stuck {number}", f"stamped_watch: event {told}"))
     return len(STUCK)
+
+
+def try_witnesses(watch, explain, path):
+    """Where it can't be written the answer is the same. Of a stream that isn't stuck at a return none is written."""
+    for events, told in STUCK:
+        line, note = judged(watch, header() + events, "--ahead", "99", "--witness", path, "--most", "99")
+        must_be("witness", (line, note), (f"stuck {told.partition(',')[0]}", f"stamped_watch: event {told}"))
+        must_be_witness("witness", explain, path, note)
+    events, told = STUCK[0]
+    for unwritten in (os.path.join(path, "none"), "/dev/full"):
+        must_be("unwritten", judged(watch, header() + events, "--witness", unwritten),
+                ("stuck 2", f"stamped_watch: can't write the witness\nstamped_watch: event {told}"))
+    for stream, found in ((header() + SEEN, "ok 1"), (header() + READ + READ, "bad 1 open"),
+                          (header() + READ + event(STAMP, 3, 257)[:15], "bad 1 cut")):
+        must_be("no witness", judged(watch, stream, "--witness", path)[0], found)
+        must_be("no witness", os.path.exists(path), False)
 
 
 def fed(command, pieces, **words):
@@ -280,7 +324,10 @@ def try_long(watch):
 
 def main():
     watch, explain = sys.argv[1:]
-    calls, stuck = try_random(watch, explain)
+    with tempfile.TemporaryDirectory() as room:
+        path = os.path.join(room, "witness.json")
+        calls, stuck = try_random(watch, explain, path)
+        try_witnesses(watch, explain, path)
     broken = try_broken(watch)
     try_options(watch)
     try_late(watch)

@@ -11,6 +11,7 @@
 mod answer;
 mod check_text;
 mod faults;
+mod file_sink;
 mod input;
 mod kept_results;
 pub mod laws;

@@ -6,6 +6,7 @@ ghost use Rattle.stamp_cli.specs.declared.shell.Answered.{Answered};
 ghost use Rattle.stamp_cli.specs.Shell as shell;
 ghost use Rattle.stamp_cli.specs.Shell.{EndsView, IsEndingOf};
 
+use crate::file_sink::FileSink;
 use crate::line::Verdict;
 use crate::orders::CommandFault;
 use crate::sinks::{EprintSink, Sink, WriteSink};
@@ -89,12 +90,40 @@ pub trait Program {
         Self::answer(alloc, order, source, sink)
     }
 
+    /// The file for a witness of what is answered, if these arguments name one. A program that says nothing here writes
+    /// none.
+    fn witness_in<'a>(_arguments: &[&'a str]) -> Option<&'a str> {
+        None
+    }
+
+    /// Serves the order as `answer_telling` does, and may write a witness. A program that says nothing here writes none.
+    fn answer_showing<S: Source, K: Sink, T: Sink, W: Sink>(
+        alloc: Global,
+        order: Self::Order,
+        source: &mut S,
+        sink: &mut K,
+        told: &mut T,
+        _witness: &mut W,
+    ) -> Result<Answered, Self::Fault>
+        ensures { serves order
+            (record { left = S.left source.old; reads = S.reads source.old; sent = K.sent sink.old; writes = K.writes sink.old })
+            (record { left = S.left source.new; reads = S.reads source.new; sent = K.sent sink.new; writes = K.writes sink.new })
+            result }
+    {
+        Self::answer_telling(alloc, order, source, sink, told)
+    }
+
     /// The line that tells of arguments that give no order, without its line feed.
     fn bad_command_line() -> &'static str;
 
     /// The line that tells that the file which arguments name can't be opened, without its line feed.
     fn unopened_file() -> &'static str {
         "the file can't be opened"
+    }
+
+    /// The line that tells that the witness can't be written, or not all of it, without its line feed.
+    fn unwritten_witness() -> &'static str {
+        "the witness can't be written"
     }
 
     /// The line that tells of a fault, without its line feed, if there is memory for it.
@@ -117,18 +146,20 @@ pub fn status_after<F>(ending: &Ending<F>) -> u8
     }
 }
 
-/// What a program does on these arguments, its name not among them, between a source and a sink, and another sink for
-/// what it tells on the way. Where they give no order, none is touched; otherwise the order is served, once.
-pub fn ending_of<P: Program, S: Source, K: Sink, T: Sink>(
+/// What a program does on these arguments, its name not among them, between a source and a sink, and other sinks for
+/// what it tells on the way, and for a witness. Where they give no order, none is touched; otherwise the order is
+/// served, once.
+pub fn ending_of<P: Program, S: Source, K: Sink, T: Sink, W: Sink>(
     alloc: Global,
     arguments: &[&str],
     source: &mut S,
     sink: &mut K,
     told: &mut T,
+    witness: &mut W,
 ) -> Ending<P::Fault>
     ensures bad { (fault : CommandFault) → P.order_in (map (λ arg. arg.now) arguments.now) ≡ Err fault →
         (result ≡ Ending.BadCommandLine) × (source.new ≡ source.old) × (sink.new ≡ sink.old)
-        × (told.new ≡ told.old) }
+        × (told.new ≡ told.old) × (witness.new ≡ witness.old) }
     ensures served { (order : P.Order) → P.order_in (map (λ arg. arg.now) arguments.now) ≡ Ok order →
         IsEndingOf (P.serves order
         (record { left = S.left source.old; reads = S.reads source.old; sent = K.sent sink.old; writes = K.writes sink.old })
@@ -139,7 +170,7 @@ pub fn ending_of<P: Program, S: Source, K: Sink, T: Sink>(
         Ok(order) => order,
         Err(CommandFault::Bad) => return Ending::BadCommandLine,
     };
-    match P::answer_telling(alloc, order, source, sink, told) {
+    match P::answer_showing(alloc, order, source, sink, told, witness) {
         Ok(answered) => Ending::Answered(answered),
         Err(fault) => Ending::Refused(fault),
     }
@@ -154,16 +185,29 @@ fn arguments_given(rt: &(impl Env + AllocGlobal)) -> Result<Option<Vec<String>>,
     }
 }
 
-/// What the program does on these arguments, between a reader, standard output and standard error.
+/// What the program does on these arguments, between a reader, standard output, standard error and a witness. Where this
+/// can't be written, a line tells that.
 fn ending_from<P: Program, R: Read + Drop>(
-    rt: &(impl Print + Eprint + AllocGlobal),
+    rt: &(impl Files + Print + Eprint + AllocGlobal),
     arguments: &[&str],
     reader: R,
 ) -> Ending<P::Fault> {
     let mut source = ReadSource::new(reader);
     let mut sink = WriteSink::new(io::writer(rt));
     let mut told = EprintSink::new(rt);
-    ending_of::<P, _, _, _>(rt.alloc(), arguments, &mut source, &mut sink, &mut told)
+    let mut witness = FileSink::new(rt, P::witness_in(arguments));
+    let ending = ending_of::<P, _, _, _, _>(
+        rt.alloc(),
+        arguments,
+        &mut source,
+        &mut sink,
+        &mut told,
+        &mut witness,
+    );
+    if witness.has_failed() {
+        let _ = rt.eprintln(P::unwritten_witness());
+    }
+    ending
 }
 
 /// What the program does between its input, which is standard input or a file, and standard output.

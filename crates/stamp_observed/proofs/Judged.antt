@@ -17,7 +17,7 @@ use Rattle.stamp_observed.specs.inner.Candidate.{history_of, return_in, stand_in
 use Rattle.stamp_observed.specs.inner.Over.{IsOverBy}
 use Rattle.stamp_observed.proofs.CutAgain.{all_over}
 
-last_of : (es : List Observation) (e : Observation) → slice_get (es ++ e ∷ []) (length es) ≡ Some e
+pub last_of : (es : List Observation) (e : Observation) → slice_get (es ++ e ∷ []) (length es) ≡ Some e
 last_of es e =
     slice_get-get_or (es ++ e ∷ []) (length es) e (omega (arith, length-append es (e ∷ []))) ∙
     ap Some (get_or-append_seam es e [] e)

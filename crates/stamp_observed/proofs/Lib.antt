@@ -9,3 +9,4 @@ pub mod CutAgain
 pub mod NoneLeftOut
 pub mod SeenStuck
 pub mod Judged
+pub mod StuckBehind

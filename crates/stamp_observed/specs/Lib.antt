@@ -7,4 +7,5 @@ pub mod ObservedLaws
 pub mod ObservedText
 pub mod Renumbering
 pub mod Small
+pub mod Behind
 pub mod inner

@@ -4,3 +4,4 @@ pub mod ProgramValue
 pub mod Fault
 pub mod Candidate
 pub mod Over
+pub mod Behind

@@ -52,7 +52,12 @@ fn have_same(replies: &[Reply], others: &[Reply]) -> bool
 }
 
 /// Whether the search finds the history stuck at the return of this entry.
-fn is_stuck_at(alloc: Global, small: &Observed, place: usize, most: u64) -> Result<bool, AllocError>
+pub(crate) fn is_stuck_at(
+    alloc: Global,
+    small: &Observed,
+    place: usize,
+    most: u64,
+) -> Result<bool, AllocError>
     requires { IsObserved small.now }
     ensures { IfOk result (λ found. IsTrue found → IsStuck small.now place) }
 {

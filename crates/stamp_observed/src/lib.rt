@@ -8,6 +8,7 @@
 //! only where an allocation was refused, and that a refusal leaves no block of memory.
 #![tactic(auto)]
 
+mod behind;
 mod candidate;
 mod cut;
 mod fault;
@@ -27,6 +28,7 @@ mod spans;
 mod versions;
 mod window;
 
+pub use behind::small_behind;
 pub use judging::{ObservedFault, ObservedWhy, fault_of};
 pub use observed_reading::read_observed;
 pub use observed_writing::write_observed;

@@ -12,6 +12,9 @@ use std::alloc::{AllocError, Global};
 /// The most versions that an opening makes for the sake of older stamps.
 const MOST_OLDER: u64 = 8;
 
+/// The most that it makes where nothing else will do.
+const MOST_MADE: u64 = 4096;
+
 /// Whether the stamps of the fault's call keep their versions, also where these are older than the window.
 #[derive(Clone, Copy)]
 pub(crate) enum OlderStamps {
@@ -19,11 +22,24 @@ pub(crate) enum OlderStamps {
     Kept,
     /// They become 0.
     Dropped,
+    /// They do, though that takes many more calls.
+    AllKept,
+}
+
+/// How many of these versions are left out, so that the fault's stamps keep theirs; nothing where more than this number
+/// would have to be made.
+fn versions_kept(layout: Layout, released: u64, fault: &Fault, most: u64) -> Option<u64> {
+    let versions = released.min(versions_before_fault(layout, fault));
+    if released - versions <= most {
+        Some(versions)
+    } else {
+        None
+    }
 }
 
 /// How many versions are left out before a window that begins in this state; nothing where older stamps would
 /// take too many.
-fn versions_left_out(
+pub(crate) fn versions_left_out(
     layout: Layout,
     state: &State,
     fault: &Fault,
@@ -36,14 +52,8 @@ fn versions_left_out(
     };
     match older {
         OlderStamps::Dropped => Some(released),
-        OlderStamps::Kept => {
-            let versions = released.min(versions_before_fault(layout, fault));
-            if released - versions <= MOST_OLDER {
-                Some(versions)
-            } else {
-                None
-            }
-        }
+        OlderStamps::Kept => versions_kept(layout, released, fault, MOST_OLDER),
+        OlderStamps::AllKept => versions_kept(layout, released, fault, MOST_MADE),
     }
 }
 
@@ -124,7 +134,7 @@ fn first_of(calls: &[Observation], position: u64) -> u64 {
 }
 
 /// The calls of a window behind its opening.
-fn behind(
+pub(crate) fn behind(
     opening: Vec<Observation>,
     calls: &[Observation],
     cut: &Candidate,

@@ -2,6 +2,7 @@ pub mod inner
 pub mod LockCall
 pub mod Stream
 pub mod EndedCall
+pub mod Start
 pub mod Foretold
 pub mod Watch
 pub mod Verdict

@@ -44,7 +44,7 @@ pub(crate) struct Delay {
     /// So many events came before those that wait.
     passed: u64,
     /// The number of the first call that was put aside.
-    first_late: Option<u64>,
+    pub(crate) first_late: Option<u64>,
     /// The first events of the run that show that nothing is lost by the calls that began late, if any do: so many.
     shown: Option<u64>,
 }

@@ -23,6 +23,7 @@ mod position;
 mod possible;
 mod progress;
 mod so_far;
+mod start;
 mod stream_event;
 mod verdict;
 mod waiting;

@@ -24,10 +24,10 @@ use std::alloc::{AllocError, Global};
 pub struct Watch {
     alloc: Global,
     pub(crate) limits: Limits,
-    table: Vec<Option<OpenCall>>,
+    pub(crate) table: Vec<Option<OpenCall>>,
     busy: u64,
     last: u64,
-    positions: Vec<Position>,
+    pub(crate) positions: Vec<Position>,
 }
 
 fn opening(limits: Limits) -> Position

@@ -7,3 +7,5 @@ pub mod Taking
 pub mod ReadingOn
 pub mod Files
 pub mod LinesTold
+pub mod Witnessing
+pub mod Showing

@@ -9,4 +9,5 @@ pub mod FindingText
 pub mod Note
 pub mod Progress
 pub mod Served
+pub mod Witness
 pub mod inner

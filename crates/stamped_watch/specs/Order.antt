@@ -1,6 +1,6 @@
 -- The command line of the program that judges streams.
 use Rattle.std.specs.Prelude.{ℕ, List, [], ◌∷◌, Option, Some, None, Result, Ok, Err, codes, nat_le, if◌then◌else◌}
-use Rattle.std.specs.Prelude.{◌&&◌, Bool, true, false, not, drop, option_map, option_and_then}
+use Rattle.std.specs.Prelude.{◌&&◌, ◌||◌, Bool, true, false, not, drop, option_map, option_and_then}
 use Rattle.std.specs.Option.{is_some, option_map_or}
 use Rattle.std.specs.Str.{bytes_eq}
 use Rattle.std.specs.Str.Parse.{starts_with_minus}
@@ -11,12 +11,9 @@ use Rattle.stamped_watch.specs.declared.orders.Watching.{Watching}
 use Rattle.stamped_watch.specs.declared.orders.WatchOrder.{WatchOrder}
 use Rattle.stamped_watch.specs.declared.orders.WatchOrder.TheVariants.{Help, Watch}
 
-abbrev pub watching : ℕ → ℕ → Bool → Watching
-watching most ahead progress = record { most = most; ahead = ahead; progress = progress }
-
 -- what is asked for without options
 abbrev pub plain : Watching
-plain = watching 1000000 4194304 false
+plain = record { most = 1000000; ahead = 4194304; progress = false; witness = false }
 
 -- at most 2^32 events
 abbrev pub no_more : ℕ → Option ℕ
@@ -25,12 +22,17 @@ no_more ahead = if nat_le ahead 4294967296 then Some ahead else None
 abbrev pub ahead_in : List ℕ → Option ℕ
 ahead_in text = option_and_then no_more (number_in text)
 
--- --most N, or --ahead N
+-- a word that doesn't begin with `-` may name a file
+abbrev pub is_file : List ℕ → Bool
+is_file word = not (starts_with_minus word)
+
+-- --most N, --ahead N, or --witness FILE
 abbrev pub with_option : Watching → List ℕ → List ℕ → Option Watching
-with_option asked option number =
-    if bytes_eq option (codes "--most") then option_map (λ (most : ℕ). watching most asked.ahead asked.progress) (number_in number)
+with_option asked option word =
+    if bytes_eq option (codes "--most") then option_map (λ (most : ℕ). record asked { most = most }) (number_in word)
     else if bytes_eq option (codes "--ahead") then
-    option_map (λ (ahead : ℕ). watching asked.most ahead asked.progress) (ahead_in number)
+    option_map (λ (ahead : ℕ). record asked { ahead = ahead }) (ahead_in word)
+    else if bytes_eq option (codes "--witness") && is_file word then Some (record asked { witness = true })
     else None
 
 abbrev pub one_option : List ℕ → List ℕ → Option WatchOrder
@@ -43,15 +45,19 @@ two_options first number second other =
     else option_map Watch (option_and_then (λ (asked : Watching). with_option asked second other)
     (with_option plain first number))
 
--- a word that doesn't begin with `-` may name a file
-abbrev pub is_file : List ℕ → Bool
-is_file word = not (starts_with_minus word)
+-- three different ones
+abbrev pub three_options : List ℕ → List ℕ → List ℕ → List ℕ → List ℕ → List ℕ → Option WatchOrder
+three_options first number second other third last =
+    if bytes_eq first second || bytes_eq first third || bytes_eq second third then None
+    else option_map Watch (option_and_then (λ (asked : Watching). with_option asked third last)
+    (option_and_then (λ (asked : Watching). with_option asked second other) (with_option plain first number)))
 
 abbrev pub one_word : List ℕ → Option WatchOrder
 one_word word =
     if bytes_eq word (codes "--help") then Some Help else if is_file word then Some (Watch plain) else None
 
--- the forms of the command line: --help; or none, one or both of --most N and --ahead N, and then a file or none
+-- the forms of the command line: --help; or up to three of --most N, --ahead N and --witness FILE, and then a file or
+-- none
 abbrev pub plain_form : List (List ℕ) → Option WatchOrder
 plain_form [] = Some (Watch plain)
 plain_form (word ∷ []) = one_word word
@@ -60,6 +66,10 @@ plain_form (option ∷ number ∷ file ∷ []) = if is_file file then one_option
 plain_form (first ∷ number ∷ second ∷ other ∷ []) = two_options first number second other
 plain_form (first ∷ number ∷ second ∷ other ∷ file ∷ []) =
     if is_file file then two_options first number second other else None
+plain_form (first ∷ number ∷ second ∷ other ∷ third ∷ last ∷ []) =
+    three_options first number second other third last
+plain_form (first ∷ number ∷ second ∷ other ∷ third ∷ last ∷ file ∷ []) =
+    if is_file file then three_options first number second other third last else None
 plain_form _ = None
 
 abbrev pub with_progress : WatchOrder → Option WatchOrder
@@ -90,6 +100,8 @@ plain_file (file ∷ []) = file_behind true file
 plain_file (option ∷ number ∷ file ∷ []) = file_behind (is_some (one_option option number)) file
 plain_file (first ∷ number ∷ second ∷ other ∷ file ∷ []) =
     file_behind (is_some (two_options first number second other)) file
+plain_file (first ∷ number ∷ second ∷ other ∷ third ∷ last ∷ file ∷ []) =
+    file_behind (is_some (three_options first number second other third last)) file
 plain_file _ = None
 
 abbrev pub file_in : List (List ℕ) → Option (List ℕ)

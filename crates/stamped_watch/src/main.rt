@@ -4,6 +4,7 @@
 ghost use Rattle.stamped_watch.specs.Order.{order_in};
 ghost use Rattle.stamped_watch.specs.Served.{IsServed};
 
+mod begun;
 mod event_bytes;
 mod finding;
 mod finding_text;
@@ -17,9 +18,10 @@ mod serving;
 mod so_far;
 mod stream_judge;
 mod telling;
+mod witness;
 
 use crate::help::HELP;
-use crate::orders::{WatchOrder, file_in, order_of};
+use crate::orders::{WatchOrder, file_in, order_of, witness_in};
 use crate::serving::serve_asked;
 use stamp_cli::{
     Answered, CommandFault, Program, ServeFault, Sink, Source, WriteSink, named_fault_line, run,
@@ -57,6 +59,10 @@ impl Program for StampedWatch {
         file_in(arguments)
     }
 
+    fn witness_in<'a>(arguments: &[&'a str]) -> Option<&'a str> {
+        witness_in(arguments)
+    }
+
     fn answer<S: Source, K: Sink>(
         alloc: Global,
         order: WatchOrder,
@@ -74,9 +80,21 @@ impl Program for StampedWatch {
         sink: &mut K,
         told: &mut T,
     ) -> Result<Answered, ServeFault> {
+        let mut witness = WriteSink::new(io::sink());
+        Self::answer_showing(alloc, order, source, sink, told, &mut witness)
+    }
+
+    fn answer_showing<S: Source, K: Sink, T: Sink, W: Sink>(
+        alloc: Global,
+        order: WatchOrder,
+        source: &mut S,
+        sink: &mut K,
+        told: &mut T,
+        witness: &mut W,
+    ) -> Result<Answered, ServeFault> {
         match order {
             WatchOrder::Help => tell_help(sink),
-            WatchOrder::Watch(asked) => serve_asked(alloc, asked, source, sink, told),
+            WatchOrder::Watch(asked) => serve_asked(alloc, asked, source, sink, told, witness),
         }
     }
 
@@ -86,6 +104,10 @@ impl Program for StampedWatch {
 
     fn unopened_file() -> &'static str {
         "stamped_watch: can't open the file"
+    }
+
+    fn unwritten_witness() -> &'static str {
+        "stamped_watch: can't write the witness"
     }
 
     fn fault_line(alloc: Global, fault: &ServeFault) -> Option<String> {

@@ -23,6 +23,8 @@ pub struct Watching {
     pub ahead: usize,
     /// Whether it is told how far the stream is judged.
     pub progress: bool,
+    /// Whether a witness is written of a stream that is stuck.
+    pub witness: bool,
 }
 
 /// What the program is asked to do.
@@ -39,6 +41,7 @@ const PLAIN: Watching = Watching {
     most: MOST_CONFIGURATIONS,
     ahead: EVENTS_AHEAD,
     progress: false,
+    witness: false,
 };
 
 /// So many events, if they are not too many.
@@ -52,20 +55,40 @@ fn ahead_in(text: &str) -> Option<usize>
     Some(ahead as usize)
 }
 
-/// What is asked for by this option besides.
-fn with_option(asked: Watching, option: &str, number: &str) -> Option<Watching>
-    ensures { result ≡ order.with_option asked option.now number.now }
+fn three_options(
+    first: &str,
+    number: &str,
+    second: &str,
+    other: &str,
+    third: &str,
+    last: &str,
+) -> Option<WatchOrder>
+    ensures { result ≡ order.three_options first.now number.now second.now other.now third.now last.now }
+{
+    if first == second || first == third || second == third {
+        return None;
+    }
+    let asked = with_option(PLAIN, first, number)?;
+    let asked = with_option(asked, second, other)?;
+    Some(WatchOrder::Watch(with_option(asked, third, last)?))
+}
+
+/// What is asked for by this option besides, with the word behind it.
+fn with_option(asked: Watching, option: &str, word: &str) -> Option<Watching>
+    ensures { result ≡ order.with_option asked option.now word.now }
 {
     match option {
         "--most" => Some(Watching {
-            most: number_in(number)?,
-            ahead: asked.ahead,
-            progress: asked.progress,
+            most: number_in(word)?,
+            ..asked
         }),
         "--ahead" => Some(Watching {
-            most: asked.most,
-            ahead: ahead_in(number)?,
-            progress: asked.progress,
+            ahead: ahead_in(word)?,
+            ..asked
+        }),
+        "--witness" if is_file(word) => Some(Watching {
+            witness: true,
+            ..asked
         }),
         _ => None,
     }
@@ -123,6 +146,12 @@ fn plain_form(args: &[&str]) -> Option<WatchOrder>
         [first, number, second, other, file] if is_file(file) => {
             two_options(first, number, second, other)
         }
+        [first, number, second, other, third, last] => {
+            three_options(first, number, second, other, third, last)
+        }
+        [first, number, second, other, third, last, file] if is_file(file) => {
+            three_options(first, number, second, other, third, last)
+        }
         _ => None,
     }
 }
@@ -161,10 +190,11 @@ fn form_of(args: &[&str]) -> Option<WatchOrder>
 }
 
 /// What the program's arguments ask for. `--help` alone asks how it is called. Otherwise a stream is judged.
-/// `--progress`, before all others, asks to be told how far. `--most N` gives the most configurations before an event, and `--ahead N` among how many events the end of a call
-/// is looked for, up to 2^32; each once, in any order, numbers below 2^64 in decimal digits alone. Without them they
-/// are 1,000,000 and 4,194,304. Behind them a file may be named, by a word that doesn't begin with `-`. It refuses as
-/// 1 `Bad` exactly where the arguments are no such form.
+/// `--progress`, before all others, asks to be told how far. `--most N` gives the most configurations before an event,
+/// and `--ahead N` among how many events the end of a call is looked for, up to 2^32, both numbers below 2^64 in decimal
+/// digits alone; without them they are 1,000,000 and 4,194,304. `--witness FILE` names a file for a witness. Each of these
+/// three comes once at most, in any order. Behind them a file may be named that is judged. A word that begins with `-`
+/// names no file. It refuses as 1 `Bad` exactly where the arguments are no such form.
 pub fn order_of(args: &[&str]) -> Result<WatchOrder, CommandFault>
     ensures { result ≡ order.order_in (map (λ arg. arg.now) args.now) }
 {
@@ -195,6 +225,11 @@ fn plain_file<'a>(args: &[&'a str]) -> Option<&'a str>
         [first, number, second, other, file] => {
             file_behind(two_options(first, number, second, other).is_some(), file)
         }
+        [_, _, _, _, _, _] => None,
+        [first, number, second, other, third, last, file] => {
+            let asked = three_options(first, number, second, other, third, last);
+            file_behind(asked.is_some(), file)
+        }
         _ => None,
     }
 }
@@ -208,4 +243,14 @@ pub fn file_in<'a>(args: &[&'a str]) -> Option<&'a str>
     } else {
         plain_file(args)
     }
+}
+
+/// The file for a witness: the word behind the first `--witness` of the arguments, if there is one. Tested, not proved.
+pub fn witness_in<'a>(args: &[&'a str]) -> Option<&'a str> {
+    for (i, arg) in args.iter().enumerate() {
+        if *arg == "--witness" {
+            return args.get(i + 1).copied();
+        }
+    }
+    None
 }

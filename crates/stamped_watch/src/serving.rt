@@ -1,7 +1,7 @@
 //! A stream from the bytes that come in to the line that goes out.
 
-ghost use Rattle.std.specs.Prelude.{◌≡◌, ◌<◌, ◌≤◌, [], IfOk, List, None, length, vec_len, ℕ};
-ghost use Rattle.stamp_cli.specs.Results.{IsReadOrMemoryFault};
+ghost use Rattle.std.specs.Prelude.{◌≡◌, ◌<◌, ◌≤◌, [], IfOk, List, None, Option, length, vec_len, ℕ};
+ghost use Rattle.stamp_cli.specs.Results.{IsReadOrMemoryFault, Results};
 ghost use Rattle.stamp_cli.specs.Serving.{HasWritten, RefusesAsDue, WritesAnswer, WritesFront};
 ghost use Rattle.stamp_cli.specs.declared.faults.ServeFault.TheVariants.{Memory, ReadFault, WriteFault};
 ghost use Rattle.stamped_watch.specs.Progress.{HasTold};
@@ -9,6 +9,7 @@ ghost use Rattle.stamped_watch.specs.Possible.{ArePossibleFor, ArePossibleIn, it
 ghost use Rattle.stamped_watch.specs.StreamJudge.{IsFed, KeepsFed, KeepsFedSome};
 ghost use Rattle.stamped_watch.specs.Served.{AnswersStream, HasReadOn, HasWatched, IsAnsweredBy, IsFoundOfSource, line_of};
 ghost use Rattle.stamped_watch.specs.Progress.{IsNewTelling};
+ghost use Rattle.stamped_watch.specs.Witness.{HasShown};
 ghost use Rattle.stamped_watch.specs.inner.Served.{KeepsAll};
 
 use crate::finding::Finding;
@@ -105,18 +106,42 @@ fn possible_for(
     }
 }
 
+/// Writes a witness of a stream that is stuck, if that is asked for and one is found. Without memory for it none is
+/// written. Where a write fails nothing more is.
+fn show_witness<W: Sink>(asked: Watching, finding: &Finding, judge: &StreamJudge, witness: &mut W)
+    ensures { (left left_then : Option (List ℕ)) (reads reads_then : Results)
+        → IsFoundOfSource asked left left_then reads reads_then finding.now
+        → KeepsAll left left_then reads reads_then judge.now
+        → HasShown asked left left_then reads reads_then (W.sent witness.old) (W.sent witness.new)
+        (W.writes witness.old) (W.writes witness.new) }
+{
+    if !asked.witness {
+        return;
+    }
+    let Finding::Stuck(event) = finding else {
+        return;
+    };
+    if let Ok(Some(text)) = judge.witness_at(*event) {
+        let _ = write_text(witness, &text);
+    }
+}
+
 /// Judges the stream that it reads of the source, of any length, and writes one line of that. Once something is found
 /// of the stream it reads no more. What it answers besides is for standard error: of a stream that is stuck which call
 /// ended there and which replies were possible, and else why it is not judged further, if it is not. It refuses as 1 `ReadFault` exactly where a read
 /// answers an error, as 6 `WriteFault` exactly where a write does or takes no byte, and as 5 `Memory`; what was read is
 /// gone also after a refusal. If it is asked for, it tells on the way how far the stream is judged, by a line behind
 /// each 2^24 events. A write of such a line that fails, or takes no byte, is the last of those, and changes nothing else.
-pub fn serve_stream<S: Source, K: Sink, T: Sink>(
+/// If a witness is asked for, the text of one is written where the stream is stuck at a return and one is found: an
+/// observed history, judged by `explain`, that is stuck at the call which returned there. A write of it that fails
+/// changes nothing else either.
+pub fn serve_stream<S: Source, K: Sink, T: Sink, W: Sink>(
     alloc: Global,
     asked: Watching,
     source: &mut S,
     sink: &mut K,
     told: &mut T,
+    witness: &mut W,
 ) -> Result<Answered, ServeFault>
     // However it ends, there is no read after one that took no byte.
     ensures reads { HasReadOn ReadFault (S.left source.old) (S.left source.new)
@@ -142,6 +167,10 @@ pub fn serve_stream<S: Source, K: Sink, T: Sink>(
     // The lines of how far it was judged are told, whatever is answered; where it was judged to the end, each of them.
     ensures told { HasTold asked (S.left source.old) (S.left source.new) (S.reads source.old) (S.reads source.new)
         (T.sent told.old) (T.sent told.new) (T.writes told.old) (T.writes told.new) result }
+
+    // Of a stream that is stuck a witness may be written, if it is asked for, and else nothing is.
+    ensures shown { HasShown asked (S.left source.old) (S.left source.new) (S.reads source.old) (S.reads source.new)
+        (W.sent witness.old) (W.sent witness.new) (W.writes witness.old) (W.writes witness.new) }
 {
     let mut judge = StreamJudge::new(alloc, asked.most, asked.ahead);
     let mut telling = Telling::new(alloc, asked.progress);
@@ -153,21 +182,23 @@ pub fn serve_stream<S: Source, K: Sink, T: Sink>(
     let ended = ended_at(&finding, &judge);
     let replies = possible_for(&finding, &ended, &judge);
     let note = note_if_room(alloc, asked, &finding, &ended, &replies);
+    show_witness(asked, &finding, &judge, witness);
     Ok(Answered { verdict, note })
 }
 
 /// Serves a judgement, as `serve_stream` does.
-pub(crate) fn serve_asked<S: Source, K: Sink, T: Sink>(
+pub(crate) fn serve_asked<S: Source, K: Sink, T: Sink, W: Sink>(
     alloc: Global,
     asked: Watching,
     source: &mut S,
     sink: &mut K,
     told: &mut T,
+    witness: &mut W,
 ) -> Result<Answered, ServeFault>
     ensures { HasWatched asked
         (record { left = S.left source.old; reads = S.reads source.old; sent = K.sent sink.old; writes = K.writes sink.old })
         (record { left = S.left source.new; reads = S.reads source.new; sent = K.sent sink.new; writes = K.writes sink.new })
         result }
 {
-    serve_stream(alloc, asked, source, sink, told)
+    serve_stream(alloc, asked, source, sink, told, witness)
 }

@@ -3,7 +3,7 @@
 //! Bytes are taken 16 by 16: the header, by which the judge of the events is made, and then event after event. Those
 //! of a header or an event that is not whole yet are kept.
 
-ghost use Rattle.std.specs.Prelude.{◌≡◌, ◌+◌, ◌^◌, ◌<◌, ◌++◌, [], IfOk, IsSome, MatchOption, OnOk, List, None, length, ℕ};
+ghost use Rattle.std.specs.Prelude.{◌≡◌, ◌+◌, ◌^◌, ◌<◌, ◌++◌, [], IfOk, IfSome, IsSome, MatchOption, OnOk, List, None, length, ℕ};
 ghost use Rattle.stamp_core.specs.Limits.{Bounds};
 ghost use Rattle.stamp_watch.specs.declared.event.Event.{Event};
 ghost use Rattle.stamp_watch.specs.LateJudge.{HasFoundNothingLater, IsLateJudge, IsLateJudgeOfSome};
@@ -12,6 +12,7 @@ ghost use Rattle.stamped_watch.specs.Finding.{IsFindingOf, IsSoFar};
 ghost use Rattle.stamped_watch.specs.Possible.{ArePossibleIn, items_in};
 ghost use Rattle.stamped_watch.specs.Progress.{IsSoFarOf};
 ghost use Rattle.stamped_watch.specs.StreamJudge.{ended_in, HasTaken, IsFed, IsFedSome, KeepsFed, KeepsFedSome};
+ghost use Rattle.stamped_watch.specs.Witness.{IsTextIn};
 ghost use Rattle.stamped_watch.specs.inner.StreamJudge.{AreCounted, HasTakenSome, IsFoundUnless, IsGivenOne, IsOneMore, KeepsPart, KeepsSoFar, KeepsStill};
 
 use crate::event_bytes::event_in;
@@ -19,7 +20,9 @@ use crate::finding::{Finding, broken_at, finding_of, is_explained};
 use crate::header::header_in;
 use crate::misplaced::why_misplaced;
 use crate::so_far::SoFar;
+use crate::witness::witness_text;
 use stamp_core::{Call, Reply};
+use stamp_history::ReadError;
 use stamp_watch::{EndedCall, Event, LateJudge, StreamEvent};
 use std::alloc::{AllocError, Global};
 
@@ -276,6 +279,21 @@ impl StreamJudge {
     {
         match &self.judge {
             Some(judge) => judge.possible_at(number, call),
+            None => Ok(None),
+        }
+    }
+
+    /// The text of a witness that the stream is stuck at the event with this number, if one is found, and no call up to
+    /// there began late.
+    pub(crate) fn witness_at(&self, number: u64) -> Result<Option<Vec<u8>>, ReadError>
+        ensures { IfOk result (λ found. IfSome found (λ text. (fed : List ℕ) → KeepsFed fed self.now
+            → IsTextIn fed number text.items)) }
+    {
+        let Some(judge) = &self.judge else {
+            return Ok(None);
+        };
+        match judge.judge_up_to(number) {
+            Some(inner) => witness_text(self.alloc, inner, number, self.most),
             None => Ok(None),
         }
     }

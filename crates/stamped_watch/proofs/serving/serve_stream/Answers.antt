@@ -1,10 +1,13 @@
-use Rattle.std.proofs.Common.{◌≡◌, rules}
+use Rattle.std.proofs.Common.{◌≡◌, true, rules}
 use Rattle.std.specs.Prelude.{IsErrAnd}
 use Rattle.stamp_cli.specs.declared.faults.ServeFault.{ServeFault}
-use Rattle.stamp_cli.specs.declared.faults.ServeFault.TheVariants.{Memory}
+use Rattle.stamp_cli.specs.declared.faults.ServeFault.TheVariants.{Memory, WriteFault}
 use Rattle.stamped_watch.specs.Possible.{items_in}
 use Rattle.stamped_watch.proofs.ReadingOn.{reads_none, writes_none}
 use Rattle.stamped_watch.proofs.LinesTold.{told_nothing, told_of_answer}
+use Rattle.stamp_cli.specs.Results.{any_since}
+use Rattle.stamp_cli.specs.TakesNone.{takes_none}
+use Rattle.stamped_watch.proofs.Showing.{written_badly}
 use Rattle.stamped_watch.proofs.serving.serve_stream.Goals as goal
 
 pub returns-in_err-chunk-clause-reads : goal.returns-in_err-chunk-clause-reads
@@ -52,3 +55,17 @@ returns-clause-ok g c =
 pub possible_for-replies-requires : goal.possible_for-replies-requires
 possible_for-replies-requires g c =
     let all = c.in_ok-finding.ensures.keeps in record { fed = all.bytes; keeps = all.keeps }
+
+pub returns-in_err-write_text-clause-writes : goal.returns-in_err-write_text-clause-writes
+returns-in_err-write_text-clause-writes g c =
+    let is : IsErrAnd c.from_residual-in_err-write_text.result (λ (e : ServeFault). e ≡ WriteFault) = search rules in
+    let any : any_since takes_none (g.K.Sink.writes c.args.sink.now) (g.K.Sink.writes c.write_text.new.sink) ≡ true =
+    search rules in
+    written_badly (g.K.Sink.sent c.args.sink.now) (g.K.Sink.sent c.write_text.new.sink)
+    (g.K.Sink.writes c.args.sink.now) (g.K.Sink.writes c.write_text.new.sink) c.from_residual-in_err-write_text.result
+    is any
+
+pub returns-clause-shown : goal.returns-clause-shown
+returns-clause-shown g c = c.show_witness.ensures (g.S.Source.left c.args.source.now)
+    (g.S.Source.left c.fed_from.new.source) (g.S.Source.reads c.args.source.now)
+    (g.S.Source.reads c.fed_from.new.source) c.in_ok-finding.ensures.found c.in_ok-finding.ensures.keeps

@@ -1,0 +1,23 @@
+-- When an observed history is stuck at a given call.
+use Rattle.std.specs.Prelude.{ℕ, ◌≡◌, Some}
+use Rattle.stamp_core.specs.Limits.{Bounds, units}
+use Rattle.stamp_explain.specs.declared.observed.Observation.{Observation}
+use Rattle.stamp_explain.specs.declared.observed.Returned.{Returned}
+use Rattle.stamp_explain.specs.Cut.{IsStuck}
+use Rattle.stamp_explain.specs.Observed.{ObservedHistory, IsObserved, IsReturnAt}
+use Rattle.stamp_observed.specs.Small.{IsCutThere, IsRenumbered}
+
+-- a history of a lock alone, under these limits, is stuck at the return of a call that is this one with stamps
+-- renumbered, and nothing in it is later
+pub record IsStuckWith (limits : Bounds) (e : Observation) (small : ObservedHistory) : Type 0 where
+  pub observed : IsObserved small
+  pub limits_are : small.limits ≡ limits
+  pub width : small.width ≡ 0
+  pub return : Returned
+  pub returned : e.returned ≡ Some return
+  pub place : ℕ
+  pub there : IsReturnAt small.entries place
+  pub stuck : IsStuck small place
+  pub whole : IsCutThere small place there.return
+  pub versions : ℕ
+  pub renumbered : IsRenumbered (units limits) versions e return there.entry there.return

@@ -1,0 +1,166 @@
+//! A small history that begins where a lock has a word, and is stuck at the return of a call.
+ghost use Rattle.std.specs.Prelude.{IfOk, IfSome};
+ghost use Rattle.stamp_observed.specs.Behind.{IsStuckWith};
+ghost use Rattle.stamp_observed.specs.inner.Behind.{IsFaultWith, IsStuckBehind};
+
+use crate::candidate::{Candidate, history_of};
+use crate::fault::Fault;
+use crate::judging_again::is_stuck_at;
+use crate::opening::{State, opening_of};
+use crate::small::small_of;
+use crate::window::{OlderStamps, behind, versions_left_out};
+use stamp_core::{Limits, Word};
+use stamp_explain::{Observation, Observed};
+use std::alloc::{AllocError, Global};
+
+/// A history that is stuck at the return of this entry.
+#[derive(Drop)]
+struct StuckHistory {
+    history: Observed,
+    place: usize,
+}
+
+/// The fault of a call that has returned. Which replies were possible isn't asked.
+fn fault_with(ended: &Observation) -> Option<Fault>
+    ensures { IfSome result (λ fault. IsFaultWith ended.now fault) }
+{
+    match ended.returned {
+        None => None,
+        Some(returned) => Some(Fault {
+            entry: 0,
+            call: *ended,
+            returned,
+            possible: None,
+        }),
+    }
+}
+
+/// These calls and that of the fault, behind calls that bring a new lock to where they begin, but for so many versions.
+fn candidate_behind(
+    alloc: Global,
+    limits: Limits,
+    state: State,
+    others: &[Observation],
+    fault: &Fault,
+    versions: u64,
+) -> Result<Option<Candidate>, AllocError> {
+    let Some(opening) = opening_of(alloc, limits, state, versions)? else {
+        return Ok(None);
+    };
+    let cut = Candidate {
+        versions: 0,
+        others: Vec::new(alloc),
+        first: fault.call.first,
+        last: fault.returned.last,
+    };
+    Ok(Some(behind(opening, others, &cut, limits.layout(), versions)?))
+}
+
+/// The history of a candidate, if it is found to be stuck at its last call.
+fn stuck_as_told(
+    alloc: Global,
+    limits: Limits,
+    fault: &Fault,
+    candidate: &Candidate,
+    most: u64,
+) -> Result<Option<StuckHistory>, AllocError>
+    ensures { (ended : Observation) → IsFaultWith ended fault.now
+        → IfOk result (λ found. IfSome found (λ stuck. IsStuckBehind limits ended stuck)) }
+{
+    let Some(none) = Observed::of(limits, 0, Vec::new(alloc)) else {
+        return Ok(None);
+    };
+    let Some(history) = history_of(alloc, &none, fault, candidate)? else {
+        return Ok(None);
+    };
+    let place = candidate.others.len();
+    if is_stuck_at(alloc, &history, place, most)? {
+        Ok(Some(StuckHistory { history, place }))
+    } else {
+        Ok(None)
+    }
+}
+
+/// That of these calls behind an opening without so many versions, if there are so many.
+fn stuck_behind(
+    alloc: Global,
+    limits: Limits,
+    state: State,
+    others: &[Observation],
+    fault: &Fault,
+    versions: Option<u64>,
+    most: u64,
+) -> Result<Option<StuckHistory>, AllocError>
+    ensures { (ended : Observation) → IsFaultWith ended fault.now
+        → IfOk result (λ found. IfSome found (λ stuck. IsStuckBehind limits ended stuck)) }
+{
+    let Some(versions) = versions else {
+        return Ok(None);
+    };
+    match candidate_behind(alloc, limits, state, others, fault, versions)? {
+        Some(candidate) => stuck_as_told(alloc, limits, fault, &candidate, most),
+        None => Ok(None),
+    }
+}
+
+/// The history of these calls behind an opening, if it is found to be stuck at the call of the fault: with the stamps
+/// of this call, if they aren't much older, or else without them, or else with them all the same.
+fn any_stuck_behind(
+    alloc: Global,
+    limits: Limits,
+    word: Word,
+    others: &[Observation],
+    fault: &Fault,
+    most: u64,
+) -> Result<Option<StuckHistory>, AllocError>
+    ensures { (ended : Observation) → IsFaultWith ended fault.now
+        → IfOk result (λ found. IfSome found (λ stuck. IsStuckBehind limits ended stuck)) }
+{
+    let state = State {
+        word,
+        content: None,
+    };
+    let mut tried = None;
+    for older in [
+        OlderStamps::Kept,
+        OlderStamps::Dropped,
+        OlderStamps::AllKept,
+    ] {
+        let versions = versions_left_out(limits.layout(), &state, fault, older);
+        if versions == tried {
+            continue;
+        }
+        tried = versions;
+        let stuck = stuck_behind(alloc, limits, state, others, fault, versions, most)?;
+        if stuck.is_some() {
+            return Ok(stuck);
+        }
+    }
+    Ok(None)
+}
+
+/// A small history, without a record, that begins where the lock has this word, and is stuck at the return of a call:
+/// it is by the same thread, with the same call and reply, stamps count versions from a later one on, and nothing is
+/// later, as `small_of` says. It is made of this call and others, which needn't be over by then, at positions from
+/// there on; calls that bring a new lock to the word come before them. It is judged by `explain`, and made small. There
+/// is none where the call hasn't returned, where the lock can't be brought to the word, where the calls are none that an
+/// observer may tell, or too many, and where they are explained behind the word, stuck at another return, or a search
+/// gives up on them once it has looked at more than `most` configurations. It refuses only for want of memory.
+pub fn small_behind(
+    alloc: Global,
+    limits: Limits,
+    word: Word,
+    others: &[Observation],
+    ended: &Observation,
+    most: u64,
+) -> Result<Option<Observed>, AllocError>
+    ensures { IfOk result (λ found. IfSome found (λ small. IsStuckWith limits ended.now small)) }
+{
+    let Some(fault) = fault_with(ended) else {
+        return Ok(None);
+    };
+    let Some(stuck) = any_stuck_behind(alloc, limits, word, others, &fault, most)? else {
+        return Ok(None);
+    };
+    Ok(Some(small_of(alloc, &stuck.history, stuck.place, most)?))
+}

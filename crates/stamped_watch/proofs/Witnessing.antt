@@ -1,0 +1,186 @@
+-- A witness by the events that a judge keeps is one of the stream.
+use Rattle.std.proofs.Common.{ℕ, ◌≡◌, ◌++◌, ◌∷◌, [], List, Option, Some, None, Bool, true, false, length, take, drop, refl, ap}
+use Rattle.std.proofs.Common.{sym, subst, ◌∙◌, ◌+◌, ◌-◌, ◌<◌, ◌≤◌, arith, inl, inr, length-append}
+use Rattle.std.specs.Prelude.{◌⊎◌, ◌==◌, IfSome, slice_get, nat_le, if◌then◌else◌, option_map, option_and_then, MatchOption, ⊤}
+use Rattle.std.specs.List.{fold}
+use Rattle.std.proofs.Math.ListN.{get_or-append}
+use Rattle.std.proofs.Math.Seq.{take-append-add}
+use Rattle.std.proofs.lemmas.Bool.Decides.{nat_tests}
+use Rattle.std.proofs.lemmas.List.{get_or-append-add, length-take-le, take-append-drop, take-append-le}
+use Rattle.std.proofs.lemmas.List.Sums.{fold-append}
+use Rattle.std.proofs.lemmas.Option.{get_or_from_slice_get, slice_get-get_or, slice_get_within}
+use Rattle.stamp_core.specs.Limits.{Bounds}
+use Rattle.stamp_core.specs.declared.call.Call.{Call}
+use Rattle.stamp_core.specs.declared.reply.Reply.{Reply}
+use Rattle.stamp_explain.specs.Observed.{ObservedHistory}
+use Rattle.stamp_watch.specs.declared.ended_call.EndedCall.{EndedCall}
+use Rattle.stamp_watch.specs.declared.event.Event.{Event}
+use Rattle.stamp_watch.specs.declared.event.Event.TheVariants.{Begins, Returns, Withdraws}
+use Rattle.stamp_watch.specs.declared.late.LateJudge.{LateJudge}
+use Rattle.stamp_watch.specs.declared.online.Judge.{Judge}
+use Rattle.stamp_watch.specs.EndedCall.{begun_in, begun_then, ended, ended_at, ended_by, ended_from}
+use Rattle.stamp_watch.specs.PossibleLate.{AreSameUntil}
+use Rattle.stamp_watch.specs.Start.{IsJudgeUpTo}
+use Rattle.stamped_watch.specs.declared.stream_judge.StreamJudge.{StreamJudge}
+use Rattle.stamped_watch.specs.Possible.{KeepsOf}
+use Rattle.stamped_watch.specs.StreamJudge.{KeepsFed}
+use Rattle.stamped_watch.specs.Witness.{IsTextIn, IsWitnessAt, IsWitnessIn, IsWitnessOf, IsWitnessText}
+
+-- of two last calls of a lane the first is none, or both are one
+abbrev IsNoneOrSame : Option Call → Option Call → Type 0
+IsNoneOrSame a b = (a ≡ None) ⊎ (a ≡ b)
+
+stays : (lane : ℕ) (e : Event) (a b : Option Call) → IsNoneOrSame a b →
+    IsNoneOrSame (begun_then lane a e) (begun_then lane b e)
+stays lane (Begins other call) a b or = by (other == lane)
+  where
+    by : (t : Bool) → IsNoneOrSame (if t then Some call else a) (if t then Some call else b)
+    by true = inr refl
+    by false = or
+stays lane (Returns other reply) a b or = or
+stays lane (Withdraws other) a b or = or
+
+-- a call that begins in the lane is the last one, whatever was before
+then_from : (lane : ℕ) (events : List Event) (a b : Option Call) (call : Call) → IsNoneOrSame a b →
+    fold (begun_then lane) a events ≡ Some call → fold (begun_then lane) b events ≡ Some call
+then_from lane [] a b call (inl none) is = absurd (cc)
+then_from lane [] a b call (inr same) is = sym same ∙ is
+then_from lane (e ∷ events) a b call or is =
+    then_from lane events (begun_then lane a e) (begun_then lane b e) call (stays lane e a b or) is
+
+begun_behind : (lane : ℕ) (past events : List Event) (call : Call) → begun_in lane events ≡ Some call →
+    begun_in lane (past ++ events) ≡ Some call
+begun_behind lane past events call is =
+    fold-append (begun_then lane) None past events ∙
+    then_from lane events None (fold (begun_then lane) None past) call (inl refl) is
+
+-- so it ends the same call where more events are before
+ends_behind : (lane : ℕ) (reply : Option Reply) (past before : List Event) (x : EndedCall) →
+    option_map (ended lane reply) (begun_in lane before) ≡ Some x →
+    option_map (ended lane reply) (begun_in lane (past ++ before)) ≡ Some x
+ends_behind lane reply past before x is = by (begun_in lane before) refl is
+  where
+    by : (o : Option Call) → begun_in lane before ≡ o → option_map (ended lane reply) o ≡ Some x →
+        option_map (ended lane reply) (begun_in lane (past ++ before)) ≡ Some x
+    by None same none = absurd (cc)
+    by (Some call) same some =
+        ap (λ (o : Option Call). option_map (ended lane reply) o) (begun_behind lane past before call same) ∙ some
+
+ended_behind : (e : Event) (past before : List Event) (x : EndedCall) → ended_by e before ≡ Some x →
+    ended_by e (past ++ before) ≡ Some x
+ended_behind (Begins lane call) past before x is = absurd (cc)
+ended_behind (Returns lane reply) past before x is = ends_behind lane (Some reply) past before x is
+ended_behind (Withdraws lane) past before x is = ends_behind lane None past before x is
+
+-- the event at this place among the kept ones, behind those before them
+module _ (past items more : List Event) (p : ℕ) (e : Event) (is : slice_get items p ≡ Some e) where
+  within : p < length items
+  within = slice_get_within items p e is
+
+  read : slice_get (past ++ (items ++ more)) (length past + p) ≡ Some e
+  read =
+      let long = length-append past (items ++ more) in
+      let longer = length-append items more in
+      slice_get-get_or (past ++ (items ++ more)) (length past + p) e (omega (arith, long, longer, within)) ∙
+      ap Some (get_or-append-add past (items ++ more) p e ∙ get_or-append items more e p within ∙
+      get_or_from_slice_get items p e e is)
+
+  before : take (length past + p) (past ++ (items ++ more)) ≡ past ++ take p items
+  before = take-append-add past (items ++ more) p ∙
+      ap (λ (xs : List Event). past ++ xs) (take-append-le p items more (omega (arith, within)))
+
+ended_of_kept : (past items more : List Event) (p : ℕ) (x : EndedCall) → ended_at items p ≡ Some x →
+    ended_at (past ++ (items ++ more)) (length past + p) ≡ Some x
+ended_of_kept past items more p x is = by (slice_get items p) refl is
+  where
+    by : (o : Option Event) → slice_get items p ≡ o →
+        option_and_then (λ (e : Event). ended_by e (take p items)) o ≡ Some x →
+        ended_at (past ++ (items ++ more)) (length past + p) ≡ Some x
+    by None same none = absurd (cc)
+    by (Some e) same some =
+        ap (λ (o : Option Event). option_and_then (λ (f : Event). ended_by f
+        (take (length past + p) (past ++ (items ++ more)))) o) (read past items more p e same) ∙
+        ap (λ (xs : List Event). ended_by e xs) (before past items more p e same) ∙
+        ended_behind e past (take p items) x some
+
+-- the number of the event, which is kept
+ended_in_run : (first : ℕ) (past items more : List Event) (number : ℕ) (x : EndedCall) → first ≡ length past →
+    ended_from first items number ≡ Some x → ended_at (past ++ (items ++ more)) number ≡ Some x
+ended_in_run first past items more number x place is = by (nat_le first number) refl is
+  where
+    by : (t : Bool) → nat_le first number ≡ t → (if t then ended_at items (number - first) else None) ≡ Some x →
+        ended_at (past ++ (items ++ more)) number ≡ Some x
+    by false same none = absurd (cc)
+    by true same some =
+        let number_is : length past + (number - first) ≡ number = grind (arith, nat_tests) in
+        ap (λ (n : ℕ). ended_at (past ++ (items ++ more)) n) (sym number_is) ∙
+        ended_of_kept past items more (number - first) x some
+
+-- the first events alone tell which call ends at one of them
+module _ (xs more : List Event) (k : ℕ) (less : k < length xs) where
+  front_ended : ended_at (xs ++ more) k ≡ ended_at xs k
+  front_ended =
+      let long = length-append xs more in
+      let there : slice_get (xs ++ more) k ≡ slice_get xs k =
+      slice_get-get_or (xs ++ more) k (Withdraws 0) (omega (arith, long, less)) ∙
+      ap Some (get_or-append xs more (Withdraws 0) k less) ∙ sym (slice_get-get_or xs k (Withdraws 0) less) in
+      ap (λ (o : Option Event). option_and_then (λ (e : Event). ended_by e (take k (xs ++ more))) o) there ∙
+      ap (λ (ys : List Event). option_and_then (λ (e : Event). ended_by e ys) (slice_get xs k))
+      (take-append-le k xs more (omega (arith, less)))
+
+ended_within : (xs : List Event) (k : ℕ) (x : EndedCall) → ended_at xs k ≡ Some x → k < length xs
+ended_within xs k x is = by (slice_get xs k) refl is
+  where
+    by : (o : Option Event) → slice_get xs k ≡ o →
+        option_and_then (λ (e : Event). ended_by e (take k xs)) o ≡ Some x → k < length xs
+    by None same none = absurd (cc)
+    by (Some e) same some = slice_get_within xs k e same
+
+-- two runs are the same up to the first call that was put aside
+same_ended : (run given : List Event) (late : Option ℕ) (k : ℕ) (x : EndedCall) → AreSameUntil run given late →
+    ¬ MatchOption late ⊥ (λ (first : ℕ). first ≤ k) → ended_at given k ≡ Some x → ended_at run k ≡ Some x
+same_ended run given None k x (more, is) none ended_is =
+    ap (λ (xs : List Event). ended_at xs k) is ∙ front_ended given more k (ended_within given k x ended_is) ∙ ended_is
+same_ended run given (Some first) k x (some, many, same) none ended_is =
+    let less : k < first = omega (arith, none) in
+    let long = length-take-le first given some in
+    let longer = length-take-le first run many in
+    ap (λ (xs : List Event). ended_at xs k) (sym (take-append-drop first run)) ∙
+    front_ended (take first run) (drop first run) k (omega (arith, longer, less, many)) ∙
+    ap (λ (xs : List Event). ended_at xs k) (sym same) ∙
+    sym (front_ended (take first given) (drop first given) k (omega (arith, long, less, some))) ∙
+    ap (λ (xs : List Event). ended_at xs k) (take-append-drop first given) ∙ ended_is
+
+-- what is a witness by the events of the judge inside is one by those of the stream
+witness_of_kept : (fed : List ℕ) (inner : LateJudge) → KeepsOf fed inner → (k : ℕ) (base : Judge) →
+    IsJudgeUpTo inner k base → (small : ObservedHistory) → IsWitnessAt base k small → IsWitnessIn fed k small
+witness_of_kept fed inner keeps k base up small at =
+    let of_run = keeps.keeps in
+    let kept = of_run.keeps in
+    let same : IsWitnessAt inner.delay.judge k small =
+    subst (λ (j : Judge). IsWitnessAt j k small) up.is at in record {
+      limits = keeps.limits;
+      events = keeps.events;
+      rest = keeps.rest;
+      stream = keeps.stream;
+      ended = same.ended;
+      ended_is = same_ended keeps.events of_run.given inner.delay.first_late k same.ended of_run.same up.none
+          (subst (λ (run : List Event). ended_at run k ≡ Some same.ended) (sym kept.run_is)
+          (ended_in_run inner.delay.judge.course.first kept.past inner.delay.judge.course.events.items kept.more k
+          same.ended kept.place same.ended_is));
+      witness = subst (λ (l : Bounds). IsWitnessOf l same.ended small) kept.from_base.judging.limits_are same.witness;
+    }
+
+pub witness_told : (fed : List ℕ) (judge : StreamJudge) → KeepsFed fed judge → (inner : LateJudge) →
+    judge.judge ≡ Some inner → (k : ℕ) (base : Judge) → IsJudgeUpTo inner k base → (text : List ℕ) →
+    IsWitnessText base k text → IsTextIn fed k text
+witness_told fed judge keeps inner some k base up text is = record {
+  small = is.small;
+  witness = witness_of_kept fed inner (subst (λ (o : Option LateJudge). MatchOption o ⊤ (λ i. KeepsOf fed i)) some keeps)
+      k base up is.small is.witness;
+  text_is = is.text_is;
+}
+
+pub some_weaker : {X : Type 0} (o : Option X) (P Q : X → Type 0) → ((x : X) → P x → Q x) → IfSome o P → IfSome o Q
+some_weaker None P Q weaker is = is
+some_weaker (Some x) P Q weaker is = weaker x is
