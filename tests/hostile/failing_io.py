@@ -3,11 +3,13 @@
     failing_io.py NARROW REFUSE STAMPED EXPLAIN WATCH PICTURE
 
 A read that fails is told as `read fault`, and nothing is written; a write that fails, or that takes
-no byte, is told as `write fault`, and what went out is the front of the line that came before it. No
-run leaves a block. NARROW and REFUSE are the shims of narrow_io.c and refuse_malloc.c."""
+no byte, is told as `write fault`, and what went out is the front of the line that came before it. A write of
+a witness that fails is told, and changes nothing else: a front of the witness is left. No run leaves a block.
+NARROW and REFUSE are the shims of narrow_io.c and refuse_malloc.c."""
 import os
 import subprocess
 import sys
+import tempfile
 
 from counted_runs import CountedRuns
 
@@ -59,6 +61,7 @@ def stream(*events):
 WRITTEN = stream((0, 0, 0), (32, 0, 384))
 UNREAD = stream((2, 0, 0), (14, 1, 0), (33, 1, 0), (1, 1, 0), (32, 1, 257))
 UNREAD_LINE = b"stamped_watch: event 4, lane 1: try_read answered 257\n"
+UNWRITTEN = b"stamped_watch: can't write the witness\n"
 WATCH_TABLE = [
     ([], WRITTEN, b"ok 1", 0, b""),
     ([], WRITTEN[:-1], b"bad 1 cut", 1, b""),
@@ -122,6 +125,22 @@ def help_of(runs, program):
     print(f"{[os.path.basename(program), *words[1:]]}: {writes} writes failed, one in each run")
 
 
+def witness_of(runs, watch):
+    """Fails each write of a witness, one in each run."""
+    with tempfile.TemporaryDirectory() as room:
+        path = os.path.join(room, "witness")
+        words, found = [watch, "--witness", path], (1, b"stuck 4\n", UNREAD_LINE)
+        assert_ended(words, runs.ended(words, UNREAD)[0], found, "no write fails")
+        with open(path, "rb") as file:
+            witness = file.read()
+        for number in range(1, len(witness) + 1):
+            answer, _ = runs.ended(words, UNREAD, FAIL_FILE=number)
+            assert_ended(words, answer, (*found[:2], UNWRITTEN + UNREAD_LINE), f"write {number} fails")
+            with open(path, "rb") as file:
+                assert_ended(words, file.read(), witness[: number - 1], f"write {number} fails")
+    print(f"['stamped_watch', '--witness']: {len(witness)} writes of a witness failed, one in each run")
+
+
 def without_errors(explain):
     """Where nothing can be written to standard error, a stuck history is told as ever on standard output."""
     for words in [f"exec {explain} 2>/dev/full", f"exec {explain} 2>&-"]:
@@ -143,6 +162,7 @@ def main():
     pictures_of(runs, picture)
     for program in [explain, watch, picture]:
         help_of(runs, program)
+    witness_of(runs, watch)
     without_errors(explain)
     runs.tell()
 

@@ -62,6 +62,7 @@ goes_on : (limits : Bounds) (most ahead : ℕ) (run : List Event) (judge : LateJ
     length judge.delay.waiting.events.items ≤ ahead - 64 → length run < 2 ^ 64 → judge.found ≡ None →
     IsLateJudge limits most ahead run judge
 goes_on limits most ahead run judge delayed going lanes few room none = record {
+  window = delayed.ahead_is;
   small = small_of limits most ahead run judge.delay delayed (omega (arith, few));
   keeps = keeps_of limits most ahead run judge.delay delayed;
   state = subst (λ (o : Option LateVerdict). IsStateThen limits most ahead run judge o) (sym none)
@@ -77,9 +78,10 @@ goes_on limits most ahead run judge delayed going lanes few room none = record {
 }
 
 pub has_found : (limits : Bounds) (most ahead : ℕ) (run : List Event) (judge : LateJudge) (f : LateVerdict) →
-    IsSmallDelay ahead judge.delay → KeepsLater limits run judge → judge.found ≡ Some f →
+    judge.delay.ahead ≡ ahead - 64 → IsSmallDelay ahead judge.delay → KeepsLater limits run judge → judge.found ≡ Some f →
     IsLateFound limits run most ahead f → IsLateJudge limits most ahead run judge
-has_found limits most ahead run judge f small keeps some found = record {
+has_found limits most ahead run judge f window small keeps some found = record {
+  window = window;
   small = small;
   keeps = keeps;
   state = subst (λ (o : Option LateVerdict). IsStateThen limits most ahead run judge o) (sym some) found;
@@ -115,7 +117,7 @@ module _ (limits : Bounds) (most ahead : ℕ) (run : List Event) (judge : LateJu
   late_found_of f some = subst (λ (o : Option LateVerdict). IsStateThen limits most ahead run judge o) some is.state
 
   pub late_stays : (e : Event) (f : LateVerdict) → judge.found ≡ Some f → IsLateJudge limits most ahead (run ++ e ∷ []) judge
-  late_stays e f some = has_found limits most ahead (run ++ e ∷ []) judge f is.small
+  late_stays e f some = has_found limits most ahead (run ++ e ∷ []) judge f is.window is.small
       (keeps_beside limits run judge.delay e is.keeps) some
       (found_then limits run most ahead e f (late_found_of f some))
 
@@ -164,7 +166,7 @@ module _ (limits : Bounds) (most ahead : ℕ) (run : List Event) (judge : LateJu
       pub late_finds : (new : LateJudge) (f : LateVerdict) → IsDelayed limits most ahead (run ++ e ∷ []) new.delay →
           length new.delay.waiting.events.items ≤ judge.delay.ahead + 1 → new.found ≡ Some f →
           IsLateFound limits (run ++ e ∷ []) most ahead f → IsLateJudge limits most ahead (run ++ e ∷ []) new
-      late_finds new f delayed few some found = has_found limits most ahead (run ++ e ∷ []) new f
+      late_finds new f delayed few some found = has_found limits most ahead (run ++ e ∷ []) new f delayed.ahead_is
           (small_of limits most ahead (run ++ e ∷ []) new.delay delayed
           (let same : judge.delay.ahead ≡ ahead - 64 = late_way.delayed.ahead_is in omega (arith, few, same)))
           (keeps_of limits most ahead (run ++ e ∷ []) new.delay delayed) some found

@@ -1,9 +1,9 @@
 -- What a judge keeps of a run in which calls may begin late, and which replies are possible in it.
 use Rattle.std.proofs.Common.{ℕ, ◌≡◌, ◌+◌, ◌<◌, ◌≤◌, List, [], ◌∷◌, ◌++◌, length, Option, Some, None, refl, sym, ◌∙◌}
 use Rattle.std.proofs.Common.{◌-◌, ap, subst, arith, append_assoc, append-nil, get_or}
-use Rattle.std.specs.Prelude.{⊤, true, is_some, take, slice_get, MatchOption}
+use Rattle.std.specs.Prelude.{⊤, true, drop, is_some, take, slice_get, MatchOption}
 use Rattle.std.proofs.lemmas.Bool.{false≢true}
-use Rattle.std.proofs.lemmas.List.{length-append, take-append-le, take-take}
+use Rattle.std.proofs.lemmas.List.{length-append, length-drop, take-append-le, take-take}
 use Rattle.std.proofs.lemmas.List.{get_or-take}
 use Rattle.std.proofs.lemmas.Option.{get_or_from_slice_get, slice_get_read, slice_get_within}
 use Rattle.stamp_core.specs.Limits.{Bounds}
@@ -21,7 +21,16 @@ use Rattle.stamp_watch.specs.PossibleLate.{AreSameUntil, CanTellLater, IsToldLat
 use Rattle.stamp_watch.specs.declared.possible.KeptReturn.{KeptReturn}
 use Rattle.stamp_watch.specs.inner.Possible.{IsKeptReturn, IsReturnHere}
 use Rattle.stamp_watch.specs.Run.{AreExplained}
+use Rattle.stamp_watch.specs.Verdict.{IsOpenFor}
+use Rattle.stamp_watch.proofs.HandingOn.{open_still}
 use Rattle.stamp_watch.proofs.TryingReplies.{run_there}
+
+-- the call that is open begins at one of the events
+open_within : (run : List Event) (first window : ℕ) → IsOpenFor run first window → first < length run
+open_within run first window is =
+    let rest = ap (λ (xs : List Event). length xs) is.there in
+    let long : length (drop first run) ≡ length run - first = length-drop first run in
+    omega (arith, rest, long)
 
 -- one event more
 pub same_beside : (run given : List Event) (first : Option ℕ) (e : Event) → AreSameUntil run given first →
@@ -37,12 +46,20 @@ same_beside run given (Some first) e is = (
   is.2 ∙ sym (take-append-le first run (e ∷ []) is.1),
 )
 
+open_beside : (run given : List Event) (first : Option ℕ) (window : ℕ) (e : Event) → AreSameUntil run given first →
+    MatchOption first ⊤ (λ (n : ℕ). IsOpenFor run n window) →
+    MatchOption first ⊤ (λ (n : ℕ). IsOpenFor (run ++ e ∷ []) n window)
+open_beside run given None window e same is = is
+open_beside run given (Some first) window e same is =
+    open_still run (e ∷ []) first window (open_within run first window is) is
+
 pub keeps_beside : (limits : Bounds) (run : List Event) (delay : Delay) (e : Event) → KeepsDelayed limits run delay →
     KeepsDelayed limits (run ++ e ∷ []) delay
 keeps_beside limits run delay e is = record {
   given = is.given;
   keeps = is.keeps;
   same = same_beside run is.given delay.first_late e is.same;
+  long = open_beside run is.given delay.first_late delay.ahead e is.same is.long;
 }
 
 same_of : (ahead : ℕ) (run past given aside waiting : List Event) (first : Option ℕ) → run ≡ past ++ waiting →
@@ -52,6 +69,12 @@ same_of ahead run past given aside waiting None parts is =
 same_of ahead run past given aside waiting (Some first) parts is =
     (is.given_more, (let before : first < length run = is.before in omega (arith, before)), is.same)
 
+first_open : (ahead window : ℕ) (run past given aside : List Event) (first : Option ℕ) → window ≡ ahead →
+    IsFirstIfAny ahead run past given aside first → MatchOption first ⊤ (λ (n : ℕ). IsOpenFor run n window)
+first_open ahead window run past given aside None same is = tt
+first_open ahead window run past given aside (Some first) same is =
+    subst (λ (n : ℕ). IsOpenFor run first n) (sym same) is.open_for
+
 -- so it is with a delay
 pub keeps_of : (limits : Bounds) (most ahead : ℕ) (run : List Event) (delay : Delay) →
     IsDelayed limits most ahead run delay → KeepsDelayed limits run delay
@@ -60,6 +83,8 @@ keeps_of limits most ahead run delay is = record {
   keeps = is.keeps;
   same = same_of (ahead - 64) run is.handed.past is.given delay.aside.items delay.waiting.events.items delay.first_late
       is.handed.run_is is.handed.first_is;
+  long = first_open (ahead - 64) delay.ahead run is.handed.past is.given delay.aside.items delay.first_late is.ahead_is
+      is.handed.first_is;
 }
 
 same_given_all : (ahead : ℕ) (run past given aside waiting : List Event) (first : Option ℕ) → run ≡ past ++ waiting →
@@ -78,15 +103,18 @@ same_given_all ahead run past given aside waiting (Some first) parts is = (
 
 -- and once the judge was given all that was not given to it
 pub keeps_all : (limits : Bounds) (most ahead : ℕ) (run : List Event) (old new : Delay)
-    (is : IsDelayed limits most ahead run old) → new.first_late ≡ old.first_late →
+    (is : IsDelayed limits most ahead run old) → new.first_late ≡ old.first_late → new.ahead ≡ old.ahead →
     KeepsBase limits (is.given ++ (old.aside.items ++ old.waiting.events.items)) new.judge →
     KeepsDelayed limits run new
-keeps_all limits most ahead run old new is first keeps = record {
+keeps_all limits most ahead run old new is first window keeps = record {
   given = is.given ++ (old.aside.items ++ old.waiting.events.items);
   keeps = keeps;
   same = subst (AreSameUntil run (is.given ++ (old.aside.items ++ old.waiting.events.items))) (sym first)
       (same_given_all (ahead - 64) run is.handed.past is.given old.aside.items old.waiting.events.items old.first_late
       is.handed.run_is is.handed.first_is);
+  long = subst (λ (o : Option ℕ). MatchOption o ⊤ (λ (n : ℕ). IsOpenFor run n new.ahead)) (sym first)
+      (first_open (ahead - 64) new.ahead run is.handed.past is.given old.aside.items old.first_late
+      (window ∙ is.ahead_is) is.handed.first_is);
 }
 
 -- the events up to one that is not late

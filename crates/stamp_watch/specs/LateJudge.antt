@@ -22,6 +22,7 @@ pub record IsLateUnderWay (limits : Bounds) (most ahead : ℕ) (run : List Event
 -- the judge was given the events of this run so far, what it found holds whatever comes later, and it keeps few
 -- events, by which it can judge again
 pub record IsLateJudge (limits : Bounds) (most ahead : ℕ) (run : List Event) (judge : LateJudge) : Type 0 where
+  pub window : judge.delay.ahead ≡ ahead - 64
   pub small : IsSmallDelay ahead judge.delay
   pub keeps : KeepsLater limits run judge
   pub state : MatchOption judge.found (IsLateUnderWay limits most ahead run judge)

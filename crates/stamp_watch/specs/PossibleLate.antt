@@ -8,6 +8,7 @@ use Rattle.stamp_watch.specs.declared.delay.Delay.{Delay}
 use Rattle.stamp_watch.specs.declared.event.Event.{Event}
 use Rattle.stamp_watch.specs.declared.late.LateJudge.{LateJudge}
 use Rattle.stamp_watch.specs.Possible.{AreTooManyWith, ArePossibleAmong, CanTell, KeepsBase, plain_replies}
+use Rattle.stamp_watch.specs.Verdict.{IsOpenFor}
 
 -- a judge was given the first events of the run; or the same events up to the first call that was put aside
 abbrev pub AreSameUntil : List Event → List Event → Option ℕ → Type 0
@@ -15,11 +16,12 @@ AreSameUntil run given None = (more : List Event) × (run ≡ given ++ more)
 AreSameUntil run given (Some first) =
     (first ≤ length given) × (first ≤ length run) × (take first given ≡ take first run)
 
--- of those events its judge keeps some, with a base
+-- of those events its judge keeps some, with a base; that first call is open for as many events as may wait
 pub record KeepsDelayed (limits : Bounds) (run : List Event) (delay : Delay) : Type 0 where
   pub given : List Event
   pub keeps : KeepsBase limits given delay.judge
   pub same : AreSameUntil run given delay.first_late
+  pub long : MatchOption delay.first_late ⊤ (λ first. IsOpenFor run first delay.ahead)
 
 abbrev pub KeepsLater : Bounds → List Event → LateJudge → Type 0
 KeepsLater limits run judge = KeepsDelayed limits run judge.delay

@@ -363,6 +363,7 @@ impl Delay {
         ensures known { IfOk result (λ _. IsJudgeOfSome self.new.judge) }
         ensures same { IfOk result (λ _. (self.new.aside ≡ self.old.aside) × (self.new.waiting ≡ self.old.waiting)
             × (self.new.first_late ≡ self.old.first_late) × (self.new.shown ≡ self.old.shown)) }
+        ensures window { IfOk result (λ _. self.new.ahead ≡ self.old.ahead) }
     {
         give(&mut self.judge, self.aside.as_slice())?;
         let (front, back) = self.waiting.events.as_slices();
@@ -379,6 +380,7 @@ impl Delay {
         ensures small { IfOk result (λ _. (ahead : ℕ) → IsSmallDelay ahead self.old → IsSmallDelay ahead self.new) }
         ensures keeps { IfOk result (λ _. (limits : Bounds) (most ahead : ℕ) (run : List Event)
             → IsDelayed limits most ahead run self.old → KeepsDelayed limits run self.new) }
+        ensures window { IfOk result (λ _. self.new.ahead ≡ self.old.ahead) }
     {
         self.give_all()?;
         let verdict = self.judge.finish()?;

@@ -218,6 +218,7 @@ impl LateJudge {
             → IsLateJudge limits most ahead run self.old → IsLateVerdict limits run most ahead finding) }
         ensures keeps { IfOk result (λ _. (limits : Bounds) (most ahead : ℕ) (run : List Event)
             → IsLateJudge limits most ahead run self.old → KeepsLater limits run self.new) }
+        ensures window { IfOk result (λ _. self.new.delay.ahead ≡ self.old.delay.ahead) }
     {
         match self.found {
             Some(finding) => Ok(finding),

@@ -9,3 +9,4 @@ pub mod Files
 pub mod LinesTold
 pub mod Witnessing
 pub mod Showing
+pub mod Ended

@@ -31,8 +31,8 @@ text_written text sent sent' old new result most bytes ok failed makes any =
 pub shown_one : (asked : Watching) (left left' : Option (List ℕ)) (reads reads' : Results)
     (sent sent' : Option (List ℕ)) (writes writes' : Results) (finding : Finding) (judge : StreamJudge) (number : ℕ)
     (text : List ℕ) → asked.witness ≡ true → finding ≡ Stuck number →
-    IsFoundOfSource asked left left' reads reads' finding → KeepsAll left left' reads reads' judge →
-    ((fed : List ℕ) → KeepsFed fed judge → IsTextIn fed number text) → IsWritten text sent sent' writes writes' →
+    IsFoundOfSource asked left left' reads reads' finding → KeepsAll asked.ahead left left' reads reads' judge →
+    ((ahead : ℕ) (fed : List ℕ) → KeepsFed ahead fed judge → IsTextIn fed number text) → IsWritten text sent sent' writes writes' →
     HasShown asked left left' reads reads' sent sent' writes writes'
 shown_one asked left left' reads reads' sent sent' writes writes' finding judge number text on stuck found keeps is
     written = inr (record {
@@ -44,7 +44,7 @@ shown_one asked left left' reads reads' sent sent' writes writes' finding judge 
         bytes = keeps.bytes;
         took = keeps.took;
         count = keeps.count;
-        witness = is keeps.bytes keeps.keeps;
+        witness = is asked.ahead keeps.bytes keeps.keeps;
       };
       written = written;
     })

@@ -27,7 +27,7 @@ use Rattle.stamped_watch.specs.Header.{IsHeader, IsNoHeader}
 use Rattle.stamped_watch.specs.Possible.{ArePossibleAt, ArePossibleIn, KeepsOf, items_in}
 use Rattle.stamped_watch.specs.StreamJudge.{HasTaken, IsFed, IsFresh, IsUnderWay, KeepsFed}
 use Rattle.stamped_watch.specs.inner.StreamJudge.{AreCounted, HasTakenFront, IsFoundUnless}
-use Rattle.stamped_watch.specs.inner.StreamJudge.{IsGivenOne, IsOneMore, KeepsSoFar, KeepsStill}
+use Rattle.stamped_watch.specs.inner.StreamJudge.{IsGivenOne, IsOneMore, KeepsRun, KeepsSoFar, KeepsStill}
 use Rattle.stamped_watch.proofs.Counting.{count_room, under_way_first, under_way_then}
 use Rattle.stamped_watch.proofs.Ending.{no_event, no_header}
 use Rattle.stamped_watch.proofs.Found.{found_with}
@@ -39,23 +39,26 @@ none_of None is = refl
 
 -- what the judge of the events keeps where nothing was found
 keeps_under_way : (most ahead : ℕ) (taken : List ℕ) (begun withdrawn : ℕ) (inner : LateJudge) →
-    IsUnderWay most ahead taken begun withdrawn inner → KeepsOf taken inner
+    IsUnderWay most ahead taken begun withdrawn inner → KeepsOf ahead taken inner
 keeps_under_way most ahead taken begun withdrawn inner way = record {
   limits = way.limits;
   events = way.events;
   rest = [];
   stream = way.stream;
   keeps = way.judge_of.keeps;
+  window = way.judge_of.window;
 }
 
 -- it keeps that, too, of more bytes
-pub keeps_more : (bytes more : List ℕ) (inner : LateJudge) → KeepsOf bytes inner → KeepsOf (bytes ++ more) inner
-keeps_more bytes more inner keeps = record {
+pub keeps_more : (ahead : ℕ) (bytes more : List ℕ) (inner : LateJudge) → KeepsOf ahead bytes inner →
+    KeepsOf ahead (bytes ++ more) inner
+keeps_more ahead bytes more inner keeps = record {
   limits = keeps.limits;
   events = keeps.events;
   rest = keeps.rest ++ more;
   stream = stream_longer bytes more keeps.limits keeps.events keeps.rest keeps.stream;
   keeps = keeps.keeps;
+  window = keeps.window;
 }
 
 -- nothing was found, and the judge goes on
@@ -65,7 +68,7 @@ on_with : (most ahead : ℕ) (taken : List ℕ) (judge : StreamJudge) (inner : L
 on_with most ahead taken judge inner same far none some way = record {
   most_is = same;
   ahead_is = far;
-  kept = subst (λ (o : Option LateJudge). MatchOption o ⊤ (λ i. KeepsOf taken i)) (sym some)
+  kept = subst (λ (o : Option LateJudge). MatchOption o ⊤ (λ i. KeepsOf ahead taken i)) (sym some)
       (keeps_under_way most ahead taken judge.begun judge.withdrawn inner way);
   state = subst (λ (o : Option Finding). MatchOption o (MatchOption judge.judge
       (IsFresh taken judge.begun judge.withdrawn)
@@ -99,7 +102,8 @@ module _ (most ahead : ℕ) (taken bytes : List ℕ) (old : StreamJudge) (has : 
     no_header_taken why many wrong = record {
       most_is = has.most_is;
       ahead_is = has.ahead_is;
-      kept = subst (λ (o : Option LateJudge). MatchOption o ⊤ (λ i. KeepsOf (taken ++ bytes) i)) (sym no_judge) tt;
+      kept = subst (λ (o : Option LateJudge). MatchOption o ⊤ (λ i. KeepsOf ahead (taken ++ bytes) i))
+          (sym no_judge) tt;
       state = subst (λ (xs : List ℕ). IsFoundOf most ahead (xs ++ bytes) (found.BadHeader why)) (sym fresh.nothing)
           (no_header most ahead bytes why many wrong);
     }
@@ -125,21 +129,23 @@ module _ (most ahead : ℕ) (taken bytes : List ℕ) (old : StreamJudge) (has : 
       given_one : IsGivenOne way_on.limits most ahead way_on.events e next o
       given_one = given way_on.limits most ahead way_on.events way_on.judge_of
 
-      keeps_of : KeepsLater way_on.limits way_on.events next ⊎
-          KeepsLater way_on.limits (way_on.events ++ e ∷ []) next → KeepsOf (taken ++ bytes) next
+      keeps_of : KeepsRun way_on.limits way_on.events inner next ⊎
+          KeepsRun way_on.limits (way_on.events ++ e ∷ []) inner next → KeepsOf ahead (taken ++ bytes) next
       keeps_of (inl before) = record {
         limits = way_on.limits;
         events = way_on.events;
         rest = bytes;
         stream = stream_behind taken bytes way_on.limits way_on.events way_on.stream;
-        keeps = before;
+        keeps = before.keeps;
+        window = before.window ∙ way_on.judge_of.window;
       }
       keeps_of (inr then) = record {
         limits = way_on.limits;
         events = way_on.events ++ e ∷ [];
         rest = [];
         stream = stream_more taken way_on.limits way_on.events e bytes way_on.stream has_bytes;
-        keeps = then;
+        keeps = then.keeps;
+        window = then.window ∙ way_on.judge_of.window;
       }
 
       -- something was found with it
@@ -196,12 +202,13 @@ module _ (most ahead : ℕ) (taken bytes : List ℕ) (old : StreamJudge) (has : 
     no_event_taken k why f next many wrong count unless keeps = record {
       most_is = has.most_is;
       ahead_is = has.ahead_is;
-      kept = record {
+      kept = let kept = keeps way_on.limits most ahead way_on.events way_on.judge_of in record {
         limits = way_on.limits;
         events = way_on.events;
         rest = bytes;
         stream = stream_behind taken bytes way_on.limits way_on.events way_on.stream;
-        keeps = keeps way_on.limits most ahead way_on.events way_on.judge_of;
+        keeps = kept.keeps;
+        window = kept.window ∙ way_on.judge_of.window;
       };
       state = no_event most ahead taken way_on.limits way_on.events bytes why k f way_on.stream many wrong
           (count way_on.limits most ahead way_on.events way_on.judge_of)
@@ -321,29 +328,34 @@ fed_found most ahead fed more judge some is = record {
 }
 
 -- what its judge keeps is of all that it was fed
-pub keeps_fed : (most ahead : ℕ) (fed : List ℕ) (judge : StreamJudge) → IsFed most ahead fed judge → KeepsFed fed judge
+pub keeps_fed : (most ahead : ℕ) (fed : List ℕ) (judge : StreamJudge) → IsFed most ahead fed judge →
+    KeepsFed ahead fed judge
 keeps_fed most ahead fed judge is = by judge.judge is.has_taken.kept
   where
-    by : (o : Option LateJudge) → MatchOption o ⊤ (λ i. KeepsOf is.taken i) → MatchOption o ⊤ (λ i. KeepsOf fed i)
+    by : (o : Option LateJudge) → MatchOption o ⊤ (λ i. KeepsOf ahead is.taken i) →
+        MatchOption o ⊤ (λ i. KeepsOf ahead fed i)
     by None none = tt
-    by (Some inner) keeps = subst (λ (xs : List ℕ). KeepsOf xs inner) (sym is.parts)
-        (keeps_more is.taken is.later inner keeps)
+    by (Some inner) keeps = subst (λ (xs : List ℕ). KeepsOf ahead xs inner) (sym is.parts)
+        (keeps_more ahead is.taken is.later inner keeps)
 
 -- so it is once the judge of the events has finished
 pub keeps_ended : (most ahead : ℕ) (fed : List ℕ) (judge : StreamJudge) → IsFed most ahead fed judge →
-    judge.found ≡ None → (inner next : LateJudge) → judge.judge ≡ Some inner → KeepsStill inner next → KeepsOf fed next
+    judge.found ≡ None → (inner next : LateJudge) → judge.judge ≡ Some inner → KeepsStill inner next →
+    KeepsOf ahead fed next
 keeps_ended most ahead fed judge is none inner next some keeps =
     let way = way_on most ahead is.taken [] judge is.has_taken none inner some in
-    subst (λ (xs : List ℕ). KeepsOf xs next) (sym is.parts) (keeps_more is.taken is.later next (record {
+    let kept = keeps way.limits most ahead way.events way.judge_of in
+    subst (λ (xs : List ℕ). KeepsOf ahead xs next) (sym is.parts) (keeps_more ahead is.taken is.later next (record {
       limits = way.limits;
       events = way.events;
       rest = [];
       stream = way.stream;
-      keeps = keeps way.limits most ahead way.events way.judge_of;
+      keeps = kept.keeps;
+      window = kept.window ∙ way.judge_of.window;
     }))
 
 -- what the judge of the events tells of a return is told of the stream
-module _ (fed : List ℕ) (inner : LateJudge) (keeps : KeepsOf fed inner) (k : ℕ) (call : Call) where
+module _ (ahead : ℕ) (fed : List ℕ) (inner : LateJudge) (keeps : KeepsOf ahead fed inner) (k : ℕ) (call : Call) where
   possible_of : (found : List Reply) (o : Option (List LockReply)) →
       plain_replies inner.delay.judge.course.base.limits call ≡ o →
       MatchOption o (Some found ≡ None) (λ tried. IsToldLater inner k tried (Some found)) →

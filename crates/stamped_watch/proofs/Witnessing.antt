@@ -104,7 +104,7 @@ ended_of_kept past items more p x is = by (slice_get items p) refl is
         ended_behind e past (take p items) x some
 
 -- the number of the event, which is kept
-ended_in_run : (first : ℕ) (past items more : List Event) (number : ℕ) (x : EndedCall) → first ≡ length past →
+pub ended_in_run : (first : ℕ) (past items more : List Event) (number : ℕ) (x : EndedCall) → first ≡ length past →
     ended_from first items number ≡ Some x → ended_at (past ++ (items ++ more)) number ≡ Some x
 ended_in_run first past items more number x place is = by (nat_le first number) refl is
   where
@@ -137,7 +137,7 @@ ended_within xs k x is = by (slice_get xs k) refl is
     by (Some e) same some = slice_get_within xs k e same
 
 -- two runs are the same up to the first call that was put aside
-same_ended : (run given : List Event) (late : Option ℕ) (k : ℕ) (x : EndedCall) → AreSameUntil run given late →
+pub same_ended : (run given : List Event) (late : Option ℕ) (k : ℕ) (x : EndedCall) → AreSameUntil run given late →
     ¬ MatchOption late ⊥ (λ (first : ℕ). first ≤ k) → ended_at given k ≡ Some x → ended_at run k ≡ Some x
 same_ended run given None k x (more, is) none ended_is =
     ap (λ (xs : List Event). ended_at xs k) is ∙ front_ended given more k (ended_within given k x ended_is) ∙ ended_is
@@ -152,9 +152,9 @@ same_ended run given (Some first) k x (some, many, same) none ended_is =
     ap (λ (xs : List Event). ended_at xs k) (take-append-drop first given) ∙ ended_is
 
 -- what is a witness by the events of the judge inside is one by those of the stream
-witness_of_kept : (fed : List ℕ) (inner : LateJudge) → KeepsOf fed inner → (k : ℕ) (base : Judge) →
+witness_of_kept : (ahead : ℕ) (fed : List ℕ) (inner : LateJudge) → KeepsOf ahead fed inner → (k : ℕ) (base : Judge) →
     IsJudgeUpTo inner k base → (small : ObservedHistory) → IsWitnessAt base k small → IsWitnessIn fed k small
-witness_of_kept fed inner keeps k base up small at =
+witness_of_kept ahead fed inner keeps k base up small at =
     let of_run = keeps.keeps in
     let kept = of_run.keeps in
     let same : IsWitnessAt inner.delay.judge k small =
@@ -171,13 +171,13 @@ witness_of_kept fed inner keeps k base up small at =
       witness = subst (λ (l : Bounds). IsWitnessOf l same.ended small) kept.from_base.judging.limits_are same.witness;
     }
 
-pub witness_told : (fed : List ℕ) (judge : StreamJudge) → KeepsFed fed judge → (inner : LateJudge) →
+pub witness_told : (ahead : ℕ) (fed : List ℕ) (judge : StreamJudge) → KeepsFed ahead fed judge → (inner : LateJudge) →
     judge.judge ≡ Some inner → (k : ℕ) (base : Judge) → IsJudgeUpTo inner k base → (text : List ℕ) →
     IsWitnessText base k text → IsTextIn fed k text
-witness_told fed judge keeps inner some k base up text is = record {
+witness_told ahead fed judge keeps inner some k base up text is = record {
   small = is.small;
-  witness = witness_of_kept fed inner (subst (λ (o : Option LateJudge). MatchOption o ⊤ (λ i. KeepsOf fed i)) some keeps)
-      k base up is.small is.witness;
+  witness = witness_of_kept ahead fed inner
+      (subst (λ (o : Option LateJudge). MatchOption o ⊤ (λ i. KeepsOf ahead fed i)) some keeps) k base up is.small is.witness;
   text_is = is.text_is;
 }
 

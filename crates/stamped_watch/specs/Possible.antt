@@ -1,5 +1,5 @@
 -- Which replies were possible where a stream is stuck.
-use Rattle.std.specs.Prelude.{ℕ, ◌≡◌, ◌++◌, List, [], ◌∷◌, Option, Some, None, Vec, codes}
+use Rattle.std.specs.Prelude.{ℕ, ◌≡◌, ◌-◌, ◌++◌, List, [], ◌∷◌, Option, Some, None, Vec, codes}
 use Rattle.std.specs.List.{flat_map}
 use Rattle.std.specs.declared.alloc.Global.{Global}
 use Rattle.stamp_core.specs.Limits.{Bounds}
@@ -16,13 +16,15 @@ use Rattle.stamped_watch.specs.declared.finding.Finding.{Finding}
 use Rattle.stamped_watch.specs.declared.finding.Finding.TheVariants.{Stuck}
 use Rattle.stamped_watch.specs.Stream.{IsStream}
 
--- the bytes are a header, events and a rest; what the judge of the events keeps is of those
-pub record KeepsOf (bytes : List ℕ) (inner : LateJudge) : Type 0 where
+-- the bytes are a header, events and a rest; what the judge of the events keeps is of those, and a call begins later
+-- for it that is open for all but 64 of so many events
+pub record KeepsOf (ahead : ℕ) (bytes : List ℕ) (inner : LateJudge) : Type 0 where
   pub limits : Bounds
   pub events : List Event
   pub rest : List ℕ
   pub stream : IsStream bytes limits events rest
   pub keeps : KeepsLater limits events inner
+  pub window : inner.delay.ahead ≡ ahead - 64
 
 -- of all replies that the call may be given these are the possible ones, at the event of this number in the stream
 pub record ArePossibleAt (bytes : List ℕ) (k : ℕ) (call : Call) (found : List Reply) : Type 0 where

@@ -15,7 +15,7 @@ use Rattle.stamped_watch.specs.declared.orders.WatchOrder.{WatchOrder}
 use Rattle.stamped_watch.specs.declared.orders.WatchOrder.TheVariants.{Help, Watch}
 use Rattle.stamped_watch.specs.Finding.{IsFindingOf, IsFoundOf}
 use Rattle.stamped_watch.specs.FindingText.{finding_text, finding_verdict}
-use Rattle.stamped_watch.specs.Note.{IsNote, text_in}
+use Rattle.stamped_watch.specs.Note.{IsCallTold, IsNote, text_in}
 use Rattle.stamped_watch.specs.Possible.{ArePossibleFor}
 
 -- reads were made, none after one that took no byte, and these are the bytes that they took. It ended in the fault of
@@ -55,8 +55,8 @@ AnswersStream asked left left' old new (Err fault) = ⊥
 abbrev pub line_of : Finding → List ℕ
 line_of finding = finding_text finding ++ 10 ∷ []
 
--- the verdict and the note are of this finding; the note may tell of a call that ended, and which replies it could have
--- had in the stream that was read
+-- the verdict and the note are of this finding; the note may tell which call ended there in the stream that was read,
+-- and which replies it could have had
 pub record IsAnsweredBy (asked : Watching) (left left' : Option (List ℕ)) (old new : Results) (finding : Finding)
     (answered : Answered) : Type 0 where
   pub verdict : answered.verdict ≡ finding_verdict finding
@@ -66,6 +66,7 @@ pub record IsAnsweredBy (asked : Watching) (left left' : Option (List ℕ)) (old
   pub bytes : List ℕ
   pub took : Consumes left left' bytes
   pub count : length bytes ≡ taken_since old new
+  pub call : IsCallTold asked.ahead bytes finding ended
   pub possible : ArePossibleFor bytes finding ended replies
 
 -- a stream was judged: the reads, the line written, no refusal but for memory and the ends, and the writes

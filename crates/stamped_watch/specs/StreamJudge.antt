@@ -36,7 +36,7 @@ pub record HasTaken (most ahead : ℕ) (taken : List ℕ) (judge : StreamJudge) 
   pub state : MatchOption judge.found (MatchOption judge.judge (IsFresh taken judge.begun judge.withdrawn)
       (λ inner. IsUnderWay most ahead taken judge.begun judge.withdrawn inner))
       (λ finding. IsFoundOf most ahead taken finding)
-  pub kept : MatchOption judge.judge ⊤ (λ inner. KeepsOf taken inner)
+  pub kept : MatchOption judge.judge ⊤ (λ inner. KeepsOf ahead taken inner)
 
 -- it was fed these bytes: some of them it has taken, and it keeps those behind them, if nothing was found
 pub record IsFed (most ahead : ℕ) (fed : List ℕ) (judge : StreamJudge) : Type 0 where
@@ -55,12 +55,13 @@ pub record IsFedSome (judge : StreamJudge) : Type 0 where
   pub is : IsFed most ahead fed judge
 
 -- what its judge keeps is of these bytes
-abbrev pub KeepsFed : List ℕ → StreamJudge → Type 0
-KeepsFed fed judge = MatchOption judge.judge ⊤ (λ inner. KeepsOf fed inner)
+abbrev pub KeepsFed : ℕ → List ℕ → StreamJudge → Type 0
+KeepsFed ahead fed judge = MatchOption judge.judge ⊤ (λ inner. KeepsOf ahead fed inner)
 
 pub record KeepsFedSome (judge : StreamJudge) : Type 0 where
+  pub ahead : ℕ
   pub fed : List ℕ
-  pub keeps : KeepsFed fed judge
+  pub keeps : KeepsFed ahead fed judge
 
 -- the call that the event with this number ends, if it begins among the events that are kept
 abbrev pub ended_in : Option LateJudge → ℕ → Option EndedCall

@@ -4,6 +4,7 @@ ghost use Rattle.std.specs.Prelude.{◌≡◌, ◌<◌, ◌≤◌, [], IfOk, Lis
 ghost use Rattle.stamp_cli.specs.Results.{IsReadOrMemoryFault, Results};
 ghost use Rattle.stamp_cli.specs.Serving.{HasWritten, RefusesAsDue, WritesAnswer, WritesFront};
 ghost use Rattle.stamp_cli.specs.declared.faults.ServeFault.TheVariants.{Memory, ReadFault, WriteFault};
+ghost use Rattle.stamped_watch.specs.Note.{IsCallTold};
 ghost use Rattle.stamped_watch.specs.Progress.{HasTold};
 ghost use Rattle.stamped_watch.specs.Possible.{ArePossibleFor, ArePossibleIn, items_in};
 ghost use Rattle.stamped_watch.specs.StreamJudge.{IsFed, KeepsFed, KeepsFedSome};
@@ -53,7 +54,7 @@ fn fed_from<S: Source, T: Sink>(
     ensures only { IsReadOrMemoryFault result }
     ensures told { HasTold asked (S.left source.old) (S.left source.new) (S.reads source.old) (S.reads source.new)
         (T.sent told.old) (T.sent told.new) (T.writes told.old) (T.writes told.new) result }
-    ensures keeps { IfOk result (λ _. KeepsAll (S.left source.old) (S.left source.new)
+    ensures keeps { IfOk result (λ _. KeepsAll asked.ahead (S.left source.old) (S.left source.new)
         (S.reads source.old) (S.reads source.new) judge.new) }
 {
     'source: loop {
@@ -70,7 +71,10 @@ fn fed_from<S: Source, T: Sink>(
 }
 
 /// The call that ends at the event at which the stream is stuck.
-fn ended_at(finding: &Finding, judge: &StreamJudge) -> Option<EndedCall> {
+fn ended_at(finding: &Finding, judge: &StreamJudge) -> Option<EndedCall>
+    ensures { (ahead : ℕ) (fed : List ℕ) → KeepsFed ahead fed judge.now
+        → IsCallTold ahead fed finding.now result }
+{
     match finding {
         Finding::Stuck(event) => judge.ended_at(*event),
         _ => None,
@@ -81,7 +85,7 @@ fn ended_at(finding: &Finding, judge: &StreamJudge) -> Option<EndedCall> {
 /// told, or memory for them is refused.
 fn possible_there(judge: &StreamJudge, event: u64, ended: &EndedCall) -> Option<Vec<Reply>>
     requires { KeepsFedSome judge.now }
-    ensures { (fed : List ℕ) → KeepsFed fed judge.now
+    ensures { (ahead : ℕ) (fed : List ℕ) → KeepsFed ahead fed judge.now
         → ArePossibleIn fed event ended.now.call (items_in result) }
 {
     match judge.possible_at(event, &ended.call) {
@@ -97,7 +101,7 @@ fn possible_for(
     judge: &StreamJudge,
 ) -> Option<Vec<Reply>>
     requires { KeepsFedSome judge.now }
-    ensures { (fed : List ℕ) → KeepsFed fed judge.now
+    ensures { (ahead : ℕ) (fed : List ℕ) → KeepsFed ahead fed judge.now
         → ArePossibleFor fed finding.now ended.now (items_in result) }
 {
     match (finding, ended) {
@@ -111,7 +115,7 @@ fn possible_for(
 fn show_witness<W: Sink>(asked: Watching, finding: &Finding, judge: &StreamJudge, witness: &mut W)
     ensures { (left left_then : Option (List ℕ)) (reads reads_then : Results)
         → IsFoundOfSource asked left left_then reads reads_then finding.now
-        → KeepsAll left left_then reads reads_then judge.now
+        → KeepsAll asked.ahead left left_then reads reads_then judge.now
         → HasShown asked left left_then reads reads_then (W.sent witness.old) (W.sent witness.new)
         (W.writes witness.old) (W.writes witness.new) }
 {
@@ -128,9 +132,9 @@ fn show_witness<W: Sink>(asked: Watching, finding: &Finding, judge: &StreamJudge
 
 /// Judges the stream that it reads of the source, of any length, and writes one line of that. Once something is found
 /// of the stream it reads no more. What it answers besides is for standard error: of a stream that is stuck which call
-/// ended there and which replies were possible, and else why it is not judged further, if it is not. It refuses as 1 `ReadFault` exactly where a read
-/// answers an error, as 6 `WriteFault` exactly where a write does or takes no byte, and as 5 `Memory`; what was read is
-/// gone also after a refusal. If it is asked for, it tells on the way how far the stream is judged, by a line behind
+/// ended there and which replies were possible, and else why it is not judged further, if it is not. It refuses as 1
+/// `ReadFault` exactly where a read answers an error, as 6 `WriteFault` exactly where a write does or takes no byte,
+/// and as 5 `Memory`; what was read is gone also after a refusal. If it is asked for, it tells on the way how far the stream is judged, by a line behind
 /// each 2^24 events. A write of such a line that fails, or takes no byte, is the last of those, and changes nothing else.
 /// If a witness is asked for, the text of one is written where the stream is stuck at a return and one is found: an
 /// observed history, judged by `explain`, that is stuck at the call which returned there. A write of it that fails

@@ -226,7 +226,7 @@ impl StreamJudge {
         ensures found { IfOk result (λ finding. (most ahead : ℕ) (fed : List ℕ) → IsFed most ahead fed self.old
             → IsFindingOf most ahead fed finding) }
         ensures kept { IfOk result (λ _. (most ahead : ℕ) (fed : List ℕ) → IsFed most ahead fed self.old
-            → KeepsFed fed self.new) }
+            → KeepsFed ahead fed self.new) }
     {
         if let Some(finding) = self.found {
             return Ok(finding);
@@ -274,7 +274,7 @@ impl StreamJudge {
         call: &Call,
     ) -> Result<Option<Vec<Reply>>, AllocError>
         requires { KeepsFedSome self.now }
-        ensures { IfOk result (λ told. (fed : List ℕ) → KeepsFed fed self.now
+        ensures { IfOk result (λ told. (ahead : ℕ) (fed : List ℕ) → KeepsFed ahead fed self.now
             → ArePossibleIn fed number call.now (items_in told)) }
     {
         match &self.judge {
@@ -286,7 +286,7 @@ impl StreamJudge {
     /// The text of a witness that the stream is stuck at the event with this number, if one is found, and no call up to
     /// there began late.
     pub(crate) fn witness_at(&self, number: u64) -> Result<Option<Vec<u8>>, ReadError>
-        ensures { IfOk result (λ found. IfSome found (λ text. (fed : List ℕ) → KeepsFed fed self.now
+        ensures { IfOk result (λ found. IfSome found (λ text. (ahead : ℕ) (fed : List ℕ) → KeepsFed ahead fed self.now
             → IsTextIn fed number text.items)) }
     {
         let Some(judge) = &self.judge else {

@@ -26,8 +26,8 @@ pub record IsFedAndTold (asked : Watching) (left left' : Option (List ℕ)) (old
   pub told : HasToldSoFar asked fed_so.bytes telling sent sent' writes writes'
 
 -- what the judge keeps is of all that the reads took
-pub record KeepsAll (left left' : Option (List ℕ)) (old new : Results) (judge : StreamJudge) : Type 0 where
+pub record KeepsAll (ahead : ℕ) (left left' : Option (List ℕ)) (old new : Results) (judge : StreamJudge) : Type 0 where
   pub bytes : List ℕ
   pub took : Consumes left left' bytes
   pub count : length bytes ≡ taken_since old new
-  pub keeps : KeepsFed bytes judge
+  pub keeps : KeepsFed ahead bytes judge

@@ -53,15 +53,20 @@ abbrev pub IsGivenOne : Bounds → ℕ → ℕ → List Event → Event → Late
 IsGivenOne limits most ahead run e judge None = IsGoingOn limits most ahead (run ++ e ∷ []) judge
 IsGivenOne limits most ahead run e judge (Some finding) = IsFoundWith limits most ahead run e finding
 
--- what the judge keeps is of the run, or of the run with the event
+-- what the judge keeps is of the run, and for it calls begin later as before
+pub record KeepsRun (limits : Bounds) (run : List Event) (old new : LateJudge) : Type 0 where
+  pub keeps : KeepsLater limits run new
+  pub window : new.delay.ahead ≡ old.delay.ahead
+
+-- so it is of the run, or of the run with the event
 abbrev pub KeepsSoFar : Event → LateJudge → LateJudge → Type 0
 KeepsSoFar e old new = (limits : Bounds) (most ahead : ℕ) (run : List Event) → IsLateJudge limits most ahead run old →
-    KeepsLater limits run new ⊎ KeepsLater limits (run ++ e ∷ []) new
+    KeepsRun limits run old new ⊎ KeepsRun limits (run ++ e ∷ []) old new
 
 -- it keeps what is of the run
 abbrev pub KeepsStill : LateJudge → LateJudge → Type 0
 KeepsStill old new = (limits : Bounds) (most ahead : ℕ) (run : List Event) → IsLateJudge limits most ahead run old →
-    KeepsLater limits run new
+    KeepsRun limits run old new
 
 -- the run is explained, and this is found; or a verdict is
 pub record IsExplainedRun (limits : Bounds) (run : List Event) : Type 0 where

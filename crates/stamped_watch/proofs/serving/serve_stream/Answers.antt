@@ -46,7 +46,8 @@ returns-clause-ok g c =
         bytes = all.bytes;
         took = all.took;
         count = all.count;
-        possible = c.possible_for-replies.ensures all.bytes all.keeps;
+        call = c.ended_at-ended.ensures c.args.asked.ahead all.bytes all.keeps;
+        possible = c.possible_for-replies.ensures c.args.asked.ahead all.bytes all.keeps;
       },
       search rules,
       search rules,
@@ -54,7 +55,7 @@ returns-clause-ok g c =
 
 pub possible_for-replies-requires : goal.possible_for-replies-requires
 possible_for-replies-requires g c =
-    let all = c.in_ok-finding.ensures.keeps in record { fed = all.bytes; keeps = all.keeps }
+    let all = c.in_ok-finding.ensures.keeps in record { ahead = c.args.asked.ahead; fed = all.bytes; keeps = all.keeps }
 
 pub returns-in_err-write_text-clause-writes : goal.returns-in_err-write_text-clause-writes
 returns-in_err-write_text-clause-writes g c =

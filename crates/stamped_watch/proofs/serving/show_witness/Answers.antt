@@ -11,8 +11,8 @@ returns-in-Ok-Some g c left left' reads reads' found keeps =
     let on : c.args.asked.witness ≡ true = search rules in
     let stuck : c.args.finding.now ≡ Stuck c.in-Stuck.event = search rules in
     let same : c.deref.result.now ≡ c.in-Ok-Some.text.items = search rules in
-    let is : (fed : List ℕ) → KeepsFed fed c.args.judge.now → IsTextIn fed c.in-Stuck.event c.in-Ok-Some.text.items =
-    search rules in
+    let is : (ahead : ℕ) (fed : List ℕ) → KeepsFed ahead fed c.args.judge.now →
+    IsTextIn fed c.in-Stuck.event c.in-Ok-Some.text.items = search rules in
     shown_one c.args.asked left left' reads reads' _ _ _ _ c.args.finding.now c.args.judge.now c.in-Stuck.event
     c.in-Ok-Some.text.items on stuck found keeps is (subst (λ (xs : List ℕ). IsWritten xs
     (g.W.Sink.sent c.args.witness.now) (g.W.Sink.sent c.write_text.new.sink) (g.W.Sink.writes c.args.witness.now)

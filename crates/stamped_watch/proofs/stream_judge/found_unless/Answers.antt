@@ -18,3 +18,11 @@ returns-clause-found c limits most ahead run is = inr (record {
   is = c.finding_of.ensures;
   holds = c.in_ok-verdict.ensures.verdict limits most ahead run is;
 })
+
+pub returns-then-is_explained-clause-kept : goal.returns-then-is_explained-clause-kept
+returns-then-is_explained-clause-kept c limits most ahead run is =
+    record { keeps = c.in_ok-verdict.ensures.keeps limits most ahead run is; window = c.in_ok-verdict.ensures.window }
+
+pub returns-clause-kept : goal.returns-clause-kept
+returns-clause-kept c limits most ahead run is =
+    record { keeps = c.in_ok-verdict.ensures.keeps limits most ahead run is; window = c.in_ok-verdict.ensures.window }

@@ -1,4 +1,4 @@
-use Rattle.std.proofs.Common.{Some, ap, inl, inr, ◌∙◌}
+use Rattle.std.proofs.Common.{Some, ap, inl, inr, refl, sym, ◌∙◌}
 use Rattle.stamped_watch.proofs.Ending.{judge_whole}
 use Rattle.stamped_watch.proofs.Found.{so_found}
 use Rattle.stamped_watch.proofs.Misplacing.{found_then, late_of_form, misplaced_at}
@@ -33,16 +33,19 @@ returns-in-None-clause-found c limits most ahead run is =
     so_found limits most ahead run c.args.event.now c.finding_of.result c.in-Some.verdict c.finding_of.ensures holds
 
 pub returns-then-is_full-clause-kept : goal.returns-then-is_full-clause-kept
-returns-then-is_full-clause-kept c limits most ahead run is = inl is.keeps
+returns-then-is_full-clause-kept c limits most ahead run is = inl (record { keeps = is.keeps; window = refl })
 
 pub returns-in_default-clause-kept : goal.returns-in_default-clause-kept
 returns-in_default-clause-kept c limits most ahead run is =
-    inr (c.in_ok-found.ensures.given limits most ahead run is).keeps
+    let then = c.in_ok-found.ensures.given limits most ahead run is in
+    inr (record { keeps = then.keeps; window = then.window ∙ sym is.window })
 
 pub returns-in-Some-broken_at-clause-kept : goal.returns-in-Some-broken_at-clause-kept
 returns-in-Some-broken_at-clause-kept c limits most ahead run is =
-    inr (c.in_ok-found.ensures.given limits most ahead run is).keeps
+    let then = c.in_ok-found.ensures.given limits most ahead run is in
+    inr (record { keeps = then.keeps; window = then.window ∙ sym is.window })
 
 pub returns-in-None-clause-kept : goal.returns-in-None-clause-kept
 returns-in-None-clause-kept c limits most ahead run is =
-    inr (c.in_ok-found.ensures.given limits most ahead run is).keeps
+    let then = c.in_ok-found.ensures.given limits most ahead run is in
+    inr (record { keeps = then.keeps; window = then.window ∙ sym is.window })

@@ -1,4 +1,4 @@
-use Rattle.std.proofs.Common.{[], ◌∷◌, ◌++◌, refl, sym, subst}
+use Rattle.std.proofs.Common.{[], ◌∷◌, ◌++◌, ◌∙◌, refl, sym, subst}
 use Rattle.stamp_watch.specs.declared.late_verdict.LateVerdict.{LateVerdict}
 use Rattle.stamp_watch.specs.Late.{IsLateFound}
 use Rattle.stamp_watch.proofs.JudgingLate.{has_found, late_broken, late_way, ready_now}
@@ -20,7 +20,7 @@ returns-clause-found c limits most ahead run is =
 
 pub returns-clause-given : goal.returns-clause-given
 returns-clause-given c limits most ahead run is = has_found limits most ahead (run ++ c.args.event.now ∷ []) _
-    c.broken_off-finding.result (c.in_ok-rest.ensures.small ahead is.small)
+    c.broken_off-finding.result (c.in_ok-rest.ensures.window ∙ is.window) (c.in_ok-rest.ensures.small ahead is.small)
     (keeps_beside limits run c.rest.new.self c.args.event.now (c.in_ok-rest.ensures.keeps limits most ahead run
     (late_way limits most ahead run c.args.self.now is c.requires.none).delayed)) refl
     (returns-clause-found c limits most ahead run is)
