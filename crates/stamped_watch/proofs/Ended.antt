@@ -1,7 +1,7 @@
 -- The call that is told where a stream is stuck.
 use Rattle.std.proofs.Common.{ℕ, ◌≡◌, ◌-◌, ◌≤◌, List, Option, Some, None, Bool, true, false, refl, sym, subst, ap, inl, inr}
 use Rattle.std.proofs.Common.{arith}
-use Rattle.std.specs.Prelude.{MatchOption, nat_le, ⊤}
+use Rattle.std.specs.Prelude.{◌⊎◌, MatchOption, nat_le, ⊤}
 use Rattle.std.proofs.lemmas.Bool.Decides.{nat_tests}
 use Rattle.stamp_watch.specs.declared.ended_call.EndedCall.{EndedCall}
 use Rattle.stamp_watch.specs.declared.event.Event.{Event}
