@@ -44,7 +44,7 @@ FOLDER = os.path.dirname(os.path.abspath(__file__))
 TOP = os.path.dirname(os.path.dirname(FOLDER))
 PARTS = ("src", "specs", "proofs")
 # About how many of a crate's edits one process tries: those of larger crates are the end of the gate.
-MOST = 24
+MOST = 48
 FUNCTION = re.compile(r'^( *)(?:pub(?:\([a-z]+\))? )?(?:extern "C" )?fn (\w+)', re.M)
 IMPL = re.compile(r"^impl(?:<((?:[^<>{]|<[^<>{]*>)*)>)? (?:([\w:]+)(?:<(\w*)[^{]*>)? for )?([^{]+?) *(?:where [^{]*)?\{", re.M)
 STATED = re.compile(r"^fn (\S+): (.*)$", re.M)
