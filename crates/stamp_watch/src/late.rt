@@ -5,11 +5,11 @@
 //! explained as the run stands, since a call that begins later may do less. Nothing is lost by that if a call that began
 //! and returned shortly before issued a stamp of an older version: versions never fall, so the late call took effect
 //! after that one began. So a run with calls that wait for long is judged to its end, and where it is stuck is found.
-ghost use Rattle.std.specs.Prelude.{◌≡◌, ◌+◌, ◌*◌, ◌^◌, ◌<◌, ◌≤◌, ◌↔◌, [], IfOk, None, Some, List, ℕ, false, length};
+ghost use Rattle.std.specs.Prelude.{◌≡◌, ◌+◌, ◌*◌, ◌^◌, ◌<◌, ◌≤◌, ◌↔◌, [], ⊤, IfOk, IfSome, MatchOption, None, Some, List, ℕ, false, length};
 ghost use Rattle.stamp_core.specs.Limits.{Bounds};
 ghost use Rattle.stamp_watch.specs.declared.event.Event.{Event};
 ghost use Rattle.stamp_watch.specs.Delay.{kept_of, reach_of};
-ghost use Rattle.stamp_watch.specs.EndedCall.{ended_from};
+ghost use Rattle.stamp_watch.specs.EndedCall.{IsEndedAt, ended_from};
 ghost use Rattle.stamp_watch.specs.Late.{IsLateVerdict};
 ghost use Rattle.stamp_watch.specs.SoFar.{IsExplainedUpTo, open_calls};
 ghost use Rattle.stamp_watch.specs.Possible.{items_in};
@@ -189,9 +189,14 @@ impl LateJudge {
         lanes_in(self.busy)
     }
 
-    /// The call that the event with this number ends, if its beginning is kept and no call before began late.
+    /// The call that the event with this number ends, if its beginning is kept. Where a call that begins before the
+    /// event was put aside, it is one of the run with that call begun later.
     pub fn ended_at(&self, number: u64) -> Option<EndedCall>
-        ensures { result ≡ ended_from self.now.delay.judge.course.first self.now.delay.judge.course.events.items number }
+        ensures kept { result
+            ≡ ended_from self.now.delay.judge.course.first self.now.delay.judge.course.events.items number }
+        ensures call { (limits : Bounds) (run : List Event) → KeepsLater limits run self.now
+            → MatchOption self.now.delay.first_late ⊤ (λ first. number < first)
+            → IfSome result (λ ended. IsEndedAt run number ended) }
     {
         self.delay.judge.ended_at(number)
     }
