@@ -4,6 +4,7 @@ use Rattle.std.proofs.Common.{◌-◌, refl, sym, ◌∙◌, ap, subst, inl, inr
 use Rattle.std.specs.Prelude.{take, drop, IsSome}
 use Rattle.std.specs.List.{remove}
 use Rattle.std.proofs.lemmas.List.{length_push, take-append-drop}
+use Rattle.std.proofs.lemmas.List.Edits.{length-remove}
 use Rattle.std.proofs.lemmas.List.Elements.{All-nil}
 use Rattle.std.proofs.Math.Seq.{drop-append_seam}
 use Rattle.stamp_core.specs.Limits.{AreInRange, Bounds}
@@ -15,13 +16,14 @@ use Rattle.stamp_watch.specs.declared.event.Event.TheVariants.{Begins, Returns, 
 use Rattle.stamp_watch.specs.declared.online.Judge.{Judge}
 use Rattle.stamp_watch.specs.declared.verdict.Verdict.{Verdict}
 use Rattle.stamp_watch.specs.Delay.{IsBeginning, IsDelayed, IsHandedOn, IsShown}
-use Rattle.stamp_watch.specs.Delay.{AreLate, HasEndedLate, HasEndedSo, IsShownIfAny}
+use Rattle.stamp_watch.specs.Delay.{AreLate, AreNear, HasEndedLate, HasEndedSo, IsPending, IsShownIfAny, reach_of}
 use Rattle.stamp_watch.specs.Judge.{HasRoomForOne, IsGiven, IsJudge, IsJudgeOfSome}
 use Rattle.stamp_watch.specs.Late.BeginsLater.{as_it_is}
 use Rattle.stamp_watch.specs.Possible.{KeepsBase, KeepsOn}
 use Rattle.stamp_watch.specs.Verdict.{AreOfLock, IsOfLock}
 use Rattle.stamp_watch.specs.Waiting.{IsCounted}
 use Rattle.stamp_watch.specs.inner.Delay.{HasBegun, HasRoomFor, IsOfLaneAt, IsReady, IsReadyFor, IsShownBy, IsToBeAside}
+use Rattle.stamp_watch.proofs.Closeness.{few_aside, near_aside, near_first, near_late, near_passes, near_waits}
 use Rattle.stamp_watch.proofs.Forming.{form_first, next_of_lock}
 use Rattle.stamp_watch.proofs.GoingOn.{judge_stays, run_long, way_of}
 use Rattle.stamp_watch.proofs.HandingOn.{first_or, given_length, begins_so, handed_aside, handed_passes, handed_waits, passed_length}
@@ -50,7 +52,7 @@ pub judge_known : (delay : Delay) → IsReady delay → IsJudgeOfSome delay.judg
 judge_known delay ready = record {
   limits = ready.limits;
   most = ready.most;
-  ahead = ready.ahead;
+  ahead = reach_of ready.ahead;
   run = ready.delayed.given;
   judge_of = ready.delayed.judge_of;
 }
@@ -66,7 +68,7 @@ module _ (delay : Delay) (ready : IsReady delay) where
   room_for_one n room some = record {
     room = let all : length ready.delayed.given + length delay.aside.items ≡ delay.passed = given_of_all in
         let long : delay.judge.course.first + length delay.judge.course.events.items ≡ length ready.delayed.given =
-        judge_long ready.limits ready.most ready.ahead ready.delayed.given delay.judge ready.delayed.judge_of
+        judge_long ready.limits ready.most (reach_of ready.ahead) ready.delayed.given delay.judge ready.delayed.judge_of
         ready.going in
         omega (arith, all, long, room, some);
   }
@@ -127,6 +129,12 @@ late_as limits run aside aside' waiting waiting' window shown shown' a w s is =
     (subst (λ (xs : List Event). AreLate limits run aside xs window shown') (sym w)
     (subst (λ (o : Option ℕ). AreLate limits run aside waiting window o) (sym s) is))
 
+near_as : (reach : ℕ) (given aside aside' waiting waiting' : List Event) → aside' ≡ aside → waiting' ≡ waiting →
+    AreNear reach given aside waiting → AreNear reach given aside' waiting'
+near_as reach given aside aside' waiting waiting' a w is =
+    subst (λ (xs : List Event). AreNear reach given xs waiting') (sym a)
+    (subst (λ (xs : List Event). AreNear reach given aside xs) (sym w) is)
+
 module _ (limits : Bounds) (most ahead : ℕ) (run : List Event) (old : Delay) where
   -- one event more waits
   pub delayed_waits : (e : Event) → HasBegun limits most ahead run e old → AreOfLock (run ++ e ∷ []) →
@@ -141,8 +149,10 @@ module _ (limits : Bounds) (most ahead : ℕ) (run : List Event) (old : Delay) w
         ahead_is = far ∙ is.ahead_is;
         counted = counted;
         given = is.given;
-        judge_of = subst (IsJudge limits most ahead is.given) (sym judge_is) is.judge_of;
+        judge_of = subst (IsJudge limits most (reach_of ahead) is.given) (sym judge_is) is.judge_of;
         keeps = subst (KeepsBase limits is.given) (sym judge_is) is.keeps;
+        near = near_as (reach_of ahead) is.given old.aside.items new.aside.items (old.waiting.events.items ++ e ∷ [])
+            new.waiting.events.items (ap (λ v. v.items) aside_is) waiting_is is.near;
         handed = handed_as (ahead - 64) (run ++ e ∷ []) is.given old.aside.items new.aside.items
             (old.waiting.events.items ++ e ∷ []) new.waiting.events.items old.first_late new.first_late old.passed
             new.passed (ap (λ v. v.items) aside_is) waiting_is first_is passed_is
@@ -157,6 +167,13 @@ module _ (limits : Bounds) (most ahead : ℕ) (run : List Event) (old : Delay) w
       }
 
   module _ (is : IsDelayed limits most ahead run old) where
+    -- few events were not given
+    pub few_given : length old.waiting.events.items ≤ old.ahead →
+        length old.aside.items + length old.waiting.events.items ≤ reach_of ahead
+    few_given few = let same : old.ahead ≡ ahead - 64 = is.ahead_is in
+        let lanes : length old.aside.items ≤ 64 = few_aside old.aside.items old.waiting.events.items is.handed.asides in
+        omega (arith, few, same, lanes)
+
     -- no call of the lane is aside
     pub begun_none : (e : Event) → IsSpared old.aside.items (lane_of e) → HasBegun limits most ahead run e old
     begun_none e spared = record {
@@ -167,6 +184,7 @@ module _ (limits : Bounds) (most ahead : ℕ) (run : List Event) (old : Delay) w
       judge_of = is.judge_of;
       keeps = is.keeps;
       handed = is.handed;
+      near = near_waits (reach_of ahead) is.given old.aside.items old.waiting.events.items e is.near;
       shown = shown_if_waits limits run is.given old.aside.items old.waiting.events.items e old.shown is.shown;
       late = late_waits limits run old.aside.items old.waiting.events.items (ahead - 64) old.shown is.late e spared;
     }
@@ -197,6 +215,21 @@ module _ (limits : Bounds) (most ahead : ℕ) (run : List Event) (old : Delay) w
         long = let all : old.passed + length old.waiting.events.items ≡ length run = passed_length (ahead - 64) run
             is.given old.aside.items old.waiting.events.items old.first_late old.passed is.handed in
             let told : many ≡ old.passed + length old.waiting.events.items + 1 = by.2 in omega (arith, all, told)
+
+    -- its end comes near
+    pub near_begun : (place : ℕ) (b e : Event) → IsOfLaneAt old.aside.items (lane_of e) place →
+        b ≡ get_or old.aside.items place b → length old.waiting.events.items ≤ old.ahead → AreOfLock (run ++ e ∷ []) →
+        AreNear (reach_of ahead) (is.given ++ b ∷ []) (remove old.aside.items place)
+        (old.waiting.events.items ++ e ∷ [])
+    near_begun place b e there read few whole = near_late (ahead - 64) (reach_of ahead) run (take late.late run) late.later
+        is.given old.aside.items (remove old.aside.items place) old.waiting.events.items b e whole.form
+        (sym (take-append-drop late.late run) ∙ ap (λ (xs : List Event). take late.late run ++ xs) late.there)
+        late.spared (sym (ap lane_of read ∙ there.1 b)) (length-remove old.aside.items place there.0)
+        (let same : old.ahead ≡ ahead - 64 = is.ahead_is in omega (arith, few, same))
+        (few_aside old.aside.items old.waiting.events.items is.handed.asides) refl is.near
+      where
+        late : IsPending run (ahead - 64) b
+        late = subst (IsPending run (ahead - 64)) (sym read) (is.late.pending place b there.0)
 
     pub late_then : (place : ℕ) (b e : Event) → IsOfLaneAt old.aside.items (lane_of e) place →
         b ≡ get_or old.aside.items place b → IsSpared (remove old.aside.items place) (lane_of e) →
@@ -255,15 +288,22 @@ module _ (limits : Bounds) (most ahead : ℕ) (run : List Event) (old : Delay) w
       spared = x_spared (ahead - 64) run is.given old.aside.items rest x old.first_late old.passed handed_here
 
       pub delayed_passes : IsGiven x old.judge new.judge → KeepsOn x old.judge new.judge → new.aside ≡ old.aside →
-          new.first_late ≡ old.first_late → (old.aside.items ≢ [] → old.ahead ≤ length rest) → IsDelayed limits most ahead run new
-      delayed_passes given kept aside_is first_is full = record {
+          new.first_late ≡ old.first_late → (old.aside.items ≢ [] → old.ahead ≤ length rest) → ¬ IsToBeAside x rest →
+          length old.waiting.events.items ≤ old.ahead + 1 → IsDelayed limits most ahead run new
+      delayed_passes given kept aside_is first_is full not few = record {
         whole = is.whole;
         limits_are = limits_are ∙ is.limits_are;
         ahead_is = far ∙ is.ahead_is;
         counted = counted;
         given = is.given ++ x ∷ [];
-        judge_of = given limits most ahead is.given is.judge_of;
-        keeps = kept limits most ahead is.given is.judge_of is.keeps;
+        judge_of = given limits most (reach_of ahead) is.given is.judge_of;
+        keeps = kept limits most (reach_of ahead) is.given is.judge_of is.keeps;
+        near = near_as (reach_of ahead) (is.given ++ x ∷ []) old.aside.items new.aside.items rest
+            new.waiting.events.items (ap (λ v. v.items) aside_is) waiting_is
+            (near_passes (ahead - 64) (reach_of ahead) run is.handed.past is.given old.aside.items
+            old.waiting.events.items rest x some is.whole.form is.handed.run_is not
+            (let same : old.ahead ≡ ahead - 64 = is.ahead_is in omega (arith, few, same))
+            (few_aside old.aside.items old.waiting.events.items is.handed.asides) refl is.near);
         handed = handed_as (ahead - 64) run (is.given ++ x ∷ []) old.aside.items new.aside.items rest
             new.waiting.events.items old.first_late new.first_late (old.passed + 1) new.passed
             (ap (λ v. v.items) aside_is) waiting_is first_is passed_is
@@ -288,8 +328,12 @@ module _ (limits : Bounds) (most ahead : ℕ) (run : List Event) (old : Delay) w
         ahead_is = far ∙ is.ahead_is;
         counted = counted;
         given = is.given;
-        judge_of = subst (IsJudge limits most ahead is.given) (sym judge_is) is.judge_of;
+        judge_of = subst (IsJudge limits most (reach_of ahead) is.given) (sym judge_is) is.judge_of;
         keeps = subst (KeepsBase limits is.given) (sym judge_is) is.keeps;
+        near = near_as (reach_of ahead) is.given (old.aside.items ++ x ∷ []) new.aside.items rest
+            new.waiting.events.items aside_is waiting_is
+            (near_aside (reach_of ahead) is.given old.aside.items old.waiting.events.items rest x some
+            (begins_so x rest to) is.near);
         handed = handed_as (ahead - 64) run is.given (old.aside.items ++ x ∷ []) new.aside.items rest
             new.waiting.events.items (first_or old.passed old.first_late) new.first_late (old.passed + 1) new.passed
             aside_is waiting_is first_is passed_is
@@ -370,7 +414,7 @@ module _ (events : List Event) (k : ℕ) (e : Event) (old new : Judge) (less : k
 
 -- before any event
 pub delayed_first : (limits : Bounds) (most ahead : ℕ) (delay : Delay) → delay.limits ≡ limits →
-    IsJudge limits most ahead [] delay.judge → KeepsBase limits [] delay.judge → delay.ahead ≡ ahead - 64 →
+    IsJudge limits most (reach_of ahead) [] delay.judge → KeepsBase limits [] delay.judge → delay.ahead ≡ ahead - 64 →
     IsCounted delay.waiting → delay.aside.items ≡ [] → delay.waiting.events.items ≡ [] → delay.first_late ≡ None → delay.passed ≡ 0 →
     delay.shown ≡ Some 0 → IsDelayed limits most ahead [] delay
 delayed_first limits most ahead delay limits_are judge_of keeps far counted aside_is waiting_is first_is passed_is
@@ -382,6 +426,8 @@ delayed_first limits most ahead delay limits_are judge_of keeps far counted asid
       given = [];
       judge_of = judge_of;
       keeps = keeps;
+      near = near_as (reach_of ahead) [] [] delay.aside.items [] delay.waiting.events.items aside_is waiting_is
+          (near_first (reach_of ahead));
       handed = handed_as (ahead - 64) [] [] [] delay.aside.items [] delay.waiting.events.items None delay.first_late 0
           delay.passed aside_is waiting_is first_is passed_is (record {
             past = [];

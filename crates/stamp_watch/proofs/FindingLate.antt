@@ -59,7 +59,7 @@ place_at limits run j k same within explained = subst (IsPlace limits run) same 
 
 -- what holds whatever comes tells of a place in the run
 place_of : (limits : Bounds) (run : List Event) (most ahead k : ℕ) (v : Verdict) →
-    IsVerdict limits (run ++ stray ∷ []) most (Some ahead) v → TellsOf v k → IsPlace limits run k
+    IsVerdict limits (run ++ stray ∷ []) most None v → TellsOf v k → IsPlace limits run k
 place_of limits run most ahead k verdict.Explained has tells = absurd tells
 place_of limits run most ahead k (verdict.Stuck j) has tells = place_at limits run j k tells
     (let within : j + 1 ≤ length run = cut_within run (j + 1) has.0 in omega (arith, within)) has.1.explained
@@ -82,7 +82,7 @@ module _ (limits : Bounds) (run handed : List Event) (most ahead first : ℕ) (w
       sym (take-append-le n run more (omega (arith, less, within)))
 
   rests_before : (v : Verdict) → v ≢ verdict.Explained → RestsBefore v first →
-      IsVerdict limits handed most (Some ahead) v → IsFound limits run most (Some ahead) v
+      IsVerdict limits handed most None v → IsFound limits run most None v
   rests_before verdict.Explained not rests has more = absurd (not refl)
   rests_before (verdict.Stuck k) not rests has more = (
     subst AreOfLock (cut_same (k + 1) more (omega (arith, rests))) has.0,
@@ -120,7 +120,7 @@ module _ (limits : Bounds) (run handed : List Event) (most ahead first : ℕ) (w
 
 -- the judge was not given the run as it stands
 late_found : (limits : Bounds) (run handed : List Event) (most ahead first k : ℕ) (v : Verdict) → AreOfLock run →
-    BeginsLater run handed → IsVerdict limits handed most (Some ahead) v → IsPlace limits run k → TellsOf v k →
+    BeginsLater run handed → IsVerdict limits handed most None v → IsPlace limits run k → TellsOf v k →
     RestsOn v first → IsOpenFor run first (ahead - 64) → first < length run →
     ((more : List Event) → HasGivenUp v ⊎ OneIsUnshown limits (run ++ more) (ahead - 64) (k + 1)) →
     IsLateFound limits run most ahead (finding.Late k)
@@ -189,7 +189,7 @@ module _ (limits : Bounds) (most ahead : ℕ) (run given aside waiting : List Ev
   -- the run is stuck where it is with calls begun late, if it is shown by then that nothing is lost by those
   settled : (o : Option ℕ) → IsShownIfAny limits run given aside waiting o → (k : ℕ) → IsSettled aside o k →
       k + 1 ≤ length run → AreExplained limits (take k run) → ¬ AreExplained limits (take (k + 1) (given ++ waiting)) →
-      IsFound limits run most (Some ahead) (verdict.Stuck k)
+      IsFound limits run most None (verdict.Stuck k)
   settled None any k none within explained stuck more = absurd none
   settled (Some many) any k is within explained stuck more = (
     subst AreOfLock (sym (take-append-le (k + 1) run more within)) (of_lock_up_to (k + 1) run whole),
@@ -209,13 +209,13 @@ module _ (limits : Bounds) (most ahead : ℕ) (run given aside waiting : List Ev
       by (Some many) both = both.0
 
   -- what is found of the events that were given
-  module _ (v : Verdict) (found : IsFound limits given most (Some ahead) v) where
+  module _ (v : Verdict) (found : IsFound limits given most None v) where
     not_explained : v ≢ verdict.Explained
     not_explained same = no_stray given
-        (subst (λ (w : Verdict). IsVerdict limits (given ++ stray ∷ []) most (Some ahead) w) same
+        (subst (λ (w : Verdict). IsVerdict limits (given ++ stray ∷ []) most None w) same
         (found (stray ∷ []))).0
 
-    settled_found : (w : Verdict) → IsFound limits given most (Some ahead) w → IsSettledFor aside shown w →
+    settled_found : (w : Verdict) → IsFound limits given most None w → IsSettledFor aside shown w →
         IsLateFound limits run most ahead (finding.Is w)
     settled_found verdict.Explained has none = absurd none
     settled_found (verdict.Stuck k) has is = settled shown shows k is
@@ -235,7 +235,7 @@ module _ (limits : Bounds) (most ahead : ℕ) (run given aside waiting : List Ev
         by : (n : Option ℕ) → IsFirstIfAny (ahead - 64) run is.past given aside n → (g : LateVerdict) → IsFindingOf aside shown n v g →
             IsLateFound limits run most ahead g
         by None none g same = subst (IsLateFound limits run most ahead) (sym same)
-            (λ more. subst (λ (xs : List Event). IsVerdict limits xs most (Some ahead) v)
+            (λ more. subst (λ (xs : List Event). IsVerdict limits xs most None v)
             (sym (append_assoc given (aside ++ waiting) more) ∙
             ap (λ (xs : List Event). xs ++ more) (as_it_stands none)) (found ((aside ++ waiting) ++ more)))
         by (Some n) some (finding.Is w) both = subst (λ (u : Verdict). IsLateFound limits run most ahead (finding.Is u))
@@ -244,23 +244,23 @@ module _ (limits : Bounds) (most ahead : ℕ) (run given aside waiting : List Ev
             either : RestsBefore v n ⊎ IsSettledFor aside shown v → IsLateFound limits run most ahead (finding.Is v)
             either (inl rests) = rests_before limits run given most ahead n
                 (let less : n < length run = some.before in omega (arith, less)) some.same v not_explained rests
-                (found_now limits given most (Some ahead) v found)
+                (found_now limits given most None v found)
             either (inr is_settled) = settled_found v found is_settled
         by (Some n) some (finding.Late k) both = late_found limits run (given ++ (aside ++ waiting)) most ahead n k v
             whole later_here (found (aside ++ waiting))
             (place_here k (place_given k (place_of limits given most ahead k v (found (stray ∷ [])) both.0))) both.0
             both.1 some.open_for some.before (why_late v k both.0 both.2 (λ same.
             let within : k + 1 ≤ length given = cut_within given (k + 1) (subst (λ (w : Verdict).
-            IsVerdict limits (given ++ stray ∷ []) most (Some ahead) w) same (found (stray ∷ []))).0 in
+            IsVerdict limits (given ++ stray ∷ []) most None w) same (found (stray ∷ []))).0 in
             let long : length (given ++ (aside ++ waiting)) ≡ length given + length (aside ++ waiting) =
             length-append given (aside ++ waiting) in
             let all : length (given ++ (aside ++ waiting)) ≡ length run = long_here in
             omega (arith, within, long, all)))
 
   -- what is found where all was given
-  module _ (v : Verdict) (rest : IsRest limits (given ++ (aside ++ waiting)) most (Some ahead) v) where
-    has_rest : IsVerdict limits (given ++ (aside ++ waiting)) most (Some ahead) v
-    has_rest = rest_now limits (given ++ (aside ++ waiting)) most (Some ahead) v rest
+  module _ (v : Verdict) (rest : IsRest limits (given ++ (aside ++ waiting)) most None v) where
+    has_rest : IsVerdict limits (given ++ (aside ++ waiting)) most None v
+    has_rest = rest_now limits (given ++ (aside ++ waiting)) most None v rest
 
     explained_here : AreExplained limits (given ++ (aside ++ waiting)) → AreExplained limits run
     explained_here way = subst (AreExplained limits) (take-length run)
@@ -273,8 +273,8 @@ module _ (limits : Bounds) (most ahead : ℕ) (run given aside waiting : List Ev
     same_here n less same = take-append-le n given (aside ++ waiting) less ∙ same
 
     rest_before : (n : ℕ) → n ≤ length run → n ≤ length given → take n given ≡ take n run → (w : Verdict) →
-        IsVerdict limits (given ++ (aside ++ waiting)) most (Some ahead) w → RestsBefore w n →
-        IsRest limits run most (Some ahead) w
+        IsVerdict limits (given ++ (aside ++ waiting)) most None w → RestsBefore w n →
+        IsRest limits run most None w
     rest_before n less within same verdict.Explained has rests = (whole, explained_here has.1)
     rest_before n less within same (verdict.Stuck k) has rests = rests_before limits run (given ++ (aside ++ waiting))
         most ahead n less (same_here n within same) (verdict.Stuck k) (λ e. cc) rests has
@@ -284,8 +284,8 @@ module _ (limits : Bounds) (most ahead : ℕ) (run given aside waiting : List Ev
     rest_before n less within same (verdict.Undecided k why) has rests = absurd rests
     rest_before n less within same (verdict.Broken k) has rests = absurd rests
 
-    settled_rest : (w : Verdict) → IsRest limits (given ++ (aside ++ waiting)) most (Some ahead) w →
-        IsSettledFor aside shown w → IsRest limits run most (Some ahead) w
+    settled_rest : (w : Verdict) → IsRest limits (given ++ (aside ++ waiting)) most None w →
+        IsSettledFor aside shown w → IsRest limits run most None w
     settled_rest verdict.Explained ends none = absurd none
     settled_rest (verdict.Stuck k) ends is = settled shown shows k is
         (let within : k + 1 ≤ length (given ++ (aside ++ waiting)) = cut_within (given ++ (aside ++ waiting)) (k + 1)
@@ -305,11 +305,11 @@ module _ (limits : Bounds) (most ahead : ℕ) (run given aside waiting : List Ev
         by : (n : Option ℕ) → IsFirstIfAny (ahead - 64) run is.past given aside n → (g : LateVerdict) → IsFindingOf aside shown n v g →
             IsLateRest limits run most ahead g
         by None none g same = subst (IsLateRest limits run most ahead) (sym same)
-            (subst (λ (xs : List Event). IsRest limits xs most (Some ahead) v) (as_it_stands none) rest)
-        by (Some n) some (finding.Is w) both = subst (λ (u : Verdict). IsRest limits run most (Some ahead) u) (sym both.0)
+            (subst (λ (xs : List Event). IsRest limits xs most None v) (as_it_stands none) rest)
+        by (Some n) some (finding.Is w) both = subst (λ (u : Verdict). IsRest limits run most None u) (sym both.0)
             (either both.1)
           where
-            either : RestsBefore v n ⊎ IsSettledFor aside shown v → IsRest limits run most (Some ahead) v
+            either : RestsBefore v n ⊎ IsSettledFor aside shown v → IsRest limits run most None v
             either (inl rests) = rest_before n (let less : n < length run = some.before in omega (arith, less))
                 some.given_more some.same v has_rest rests
             either (inr is_settled) = settled_rest v rest is_settled
@@ -318,12 +318,12 @@ module _ (limits : Bounds) (most ahead : ℕ) (run given aside waiting : List Ev
             (with_stray v both.0 rest) both.0)) both.0 both.1 some.open_for some.before
             (why_late v k both.0 both.2 (λ same.
             let within : k + 1 ≤ length (given ++ (aside ++ waiting)) = cut_within (given ++ (aside ++ waiting)) (k + 1)
-            (subst (λ (w : Verdict). IsVerdict limits ((given ++ (aside ++ waiting)) ++ stray ∷ []) most (Some ahead) w) same
+            (subst (λ (w : Verdict). IsVerdict limits ((given ++ (aside ++ waiting)) ++ stray ∷ []) most None w) same
             (with_stray v both.0 rest)).0 in
             let all : length (given ++ (aside ++ waiting)) ≡ length run = long_here in omega (arith, within, all)))
           where
-            with_stray : (w : Verdict) → TellsOf w k → IsRest limits (given ++ (aside ++ waiting)) most (Some ahead) w →
-                IsVerdict limits ((given ++ (aside ++ waiting)) ++ stray ∷ []) most (Some ahead) w
+            with_stray : (w : Verdict) → TellsOf w k → IsRest limits (given ++ (aside ++ waiting)) most None w →
+                IsVerdict limits ((given ++ (aside ++ waiting)) ++ stray ∷ []) most None w
             with_stray verdict.Explained tells ends = absurd tells
             with_stray (verdict.Stuck j) tells ends = ends (stray ∷ [])
             with_stray (verdict.StuckWithin j m) tells ends = ends (stray ∷ [])

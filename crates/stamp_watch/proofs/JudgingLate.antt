@@ -1,20 +1,15 @@
 -- A judge that puts calls aside which are open for long.
-use Rattle.std.proofs.Common.{◌-◌, ◌≡◌, ◌≢◌, ◌+◌, ◌^◌, ◌<◌, ◌≤◌, ℕ, List, [], ◌∷◌, ◌++◌, length, Option, Some, None}
-use Rattle.std.proofs.Common.{sym, ◌∙◌, ap, subst, arith, append_assoc, append-nil, map}
+use Rattle.std.proofs.Common.{◌-◌, ◌≡◌, ◌+◌, ◌^◌, ◌<◌, ◌≤◌, ℕ, List, [], ◌∷◌, ◌++◌, length, Option, Some, None}
+use Rattle.std.proofs.Common.{sym, ◌∙◌, ap, subst, arith, append_assoc, append-nil}
 use Rattle.std.specs.Prelude.{MatchOption}
-use Rattle.std.specs.List.{All, AllPairs}
-use Rattle.std.proofs.lemmas.List.{length-map, length_push}
-use Rattle.std.proofs.lemmas.List.Elements.{All-map}
+use Rattle.std.proofs.lemmas.List.{length_push}
 use Rattle.stamp_core.specs.Limits.{Bounds}
-use Rattle.stamp_explain.proofs.Lists.{pairs_map}
-use Rattle.stamp_explain.proofs.Threads.{few_threads}
-use Rattle.stamp_watch.specs.Ahead.{lane_of}
 use Rattle.stamp_watch.specs.declared.delay.Delay.{Delay}
 use Rattle.stamp_watch.specs.declared.event.Event.{Event}
 use Rattle.stamp_watch.specs.declared.late_verdict.LateVerdict.{LateVerdict}
 use Rattle.stamp_watch.specs.declared.late_verdict.LateVerdict.TheVariants as finding
 use Rattle.stamp_watch.specs.declared.late.LateJudge.{LateJudge}
-use Rattle.stamp_watch.specs.Delay.{AreAside, IsDelayed, IsSmallDelay}
+use Rattle.stamp_watch.specs.Delay.{IsDelayed, IsSmallDelay}
 use Rattle.stamp_watch.specs.Judging.{AreBusyLanes}
 use Rattle.stamp_watch.specs.Late.{IsLateVerdict, IsLateFound}
 use Rattle.stamp_watch.specs.LateJudge.{IsLateJudge, IsLateUnderWay}
@@ -23,23 +18,11 @@ use Rattle.stamp_watch.specs.Verdict.{AreOfLock}
 use Rattle.stamp_watch.specs.inner.Delay.{IsLateRest, IsReady, IsReadyFor}
 use Rattle.stamp_watch.specs.inner.Judging.{MayComeIn, SetsBusy}
 use Rattle.stamp_watch.specs.inner.Late.{broken_off_there}
+use Rattle.stamp_watch.proofs.Closeness.{few_aside}
 use Rattle.stamp_watch.proofs.Forming.{busy_lanes_then, form_first, of_lock_on}
 use Rattle.stamp_watch.proofs.HandingOn.{passed_length}
 use Rattle.stamp_watch.proofs.PossibleLate.{keeps_beside, keeps_of}
 use Rattle.stamp_watch.proofs.Running.{broken_found, rest_now}
-
--- each call that is aside is in a lane of its own
-pub few_aside : (aside waiting : List Event) → AreAside aside waiting → length aside ≤ 64
-few_aside aside waiting is =
-    let few : length (map lane_of aside) ≤ 64 = few_threads (map lane_of aside) 64 apart low in
-    let long : length (map lane_of aside) ≡ length aside = length-map aside lane_of in omega (arith, few, long)
-  where
-    apart : AllPairs (λ (a b : ℕ). a ≢ b) (map lane_of aside)
-    apart = pairs_map (λ (d e : Event). lane_of d ≢ lane_of e) (λ (a b : ℕ). a ≢ b) (λ (e : Event). Unit {0}) lane_of
-        aside (λ x y _ _ other. other) (λ k d less. tt) is.apart
-
-    low : All (λ (a : ℕ). a < 64) (map lane_of aside)
-    low = All-map (λ (a : ℕ). a < 64) lane_of aside is.lanes
 
 small_of : (limits : Bounds) (most ahead : ℕ) (run : List Event) (delay : Delay) →
     IsDelayed limits most ahead run delay → length delay.waiting.events.items ≤ ahead + 1 → IsSmallDelay ahead delay
@@ -108,7 +91,7 @@ finding_now limits run most ahead f found =
 
 pub late_rest_now : (limits : Bounds) (run : List Event) (most ahead : ℕ) (f : LateVerdict) →
     IsLateRest limits run most ahead f → IsLateVerdict limits run most ahead f
-late_rest_now limits run most ahead (finding.Is v) rest = rest_now limits run most (Some ahead) v rest
+late_rest_now limits run most ahead (finding.Is v) rest = rest_now limits run most None v rest
 late_rest_now limits run most ahead (finding.Late k) rest = finding_now limits run most ahead (finding.Late k) rest
 
 module _ (limits : Bounds) (most ahead : ℕ) (run : List Event) (judge : LateJudge)
@@ -175,7 +158,7 @@ module _ (limits : Bounds) (most ahead : ℕ) (run : List Event) (judge : LateJu
     pub late_broken : (e : Event) (number : ℕ) → number ≡ judge.delay.passed + length judge.delay.waiting.events.items →
         ¬ MayComeIn judge.busy e → (f : LateVerdict) → IsLateRest limits run most ahead f →
         IsLateFound limits (run ++ e ∷ []) most ahead (broken_off_there f number)
-    late_broken e number at not_there (finding.Is v) rest = broken_found limits run most (Some ahead) judge.busy number e
+    late_broken e number at not_there (finding.Is v) rest = broken_found limits run most None judge.busy number e
         (at ∙ run_long) late_way.lanes not_there v rest
     late_broken e number at not_there (finding.Late k) rest =
         found_then limits run most ahead e (finding.Late k) rest

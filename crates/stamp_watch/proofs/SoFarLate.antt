@@ -4,14 +4,16 @@ use Rattle.std.proofs.lemmas.List.{take-append-le}
 use Rattle.stamp_core.specs.Limits.{Bounds}
 use Rattle.stamp_watch.specs.declared.event.Event.{Event}
 use Rattle.stamp_watch.specs.declared.late.LateJudge.{LateJudge}
+use Rattle.stamp_watch.specs.Delay.{reach_of}
 use Rattle.stamp_watch.specs.Late.{BeginsLater}
 use Rattle.stamp_watch.specs.LateJudge.{IsLateJudge, IsLateUnderWay}
 use Rattle.stamp_watch.specs.Run.{AreExplained}
 use Rattle.stamp_watch.specs.SoFar.{IsExplainedUpTo, open_calls}
 use Rattle.stamp_watch.specs.inner.Lanes.{lanes_in}
 use Rattle.stamp_watch.proofs.BeginningLater.{later_explains_no_more}
+use Rattle.stamp_watch.proofs.Closeness.{few_aside}
 use Rattle.stamp_watch.proofs.HandingOn.{given_length}
-use Rattle.stamp_watch.proofs.JudgingLate.{few_aside, late_way, run_long}
+use Rattle.stamp_watch.proofs.JudgingLate.{late_way, run_long}
 use Rattle.stamp_watch.proofs.SoFar.{below}
 
 module _ (limits : Bounds) (most ahead : ℕ) (run : List Event) (judge : LateJudge)
@@ -35,8 +37,8 @@ module _ (limits : Bounds) (most ahead : ℕ) (run : List Event) (judge : LateJu
       let all : judge.delay.passed + length judge.delay.waiting.events.items ≡ length run =
       run_long limits most ahead run judge is none in omega (arith, parts, all)
 
-  pub late_explained_is : (k : ℕ) → IsExplainedUpTo limits way.delayed.given ahead k →
-      IsExplainedUpTo limits run (2 * ahead + 64) k
+  pub late_explained_is : (k : ℕ) → IsExplainedUpTo limits way.delayed.given (reach_of ahead) k →
+      IsExplainedUpTo limits run (2 * reach_of ahead) k
   late_explained_is k in_judge = record {
     within = let within : k ≤ length way.delayed.given = in_judge.within in
         let all : length way.delayed.given + length judge.delay.aside.items +
@@ -45,7 +47,7 @@ module _ (limits : Bounds) (most ahead : ℕ) (run : List Event) (judge : LateJu
         (way.delayed.given ++ (judge.delay.aside.items ++ judge.delay.waiting.events.items)) k way.delayed.whole.form
         later (subst (AreExplained limits) (sym (take-append-le k way.delayed.given
         (judge.delay.aside.items ++ judge.delay.waiting.events.items) in_judge.within)) in_judge.explained);
-    near = let near : length way.delayed.given ≤ k + ahead = in_judge.near in
+    near = let near : length way.delayed.given ≤ k + reach_of ahead = in_judge.near in
         let aside : length judge.delay.aside.items ≤ 64 = few_aside judge.delay.aside.items
         judge.delay.waiting.events.items way.delayed.handed.asides in
         let few : length judge.delay.waiting.events.items ≤ ahead - 64 = way.few in

@@ -3,7 +3,8 @@ use Rattle.std.specs.Prelude.{ℕ, ◌-◌, ◌≡◌, ◌≢◌, ◌⊎◌, ◌
 use Rattle.std.specs.Prelude.{Option, Some, None}
 use Rattle.std.specs.List.{All, AllPairs}
 use Rattle.stamp_core.specs.Limits.{Bounds}
-use Rattle.stamp_watch.specs.Ahead.{IsSpared, lane_of}
+use Rattle.stamp_core.specs.declared.call.Call.{Call}
+use Rattle.stamp_watch.specs.Ahead.{EndsNever, IsSpared, lane_of}
 use Rattle.stamp_watch.specs.declared.delay.Delay.{Delay}
 use Rattle.stamp_watch.specs.declared.event.Event.{Event}
 use Rattle.stamp_watch.specs.declared.event.Event.TheVariants.{Begins, Returns, Withdraws}
@@ -116,18 +117,44 @@ pub record AreLate (limits : Bounds) (run aside waiting : List Event) (window : 
   pub full : aside ≢ [] → window ≤ length waiting
   pub ended : HasEndedSo limits run window shown
 
--- the delay of a run in form, in front of a judge that looks at so many events. Up to 64 calls may begin late among
--- those, so 64 fewer wait
+-- the event ends a call of this lane
+abbrev pub IsEndOf : ℕ → Event → Type 0
+IsEndOf lane (Begins other call) = ⊥
+IsEndOf lane (Returns other reply) = other ≡ lane
+IsEndOf lane (Withdraws other) = other ≡ lane
+
+-- a call of this lane began before these events. Its end waits, and fewer events than so many come before that: these,
+-- those that are aside, and those that wait before it
+pub record EndsNear (reach lane : ℕ) (behind aside waiting : List Event) : Type 0 where
+  pub before : List Event
+  pub end : Event
+  pub after : List Event
+  pub waiting_is : waiting ≡ before ++ end ∷ after
+  pub ends : IsEndOf lane end
+  pub near : length behind + length aside + length before < reach
+
+-- no call is open for so many of the events that a judge was given, and each that is open behind them ends near
+pub record AreNear (reach : ℕ) (given aside waiting : List Event) : Type 0 where
+  pub none : (k : ℕ) → ¬ IsOpenFor given k reach
+  pub each : (k lane : ℕ) (call : Call) (behind : List Event) → drop k given ≡ Begins lane call ∷ behind →
+      EndsNever lane behind → EndsNear reach lane behind aside waiting
+
+-- So many events the judge looks at for the end of a call. Up to 64 calls may begin late among those, so 64 fewer wait.
+abbrev pub reach_of : ℕ → ℕ
+reach_of ahead = (ahead - 64) + 64
+
+-- the delay of a run in form, in front of a judge, where calls may be open for so many events
 pub record IsDelayed (limits : Bounds) (most ahead : ℕ) (run : List Event) (delay : Delay) : Type 0 where
   pub whole : AreOfLock run
   pub limits_are : delay.limits ≡ limits
   pub ahead_is : delay.ahead ≡ ahead - 64
   pub counted : IsCounted delay.waiting
   pub given : List Event
-  pub judge_of : IsJudge limits most ahead given delay.judge
+  pub judge_of : IsJudge limits most (reach_of ahead) given delay.judge
   pub keeps : KeepsBase limits given delay.judge
   pub handed : IsHandedOn (ahead - 64) run given delay.aside.items delay.waiting.events.items delay.first_late
       delay.passed
+  pub near : AreNear (reach_of ahead) given delay.aside.items delay.waiting.events.items
   pub shown : IsShownIfAny limits run given delay.aside.items delay.waiting.events.items delay.shown
   pub late : AreLate limits run delay.aside.items delay.waiting.events.items (ahead - 64) delay.shown
 
@@ -140,6 +167,6 @@ pub record IsSmallDelay (ahead : ℕ) (delay : Delay) : Type 0 where
   pub limits : Bounds
   pub most : ℕ
   pub given : List Event
-  pub judge_of : IsJudge limits most ahead given delay.judge
+  pub judge_of : IsJudge limits most (reach_of ahead) given delay.judge
   pub waiting : length delay.waiting.events.items ≤ ahead + 1
   pub aside : length delay.aside.items ≤ 64

@@ -1,5 +1,5 @@
 -- The calls that end at events of a run.
-use Rattle.std.specs.Prelude.{ℕ, ◌-◌, ◌==◌, List, take, slice_get, Option, Some, None, if◌then◌else◌, nat_le}
+use Rattle.std.specs.Prelude.{ℕ, ◌≡◌, ◌+◌, ◌-◌, ◌==◌, List, length, take, slice_get, Option, Some, None, if◌then◌else◌, nat_le}
 use Rattle.std.specs.Prelude.{option_map, option_and_then}
 use Rattle.std.specs.List.{fold}
 use Rattle.stamp_core.specs.declared.call.Call.{Call}
@@ -7,6 +7,7 @@ use Rattle.stamp_core.specs.declared.reply.Reply.{Reply}
 use Rattle.stamp_watch.specs.declared.ended_call.EndedCall.{EndedCall}
 use Rattle.stamp_watch.specs.declared.event.Event.{Event}
 use Rattle.stamp_watch.specs.declared.event.Event.TheVariants.{Begins, Returns, Withdraws}
+use Rattle.stamp_watch.specs.Late.{EndsBehind}
 
 -- the last call of this lane once the event came
 abbrev pub begun_then : ℕ → Option Call → Event → Option Call
@@ -34,3 +35,15 @@ ended_at events place = option_and_then (λ (e : Event). ended_by e (take place 
 -- so it is with the event of this number, of which the first has the other
 abbrev pub ended_from : ℕ → List Event → ℕ → Option EndedCall
 ended_from first events number = if nat_le first number then ended_at events (number - first) else None
+
+-- the event by which a call of the lane ends with this reply; with none it is withdrawn
+abbrev pub end_in : ℕ → Option Reply → Event
+end_in lane (Some reply) = Returns lane reply
+end_in lane None = Withdraws lane
+
+-- the event with this number ends this call of the run: that begins in its lane, and no event of the lane is between
+pub record IsEndedAt (run : List Event) (k : ℕ) (ended : EndedCall) : Type 0 where
+  pub began : ℕ
+  pub between : List Event
+  pub number : k ≡ began + 1 + length between
+  pub ends : EndsBehind run began (Begins ended.lane ended.call) between (end_in ended.lane ended.reply)

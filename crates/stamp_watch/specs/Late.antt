@@ -1,5 +1,5 @@
 -- Runs with calls that are open for long, and what is found of them.
-use Rattle.std.specs.Prelude.{ℕ, ◌≡◌, ◌≢◌, ◌⊎◌, ◌+◌, ◌-◌, ◌<◌, ◌≤◌, ◌++◌, List, ◌∷◌, take, drop, length, Some}
+use Rattle.std.specs.Prelude.{ℕ, ◌≡◌, ◌≢◌, ◌⊎◌, ◌+◌, ◌-◌, ◌<◌, ◌≤◌, ◌++◌, List, ◌∷◌, take, drop, length, None}
 use Rattle.stamp_core.specs.Limits.{Bounds}
 use Rattle.stamp_core.specs.declared.call.Call.{Call}
 use Rattle.stamp_watch.specs.declared.event.Event.{Event}
@@ -97,14 +97,14 @@ pub record IsLate (limits : Bounds) (run : List Event) (most ahead k : ℕ) : Ty
   pub handed : List Event
   pub later : BeginsLater (take place run) handed
   pub verdict : Verdict
-  pub has : IsVerdict limits handed most (Some ahead) verdict
+  pub has : IsVerdict limits handed most None verdict
   pub tells : TellsOf verdict k
   pub rests : RestsOn verdict late
   pub why : HasGivenUp verdict ⊎ OneIsUnshown limits run (ahead - 64) (k + 1)
 
--- what a finding means
+-- what a finding means; none is that a call is open for too long
 abbrev pub IsLateVerdict : Bounds → List Event → ℕ → ℕ → LateVerdict → Type 0
-IsLateVerdict limits run most ahead (Is verdict) = IsVerdict limits run most (Some ahead) verdict
+IsLateVerdict limits run most ahead (Is verdict) = IsVerdict limits run most None verdict
 IsLateVerdict limits run most ahead (Late k) = IsLate limits run most ahead k
 
 -- it means this, whatever comes later

@@ -81,8 +81,8 @@ fn give(judge: &mut Judge, events: &[StreamEvent]) -> Result<(), AllocError>
 }
 
 impl Delay {
-    /// That of a run without events, whose judge looks at so many events for the end of a call. Among those calls may
-    /// begin late, one in each lane, so 64 fewer wait.
+    /// That of a run without events, whose judge looks at so many events for the end of a call, and at 64 at least.
+    /// Among those calls may begin late, one in each lane, so 64 fewer wait. So each call ends among those.
     pub(crate) fn new(
         alloc: Global,
         limits: Limits,
@@ -93,12 +93,13 @@ impl Delay {
         ensures going { IfOk result (λ delay. delay.judge.found ≡ None) }
         ensures none { IfOk result (λ delay. delay.waiting.events.items ≡ []) }
     {
-        let judge = Judge::new(alloc, limits, most, ahead)?;
+        let window = ahead.saturating_sub(LANES);
+        let judge = Judge::new(alloc, limits, most, window + LANES)?;
         Ok(Delay {
             alloc,
             limits,
             judge,
-            ahead: ahead.saturating_sub(LANES),
+            ahead: window,
             waiting: Waiting::new(alloc),
             aside: Vec::new(alloc),
             passed: 0,
@@ -227,6 +228,7 @@ impl Delay {
     fn hand_on(&mut self) -> Result<Handed, AllocError>
         requires ready { IsReady self.old }
         requires some { 0 < length self.old.waiting.events.items }
+        requires few { length self.old.waiting.events.items ≤ self.old.ahead + 1 }
         requires room { self.old.passed + length self.old.waiting.events.items < 2 ^ 64 }
         ensures delayed { IfOk result (λ _. (limits : Bounds) (most ahead : ℕ) (run : List Event)
             → IsDelayed limits most ahead run self.old → IsDelayed limits most ahead run self.new) }
@@ -256,12 +258,12 @@ impl Delay {
     /// Hands on the events that needn't wait, until something is found.
     fn hand_all_on(&mut self) -> Result<Option<Verdict>, AllocError>
         requires ready { IsReady self.old }
+        requires few { length self.old.waiting.events.items ≤ self.old.ahead + 1 }
         requires room { self.old.passed + length self.old.waiting.events.items < 2 ^ 64 }
         ensures delayed { IfOk result (λ _. (limits : Bounds) (most ahead : ℕ) (run : List Event)
             → IsDelayed limits most ahead run self.old → IsDelayed limits most ahead run self.new) }
         ensures told { IfOk result (λ found. self.new.judge.found ≡ found) }
-        ensures few { IfOk result (λ found. length self.old.waiting.events.items ≤ self.old.ahead + 1
-            → (found ≡ None → length self.new.waiting.events.items ≤ self.old.ahead)
+        ensures few { IfOk result (λ found. (found ≡ None → length self.new.waiting.events.items ≤ self.old.ahead)
             × (length self.new.waiting.events.items ≤ self.old.ahead + 1)) }
     {
         'waiting: while self.waiting.len() > 0 {
@@ -374,6 +376,7 @@ impl Delay {
     /// What is found of the run if it ends here. The delay is of no more use then.
     pub(crate) fn rest(&mut self) -> Result<LateVerdict, AllocError>
         requires ready { IsReady self.old }
+        requires few { length self.old.waiting.events.items ≤ self.old.ahead }
         requires room { self.old.passed + length self.old.waiting.events.items < 2 ^ 64 }
         ensures rest { IfOk result (λ finding. (limits : Bounds) (most ahead : ℕ) (run : List Event)
             → IsDelayed limits most ahead run self.old → IsLateRest limits run most ahead finding) }

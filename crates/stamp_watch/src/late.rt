@@ -5,11 +5,11 @@
 //! explained as the run stands, since a call that begins later may do less. Nothing is lost by that if a call that began
 //! and returned shortly before issued a stamp of an older version: versions never fall, so the late call took effect
 //! after that one began. So a run with calls that wait for long is judged to its end, and where it is stuck is found.
-ghost use Rattle.std.specs.Prelude.{◌≡◌, ◌+◌, ◌*◌, ◌^◌, ◌<◌, ◌≤◌, ◌↔◌, [], IfOk, None, Some, List, ℕ, false, length};
+ghost use Rattle.std.specs.Prelude.{◌≡◌, ◌+◌, ◌*◌, ◌^◌, ◌<◌, ◌≤◌, ◌↔◌, [], ⊤, IfOk, IfSome, MatchOption, None, Some, List, ℕ, false, length};
 ghost use Rattle.stamp_core.specs.Limits.{Bounds};
 ghost use Rattle.stamp_watch.specs.declared.event.Event.{Event};
-ghost use Rattle.stamp_watch.specs.Delay.{kept_of};
-ghost use Rattle.stamp_watch.specs.EndedCall.{ended_from};
+ghost use Rattle.stamp_watch.specs.Delay.{kept_of, reach_of};
+ghost use Rattle.stamp_watch.specs.EndedCall.{IsEndedAt, ended_from};
 ghost use Rattle.stamp_watch.specs.Late.{IsLateVerdict};
 ghost use Rattle.stamp_watch.specs.SoFar.{IsExplainedUpTo, open_calls};
 ghost use Rattle.stamp_watch.specs.Possible.{items_in};
@@ -29,8 +29,9 @@ use stamp_core::{Call, Limits, Reply};
 use std::alloc::{AllocError, Global};
 
 /// Judges a run of a lock event by event, from a new lock on. It is as `Judge`, but a call may be open for as long as
-/// it likes: where that is longer than many events, it begins later. What is found is what a `Judge` would find, if it
-/// is shown of each such call that nothing is lost. After an `Err` it is of no more use.
+/// it likes: where that is longer than many events, it begins later, and none is too far from its end. What is found is
+/// what a `Judge` would find, if it is shown of each such call that nothing is lost. After an `Err` it is of no more
+/// use.
 #[derive(Drop)]
 pub struct LateJudge {
     pub(crate) delay: Delay,
@@ -50,8 +51,8 @@ fn broken_off(rest: LateVerdict, number: u64) -> LateVerdict
 
 impl LateJudge {
     /// The judge of a lock with these limits, before any event. More than `most` configurations before an event are
-    /// too many to go on. A call begins later if it is open for all but 64 of `ahead` events. So `ahead` is more than
-    /// 64, and rather thousands.
+    /// too many to go on. A call begins later if it is open for all but 64 of `ahead` events. So `ahead` is rather
+    /// thousands; where it is 64 or less, each call begins late.
     pub fn new(
         alloc: Global,
         limits: Limits,
@@ -169,12 +170,12 @@ impl LateJudge {
     }
 
     /// So many of the events that it was given are explained, from the first on, where nothing is found of them. Of
-    /// the others there are no more than twice those that it looks at, and 64.
+    /// the others there are no more than twice `ahead`, or 128 if that is more.
     pub fn explained(&self) -> u64
         requires some { IsLateJudgeOfSome self.now }
         requires none { HasFoundNothingLater self.now }
         ensures { (limits : Bounds) (most ahead : ℕ) (run : List Event)
-            → IsLateJudge limits most ahead run self.now → IsExplainedUpTo limits run (2 * ahead + 64) result }
+            → IsLateJudge limits most ahead run self.now → IsExplainedUpTo limits run (2 * reach_of ahead) result }
     {
         self.delay.judge.explained()
     }
@@ -188,9 +189,14 @@ impl LateJudge {
         lanes_in(self.busy)
     }
 
-    /// The call that the event with this number ends, if its beginning is kept and no call before began late.
+    /// The call that the event with this number ends, if its beginning is kept. Where a call that begins before the
+    /// event was put aside, it is one of the run with that call begun later.
     pub fn ended_at(&self, number: u64) -> Option<EndedCall>
-        ensures { result ≡ ended_from self.now.delay.judge.course.first self.now.delay.judge.course.events.items number }
+        ensures kept { result
+            ≡ ended_from self.now.delay.judge.course.first self.now.delay.judge.course.events.items number }
+        ensures call { (limits : Bounds) (run : List Event) → KeepsLater limits run self.now
+            → MatchOption self.now.delay.first_late ⊤ (λ first. number < first)
+            → IfSome result (λ ended. IsEndedAt run number ended) }
     {
         self.delay.judge.ended_at(number)
     }

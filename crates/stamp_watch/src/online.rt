@@ -8,11 +8,11 @@
 //!
 //! A copy of the watch, once the ends of its open calls were seen, is the new base, and the events before it are let go
 //! of. A call that is open for more events than were allowed ends the judging, so few events are kept.
-ghost use Rattle.std.specs.Prelude.{◌≡◌, ◌+◌, ◌*◌, ◌≤◌, ◌↔◌, [], IfOk, None, Some, List, ℕ, false, length};
+ghost use Rattle.std.specs.Prelude.{◌≡◌, ◌+◌, ◌*◌, ◌≤◌, ◌↔◌, [], IfOk, IfSome, None, Some, List, ℕ, false, length};
 ghost use Rattle.stamp_core.specs.Limits.{Bounds};
 ghost use Rattle.stamp_watch.specs.Course.{IsRest};
 ghost use Rattle.stamp_watch.specs.declared.event.Event.{Event};
-ghost use Rattle.stamp_watch.specs.EndedCall.{ended_from};
+ghost use Rattle.stamp_watch.specs.EndedCall.{IsEndedAt, ended_from};
 ghost use Rattle.stamp_watch.specs.Judge.{HasFoundNothing, HasRoomForOne, IsFoundThen, IsGiven, IsJudge, IsJudgeOfSome};
 ghost use Rattle.stamp_watch.specs.Possible.{IsKeeping, KeepsBase, KeepsOn};
 ghost use Rattle.stamp_watch.specs.Verdict.{IsVerdict};
@@ -174,14 +174,23 @@ impl Judge {
         self.course.count()
     }
 
-    /// The call that the event with this number ends, if its beginning is kept.
-    pub fn ended_at(&self, number: u64) -> Option<EndedCall>
+    /// The call that the event with this number ends, among the events that are kept.
+    fn kept_end(&self, number: u64) -> Option<EndedCall>
         ensures { result ≡ ended_from self.now.course.first self.now.course.events.items number }
     {
         let at = number.checked_sub(self.course.first)? as usize;
         let events = self.course.events.as_slice();
         let event = events.get(at)?;
         ended_by(event, &events[..at])
+    }
+
+    /// The call that the event with this number ends, if its beginning is kept.
+    pub fn ended_at(&self, number: u64) -> Option<EndedCall>
+        ensures kept { result ≡ ended_from self.now.course.first self.now.course.events.items number }
+        ensures call { (limits : Bounds) (run : List Event) → KeepsBase limits run self.now
+            → IfSome result (λ ended. IsEndedAt run number ended) }
+    {
+        self.kept_end(number)
     }
 
     /// What is found of the run if it ends here: a call that has not ended never ends.

@@ -1,5 +1,5 @@
 -- An event that may not come behind a run, and what a verdict on a run in form may be.
-use Rattle.std.proofs.Common.{ℕ, ◌≡◌, ◌≢◌, ◌⊎◌, ◌+◌, ◌<◌, Bool, true, false, List, [], ◌∷◌, ◌++◌, length, Option, Some}
+use Rattle.std.proofs.Common.{ℕ, ◌≡◌, ◌≢◌, ◌⊎◌, ◌+◌, ◌<◌, Bool, true, false, List, [], ◌∷◌, ◌++◌, length, Option, None, Some}
 use Rattle.std.proofs.Common.{refl, sym, ◌∙◌, ap, subst, inl, inr, arith}
 use Rattle.std.specs.Prelude.{IsSome, MatchOption, take}
 use Rattle.std.proofs.lemmas.Bool.{cases_order, false≢true}
@@ -143,7 +143,7 @@ of_form limits run most ahead (verdict.Broken k) found other = absurd (other k r
 pub late_of_form : (limits : Bounds) (run : List Event) (most ahead : ℕ) (v : LateVerdict) →
     IsLateFound limits run most ahead v → ((k : ℕ) → v ≢ Is (verdict.Broken k)) → IsLateOfForm v
 late_of_form limits run most ahead (Is v) found other =
-    of_form limits run most (Some ahead) v found (λ k same. other k (ap Is same))
+    of_form limits run most None v found (λ k same. other k (ap Is same))
 late_of_form limits run most ahead (Late k) found other = tt
 
 -- no run in form is broken, so a verdict on one as it ends is that it is explained, or of form
@@ -159,7 +159,7 @@ form_here limits run most ahead (verdict.Broken k) whole is other =
 pub late_form_here : (limits : Bounds) (run : List Event) (most ahead : ℕ) (v : LateVerdict) → AreOfLock run →
     IsLateVerdict limits run most ahead v → v ≢ Is verdict.Explained → IsLateOfForm v
 late_form_here limits run most ahead (Is v) whole is other =
-    form_here limits run most (Some ahead) v whole is (λ same. other (ap Is same))
+    form_here limits run most None v whole is (λ same. other (ap Is same))
 late_form_here limits run most ahead (Late k) whole is other = tt
 
 -- where a run in form is broken with one event more, that may not come behind it

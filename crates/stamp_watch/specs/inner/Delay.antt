@@ -3,7 +3,7 @@ use Rattle.std.specs.Prelude.{ℕ, ◌≡◌, ◌≢◌, ◌⊎◌, ◌↔◌, �
 use Rattle.std.specs.Prelude.{slice_index_or, take, Option, Some, None}
 use Rattle.stamp_core.specs.Limits.{Bounds}
 use Rattle.stamp_watch.specs.Course.{IsRest}
-use Rattle.stamp_watch.specs.Delay.{IsDelayed, IsHandedOn, IsShownIfAny, AreLate}
+use Rattle.stamp_watch.specs.Delay.{AreLate, AreNear, IsDelayed, IsHandedOn, IsShownIfAny, reach_of}
 use Rattle.stamp_watch.specs.Issued.{LosesNothing}
 use Rattle.stamp_watch.specs.Judge.{IsJudge}
 use Rattle.stamp_watch.specs.Possible.{KeepsBase}
@@ -28,10 +28,11 @@ pub record HasBegun (limits : Bounds) (most ahead : ℕ) (run : List Event) (e :
   pub ahead_is : delay.ahead ≡ ahead - 64
   pub counted : IsCounted delay.waiting
   pub given : List Event
-  pub judge_of : IsJudge limits most ahead given delay.judge
+  pub judge_of : IsJudge limits most (reach_of ahead) given delay.judge
   pub keeps : KeepsBase limits given delay.judge
   pub handed : IsHandedOn (ahead - 64) run given delay.aside.items delay.waiting.events.items delay.first_late
       delay.passed
+  pub near : AreNear (reach_of ahead) given delay.aside.items (delay.waiting.events.items ++ e ∷ [])
   pub shown : IsShownIfAny limits (run ++ e ∷ []) given delay.aside.items (delay.waiting.events.items ++ e ∷ [])
       delay.shown
   pub late : AreLate limits (run ++ e ∷ []) delay.aside.items (delay.waiting.events.items ++ e ∷ []) (ahead - 64)
@@ -141,5 +142,5 @@ pub record HasRoomFor (n : ℕ) (judge : Judge) : Type 0 where
 
 -- what is found of a run that ends or breaks here
 abbrev pub IsLateRest : Bounds → List Event → ℕ → ℕ → LateVerdict → Type 0
-IsLateRest limits run most ahead (Is verdict) = IsRest limits run most (Some ahead) verdict
+IsLateRest limits run most ahead (Is verdict) = IsRest limits run most None verdict
 IsLateRest limits run most ahead (Late k) = IsLateFound limits run most ahead (Late k)

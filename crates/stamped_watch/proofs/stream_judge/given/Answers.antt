@@ -1,4 +1,4 @@
-use Rattle.std.proofs.Common.{Some, ap, inl, inr, refl, sym, ◌∙◌}
+use Rattle.std.proofs.Common.{None, Some, ap, inl, inr, refl, sym, ◌∙◌}
 use Rattle.stamped_watch.proofs.Ending.{judge_whole}
 use Rattle.stamped_watch.proofs.Found.{so_found}
 use Rattle.stamped_watch.proofs.Misplacing.{found_then, late_of_form, misplaced_at}
@@ -17,7 +17,7 @@ returns-in-Some-broken_at-clause-found c limits most ahead run is =
     let same = c.in-Some.is ∙ ap Some c.in-Some-broken_at.ensures in
     let holds = found_then limits most ahead run c.args.event.now c.args.judge.now c.in_ok-found.found _
     c.in_ok-found.ensures.found same is in
-    misplaced_at limits run most (Some ahead) c.args.event.now c.in-Some-broken_at.number whole holds
+    misplaced_at limits run most None c.args.event.now c.in-Some-broken_at.number whole holds
     c.why_misplaced.result c.requires.kind c.why_misplaced.ensures
 
 pub returns-in_default-clause-found : goal.returns-in_default-clause-found

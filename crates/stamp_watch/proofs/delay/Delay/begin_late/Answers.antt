@@ -2,8 +2,8 @@ use Rattle.std.proofs.Common.{◌+◌, ◌-◌, ◌<◌, List, [], ◌∷◌, �
 use Rattle.std.proofs.lemmas.Result.{IfOk-weaker}
 use Rattle.stamp_watch.specs.Ahead.{IsSpared, lane_of}
 use Rattle.stamp_watch.specs.declared.event.Event.{Event}
-use Rattle.stamp_watch.specs.Delay.{AreLate, IsHandedOn, IsShownIfAny}
-use Rattle.stamp_watch.proofs.Delaying.{late_shown, late_then, room_for_one}
+use Rattle.stamp_watch.specs.Delay.{AreLate, AreNear, IsHandedOn, IsShownIfAny, reach_of}
+use Rattle.stamp_watch.proofs.Delaying.{late_shown, late_then, near_begun, room_for_one}
 use Rattle.stamp_watch.proofs.HandingOn.{handed_begins, rest_spared}
 use Rattle.stamp_watch.proofs.Kept.{IfOk-both}
 use Rattle.stamp_watch.proofs.delay.Delay.begin_late.Goals as goal
@@ -23,8 +23,12 @@ returns-clause-begun c = IfOk-both c.push.result _ _ _ (λ found given kept limi
   ahead_is = is.ahead_is;
   counted = is.counted;
   given = is.given ++ c.remove-begun.result ∷ [];
-  judge_of = given limits most ahead is.given is.judge_of;
-  keeps = kept limits most ahead is.given is.judge_of is.keeps;
+  judge_of = given limits most (reach_of ahead) is.given is.judge_of;
+  keeps = kept limits most (reach_of ahead) is.given is.judge_of is.keeps;
+  near = subst (λ (xs : List Event). AreNear (reach_of ahead) (is.given ++ c.remove-begun.result ∷ []) xs
+      (c.args.self.now.waiting.events.items ++ c.args.end.now ∷ [])) (sym c.remove-begun.ensures.items)
+      (near_begun limits most ahead run c.args.self.now is c.args.place c.remove-begun.result c.args.end.now
+      c.requires.there c.remove-begun.ensures.value c.requires.few whole);
   handed = subst (λ (xs : List Event). IsHandedOn (ahead - 64) run (is.given ++ c.remove-begun.result ∷ []) xs
       c.args.self.now.waiting.events.items c.args.self.now.first_late c.args.self.now.passed)
       (sym c.remove-begun.ensures.items)

@@ -1,3 +1,5 @@
+use Rattle.stamp_watch.specs.Delay.{reach_of}
+use Rattle.stamp_watch.proofs.Closeness.{found_near}
 use Rattle.stamp_watch.proofs.FindingLate.{found_by}
 use Rattle.stamp_watch.proofs.GoingOn.{found_of}
 use Rattle.stamp_watch.proofs.delay.Delay.finding.Goals as goal
@@ -6,5 +8,6 @@ pub returns : goal.returns
 returns c limits most ahead run is = found_by limits most ahead run is.given c.args.self.now.aside.items
     c.args.self.now.waiting.events.items c.args.self.now.first_late c.args.self.now.passed is.whole is.handed
     c.args.self.now.shown is.shown is.late c.args.verdict
-    (found_of limits most ahead is.given c.args.self.now.judge is.judge_of c.args.verdict c.requires)
+    (found_near limits most (reach_of ahead) is.given is.near.none c.args.verdict
+    (found_of limits most (reach_of ahead) is.given c.args.self.now.judge is.judge_of c.args.verdict c.requires))
     c.finding_of.result c.finding_of.ensures

@@ -2,6 +2,7 @@ use Rattle.std.proofs.Common.{◌≡◌, ◌+◌, ◌^◌, ◌<◌, ◌++◌, �
 use Rattle.std.proofs.lemmas.List.{length-append}
 use Rattle.std.proofs.lemmas.Result.{IfOk-weaker}
 use Rattle.stamp_watch.specs.declared.event.Event.{Event}
+use Rattle.stamp_watch.specs.Delay.{reach_of}
 use Rattle.stamp_watch.specs.Judge.{IsJudge}
 use Rattle.stamp_watch.specs.Possible.{KeepsBase}
 use Rattle.stamp_watch.proofs.Delaying.{given_of_all, room_of}
@@ -15,7 +16,7 @@ give-requires-clause-room c =
     let long : length c.as_slice.result.now ≡ length c.args.self.now.aside.items =
     ap (λ (xs : List Event). length xs) c.as_slice.ensures.value in
     let room : c.args.self.now.passed + length c.args.self.now.waiting.events.items < 2 ^ 64 = c.requires.room in
-    room_of some.limits some.most some.ahead some.delayed.given c.args.self.now.judge (length c.as_slice.result.now)
+    room_of some.limits some.most (reach_of some.ahead) some.delayed.given c.args.self.now.judge (length c.as_slice.result.now)
     some.delayed.judge_of (omega (arith, all, long, room))
 
 pub give-requires-2-clause-room : goal.give-requires-2-clause-room
@@ -34,9 +35,9 @@ give-requires-2-clause-room c =
     let sum : length (c.as_slices.result.0.now ++ c.as_slices.result.1.now) ≡
     length c.as_slices.result.0.now + length c.as_slices.result.1.now =
     length-append c.as_slices.result.0.now c.as_slices.result.1.now in
-    room_of some.limits some.most some.ahead (some.delayed.given ++ c.as_slice.result.now) c.give.new.judge
+    room_of some.limits some.most (reach_of some.ahead) (some.delayed.given ++ c.as_slice.result.now) c.give.new.judge
     (length c.as_slices.result.0.now)
-    (c.in_ok-give.ensures.given some.limits some.most some.ahead some.delayed.given some.delayed.judge_of)
+    (c.in_ok-give.ensures.given some.limits some.most (reach_of some.ahead) some.delayed.given some.delayed.judge_of)
     (omega (arith, all, long, room, given, parts, sum))
 
 pub give-requires-3-clause-room : goal.give-requires-3-clause-room
@@ -58,10 +59,10 @@ give-requires-3-clause-room c =
     let sum : length (c.as_slices.result.0.now ++ c.as_slices.result.1.now) ≡
     length c.as_slices.result.0.now + length c.as_slices.result.1.now =
     length-append c.as_slices.result.0.now c.as_slices.result.1.now in
-    room_of some.limits some.most some.ahead ((some.delayed.given ++ c.as_slice.result.now) ++
+    room_of some.limits some.most (reach_of some.ahead) ((some.delayed.given ++ c.as_slice.result.now) ++
     c.as_slices.result.0.now) c.give-2.new.judge (length c.as_slices.result.1.now)
-    (c.in_ok-give-2.ensures.given some.limits some.most some.ahead (some.delayed.given ++ c.as_slice.result.now)
-    (c.in_ok-give.ensures.given some.limits some.most some.ahead some.delayed.given some.delayed.judge_of))
+    (c.in_ok-give-2.ensures.given some.limits some.most (reach_of some.ahead) (some.delayed.given ++ c.as_slice.result.now)
+    (c.in_ok-give.ensures.given some.limits some.most (reach_of some.ahead) some.delayed.given some.delayed.judge_of))
     (omega (arith, all, long, room, given, then_given, parts, sum))
 
 pub returns-clause-kept : goal.returns-clause-kept

@@ -26,6 +26,11 @@ enough c = by (cases_lt c.args.self.now.ahead (length c.args.self.now.waiting.ev
     by (inr few) = absurd (false≢true (sym c.if-waits_on.false ∙
         c.waits_on.ensures.1 (few, inl c.if-alone.true)))
 
+-- or it is not to be
+not_alone : (c : Else-alone) → ¬ IsToBeAside c.pop-event.result c.pop-event.new.self.events.items
+not_alone c to = false≢true (sym c.if-alone.false ∙
+    c.is_alone_in_front-alone.ensures.1 (subst IsAloneInFront (sym c.pop-event.ensures.items) to))
+
 -- where a call is aside, enough events wait on
 enough_still : (c : Else-alone) → c.args.self.now.aside.items ≢ [] →
     c.args.self.now.ahead ≤ length c.pop-event.new.self.events.items
@@ -74,9 +79,11 @@ returns-in-Some-clause-delayed c limits most ahead run is = delayed_passes limit
     c.pop-event.result c.pop-event.new.self.events.items c.pop-event.ensures.items _ refl refl c.pop-event.ensures.counted
     refl refl refl c.in_ok-verdict.ensures.given c.in_ok-verdict.ensures.kept refl refl
     (enough_still ((goal.at.returns-in-Some-clause-delayed c).Else-alone))
+    (not_alone ((goal.at.returns-in-Some-clause-delayed c).Else-alone)) c.requires.few
 
 pub returns-in-None-clause-delayed : goal.returns-in-None-clause-delayed
 returns-in-None-clause-delayed c limits most ahead run is = delayed_passes limits most ahead run c.args.self.now is
     c.pop-event.result c.pop-event.new.self.events.items c.pop-event.ensures.items _ refl refl c.pop-event.ensures.counted
     refl refl refl c.in_ok-verdict.ensures.given c.in_ok-verdict.ensures.kept refl refl
     (enough_still ((goal.at.returns-in-None-clause-delayed c).Else-alone))
+    (not_alone ((goal.at.returns-in-None-clause-delayed c).Else-alone)) c.requires.few

@@ -1,6 +1,9 @@
 use Rattle.std.proofs.Common.{◌++◌, ℕ, List, Option, subst, ap}
 use Rattle.stamp_watch.specs.declared.event.Event.{Event}
+use Rattle.stamp_watch.specs.Delay.{reach_of}
 use Rattle.stamp_watch.specs.inner.Delay.{IsFindingOf}
+use Rattle.stamp_watch.proofs.Closeness.{near_all, rest_near}
+use Rattle.stamp_watch.proofs.Delaying.{few_given}
 use Rattle.stamp_watch.proofs.FindingLate.{rest_by}
 use Rattle.stamp_watch.proofs.PossibleLate.{keeps_all}
 use Rattle.stamp_watch.proofs.delay.Delay.rest.Goals as goal
@@ -8,15 +11,19 @@ use Rattle.stamp_watch.proofs.delay.Delay.rest.Goals as goal
 pub returns-clause-keeps : goal.returns-clause-keeps
 returns-clause-keeps c limits most ahead run is = keeps_all limits most ahead run c.args.self.now c.give_all.new.self
     is c.in_ok-give_all.ensures.same.2 c.in_ok-give_all.ensures.window
-    (c.in_ok-give_all.ensures.kept limits most ahead is.given is.judge_of is.keeps)
+    (c.in_ok-give_all.ensures.kept limits most (reach_of ahead) is.given is.judge_of is.keeps)
 
 pub returns-clause-rest : goal.returns-clause-rest
 returns-clause-rest c limits most ahead run is = rest_by limits most ahead run is.given c.args.self.now.aside.items
     c.args.self.now.waiting.events.items c.args.self.now.first_late c.args.self.now.passed is.whole is.handed
     c.args.self.now.shown is.shown is.late c.in_ok-verdict.verdict
-    (c.in_ok-verdict.ensures.rest limits most ahead
+    (rest_near limits most (reach_of ahead)
     (is.given ++ (c.args.self.now.aside.items ++ c.args.self.now.waiting.events.items))
-    (c.in_ok-give_all.ensures.given limits most ahead is.given is.judge_of)) c.finding_of.result
+    (near_all (reach_of ahead) is.given c.args.self.now.aside.items c.args.self.now.waiting.events.items
+    (few_given limits most ahead run c.args.self.now is c.requires.few) is.near) c.in_ok-verdict.verdict
+    (c.in_ok-verdict.ensures.rest limits most (reach_of ahead)
+    (is.given ++ (c.args.self.now.aside.items ++ c.args.self.now.waiting.events.items))
+    (c.in_ok-give_all.ensures.given limits most (reach_of ahead) is.given is.judge_of))) c.finding_of.result
     (subst (λ (xs : List Event). IsFindingOf xs c.args.self.now.shown c.args.self.now.first_late c.in_ok-verdict.verdict
     c.finding_of.result) (ap (λ v. v.items) c.in_ok-give_all.ensures.same.0)
     (subst (λ (o : Option ℕ). IsFindingOf c.give_all.new.self.aside.items o c.args.self.now.first_late

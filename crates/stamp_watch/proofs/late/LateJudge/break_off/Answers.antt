@@ -1,13 +1,17 @@
 use Rattle.std.proofs.Common.{[], ◌∷◌, ◌++◌, ◌∙◌, refl, sym, subst}
 use Rattle.stamp_watch.specs.declared.late_verdict.LateVerdict.{LateVerdict}
 use Rattle.stamp_watch.specs.Late.{IsLateFound}
-use Rattle.stamp_watch.proofs.JudgingLate.{has_found, late_broken, late_way, ready_now}
+use Rattle.stamp_watch.proofs.JudgingLate.{few_wait, has_found, late_broken, late_way, ready_now}
 use Rattle.stamp_watch.proofs.PossibleLate.{keeps_beside}
 use Rattle.stamp_watch.proofs.late.LateJudge.break_off.Goals as goal
 
 pub rest-requires-clause-ready : goal.rest-requires-clause-ready
 rest-requires-clause-ready c = let some = c.requires.some in
     ready_now some.limits some.most some.ahead some.run c.args.self.now some.judge_of c.requires.none
+
+pub rest-requires-clause-few : goal.rest-requires-clause-few
+rest-requires-clause-few c = let some = c.requires.some in
+    few_wait some.limits some.most some.ahead some.run c.args.self.now some.judge_of c.requires.none
 
 pub returns-clause-found : goal.returns-clause-found
 returns-clause-found c limits most ahead run is =

@@ -1,3 +1,4 @@
+use Rattle.stamp_watch.specs.Delay.{reach_of}
 use Rattle.stamp_watch.proofs.SoFarLate.{late_explained_is, way}
 use Rattle.stamp_watch.proofs.late.LateJudge.explained.Goals as goal
 
@@ -6,7 +7,7 @@ explained-requires-clause-some c = let some = c.requires.some in
     let here = way some.limits some.most some.ahead some.run c.args.self.now some.judge_of c.requires.none in record {
       limits = some.limits;
       most = some.most;
-      ahead = some.ahead;
+      ahead = reach_of some.ahead;
       run = here.delayed.given;
       judge_of = here.delayed.judge_of;
     }
@@ -18,4 +19,4 @@ explained-requires-clause-none c = let some = c.requires.some in
 pub returns : goal.returns
 returns c limits most ahead run is = late_explained_is limits most ahead run c.args.self.now is c.requires.none
     c.explained.result (let here = way limits most ahead run c.args.self.now is c.requires.none in
-    c.explained.ensures limits most ahead here.delayed.given here.delayed.judge_of)
+    c.explained.ensures limits most (reach_of ahead) here.delayed.given here.delayed.judge_of)

@@ -1,5 +1,5 @@
 use Rattle.std.proofs.lemmas.Result.{IfOk-weaker}
-use Rattle.stamp_watch.proofs.JudgingLate.{finding_now, late_found_of, late_rest_now, late_way}
+use Rattle.stamp_watch.proofs.JudgingLate.{few_wait, finding_now, late_found_of, late_rest_now, late_way}
 use Rattle.stamp_watch.proofs.late.LateJudge.finish.Goals as goal
 
 pub returns-in-Some-clause-verdict : goal.returns-in-Some-clause-verdict
@@ -19,6 +19,10 @@ pub returns-in-None-clause-keeps : goal.returns-in-None-clause-keeps
 returns-in-None-clause-keeps c = IfOk-weaker c.rest.result _ _ (λ f keeps limits most ahead run is.
     keeps limits most ahead run (late_way limits most ahead run c.args.self.now is c.in-None.is).delayed)
     c.rest.ensures.keeps
+
+pub rest-requires-clause-few : goal.rest-requires-clause-few
+rest-requires-clause-few c = few_wait c.requires.limits c.requires.most c.requires.ahead c.requires.run c.args.self.now
+    c.requires.judge_of c.in-None.is
 
 pub rest-requires-clause-room : goal.rest-requires-clause-room
 rest-requires-clause-room c =
