@@ -10,7 +10,8 @@ use Rattle.stamp_watch.proofs.delay.Delay.rest.Goals as goal
 
 pub returns-clause-keeps : goal.returns-clause-keeps
 returns-clause-keeps c limits most ahead run is = keeps_all limits most ahead run c.args.self.now c.give_all.new.self
-    is c.in_ok-give_all.ensures.same.2 (c.in_ok-give_all.ensures.kept limits most (reach_of ahead) is.given is.judge_of is.keeps)
+    is c.in_ok-give_all.ensures.same.2
+    (c.in_ok-give_all.ensures.kept limits most (reach_of ahead) is.given is.judge_of is.keeps)
 
 pub returns-clause-rest : goal.returns-clause-rest
 returns-clause-rest c limits most ahead run is = rest_by limits most ahead run is.given c.args.self.now.aside.items
