@@ -1,20 +1,18 @@
 -- A run in which calls begin later is explained only where the run is.
 use Rattle.std.proofs.Common.{◌≡◌, ◌≢◌, ◌⊎◌, ◌+◌, ◌-◌, ◌<◌, ◌≤◌, ℕ, zero, suc, Bool, false, List, [], ◌∷◌, ◌++◌}
-use Rattle.std.proofs.Common.{length, refl, sym, ◌∙◌, ap, subst, inl, inr, arith, append_assoc, ne_eqb}
+use Rattle.std.proofs.Common.{length, refl, sym, ◌∙◌, ap, subst, inl, inr, arith, ne_eqb}
 use Rattle.std.specs.Prelude.{take, not, ◌&&◌, ◌||◌}
-use Rattle.std.specs.List.{All, fold}
+use Rattle.std.specs.List.{fold}
 use Rattle.std.proofs.lemmas.Bool.{cases_eq, cases_lt}
 use Rattle.std.proofs.lemmas.List.{length-append, take-append-le}
-use Rattle.std.proofs.lemmas.List.Elements.{All-head, All-tail}
 use Rattle.std.proofs.Math.Seq.{take-append-add}
 use Rattle.stamp_core.specs.LockEvent.{LockEvent}
 use Rattle.stamp_core.specs.Limits.{Bounds}
 use Rattle.stamp_core.specs.declared.call.Call.{Call}
 use Rattle.stamp_watch.specs.declared.event.Event.{Event}
 use Rattle.stamp_watch.specs.declared.event.Event.TheVariants.{Begins, Returns, Withdraws}
-use Rattle.stamp_watch.specs.Ahead.{IsSpared, Spares, lane_of}
+use Rattle.stamp_watch.specs.Ahead.{Spares, lane_of}
 use Rattle.stamp_watch.specs.Ahead.Spares.{spares_all, spares_beginning, spares_return, spares_withdrawal}
-use Rattle.stamp_watch.specs.Delay.{IsBeginning}
 use Rattle.stamp_watch.specs.Form.{is_busy_then, is_busy_after, AreInForm, AreInFormFrom, MayCome}
 use Rattle.stamp_watch.specs.Late.{BeginsLater, BeginsOneLater, LaterExplainsNoMore}
 use Rattle.stamp_watch.specs.Late.BeginsLater.{as_it_is, then_later}
@@ -171,29 +169,3 @@ later_as_long run handed (then_later {old = old} before one) =
         length (one.past ++ Begins one.lane one.call ∷ one.next ∷ one.rest)
     swapped = length-append one.past (one.next ∷ Begins one.lane one.call ∷ one.rest) ∙
         sym (length-append one.past (Begins one.lane one.call ∷ one.next ∷ one.rest))
-
--- an event moves before calls that begin in other lanes
-pub moves_before : (run given aside : List Event) (e : Event) (more : List Event) → All IsBeginning aside →
-    IsSpared aside (lane_of e) → BeginsLater run (given ++ (aside ++ e ∷ more)) →
-    BeginsLater run (given ++ (e ∷ (aside ++ more)))
-moves_before run given [] e more begin spared later = later
-moves_before run given (Begins lane call ∷ aside) e more begin spared later = then_later
-    (subst (BeginsLater run) (append_assoc given (Begins lane call ∷ []) (e ∷ (aside ++ more)))
-    (moves_before run (given ++ Begins lane call ∷ []) aside e more
-    (All-tail IsBeginning (Begins lane call) aside begin)
-    (All-tail (λ (x : Event). lane_of x ≢ lane_of e) (Begins lane call) aside spared)
-    (subst (BeginsLater run) (sym (append_assoc given (Begins lane call ∷ []) (aside ++ e ∷ more))) later)))
-    (record {
-      past = given;
-      lane = lane;
-      call = call;
-      next = e;
-      rest = aside ++ more;
-      apart = λ is. All-head (λ (x : Event). lane_of x ≢ lane_of e) (Begins lane call) aside spared (sym is);
-      old_is = refl;
-      new_is = refl;
-    })
-moves_before run given (Returns lane reply ∷ aside) e more begin spared later =
-    absurd (All-head IsBeginning (Returns lane reply) aside begin)
-moves_before run given (Withdraws lane ∷ aside) e more begin spared later =
-    absurd (All-head IsBeginning (Withdraws lane) aside begin)

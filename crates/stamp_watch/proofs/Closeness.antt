@@ -1,6 +1,7 @@
 -- Each call that a judge was given ends near.
-use Rattle.std.proofs.Common.{◌≡◌, ◌≢◌, ◌⊎◌, ◌+◌, ◌-◌, ◌<◌, ◌≤◌, ℕ, zero, suc, Bool, true, false, List, [], ◌∷◌, ◌++◌, length}
-use Rattle.std.proofs.Common.{Some, None, refl, sym, ◌∙◌, ap, subst, inl, inr, arith, append_assoc, append-nil, eq-eqb, map}
+use Rattle.std.proofs.Common.{◌≡◌, ◌≢◌, ◌⊎◌, ◌+◌, ◌-◌, ◌<◌, ◌≤◌, ℕ, zero, suc, Bool, true, false, List, [], ◌∷◌}
+use Rattle.std.proofs.Common.{◌++◌, length, Some, None, refl, sym, ◌∙◌, ap, subst, inl, inr, arith, append_assoc}
+use Rattle.std.proofs.Common.{append-nil, eq-eqb, map}
 use Rattle.std.specs.Prelude.{drop, take, ◌||◌}
 use Rattle.std.specs.List.{All, AllPairs}
 use Rattle.std.proofs.lemmas.Bool.{cases_eq, cases_lt, false≢true}
@@ -23,6 +24,7 @@ use Rattle.stamp_watch.specs.declared.verdict.Why.TheVariants as cause
 use Rattle.stamp_watch.specs.Delay.{AreAside, AreNear, EndsNear, IsBeginning, IsEndOf}
 use Rattle.stamp_watch.specs.Form.{AreInForm, AreInFormFrom, MayCome, is_busy_then}
 use Rattle.stamp_watch.specs.Judging.{IsFound}
+use Rattle.stamp_watch.specs.SoFar.{BeginWithOpenCall}
 use Rattle.stamp_watch.specs.Verdict.{IsOpenFor}
 use Rattle.stamp_watch.specs.inner.Delay.{IsToBeAside}
 use Rattle.stamp_watch.proofs.BeginningLater.{busy_other}
@@ -204,7 +206,8 @@ module _ (reach : ℕ) (given aside waiting aside' waiting' : List Event) (x : E
             later = b.first;
             there = b.there;
             many = more;
-            never = subst (EndsNever is.lane) (ap (take reach) b.behind_is ∙ take-append-le reach b.first (x ∷ []) more)
+            never = subst (EndsNever is.lane)
+                (ap (take reach) b.behind_is ∙ take-append-le reach b.first (x ∷ []) more)
                 is.never;
           })
 
@@ -266,9 +269,9 @@ near_aside reach given aside waiting rest x first begins are = record {
 }
 
 -- the judge is given the first event that waits
-pub near_passes : (window reach : ℕ) (run past given aside waiting rest : List Event) (x : Event) → waiting ≡ x ∷ rest →
-    AreInForm run → run ≡ past ++ waiting → (IsToBeAside x rest → ⊥) → length waiting ≤ window + 1 →
-    length aside ≤ 64 → reach ≡ window + 64 → AreNear reach given aside waiting →
+pub near_passes : (window reach : ℕ) (run past given aside waiting rest : List Event) (x : Event) →
+    waiting ≡ x ∷ rest → AreInForm run → run ≡ past ++ waiting → (IsToBeAside x rest → ⊥) →
+    length waiting ≤ window + 1 → length aside ≤ 64 → reach ≡ window + 64 → AreNear reach given aside waiting →
     AreNear reach (given ++ x ∷ []) aside rest
 near_passes window reach run past given aside waiting rest x first form run_is not few lanes far are =
     given_then reach given aside waiting aside rest x (omega (arith, far))
@@ -381,7 +384,8 @@ near_all reach given aside waiting few are k is = which (cases_lt k (length give
           later = ds;
           there = there;
           many = more;
-          never = subst (EndsNever is.lane) (ap (take reach) later_is ∙ take-append-le reach ds (aside ++ waiting) more)
+          never = subst (EndsNever is.lane)
+              (ap (take reach) later_is ∙ take-append-le reach ds (aside ++ waiting) more)
               is.never;
         })
         cut (inl less) =
@@ -406,6 +410,25 @@ near_all reach given aside waiting few are k is = which (cases_lt k (length give
     which (inl less) = by (drop k given) refl
         (sym (drop-append-le k given (aside ++ waiting) (omega (arith, less))) ∙ is.there) less
     which (inr behind) = outside behind
+
+-- what was given behind an open call, and what is aside
+pub near_open : (reach k : ℕ) (given aside waiting : List Event) → length aside ≤ reach →
+    AreNear reach given aside waiting → BeginWithOpenCall (drop k given) → length given + length aside ≤ k + reach
+near_open reach k given aside waiting lanes are waits = by (drop k given) refl waits
+  where
+    long : length (drop k given) ≡ length given - k
+    long = length-drop k given
+
+    by : (ds : List Event) → drop k given ≡ ds → BeginWithOpenCall ds → length given + length aside ≤ k + reach
+    by [] none any = let nil : length (drop k given) ≡ 0 = ap (λ (xs : List Event). length xs) none in
+        omega (arith, long, nil, lanes)
+    by (Begins lane call ∷ behind) some never =
+        let is = are.each k lane call behind some never in
+        let near : length behind + length aside + length is.before < reach = is.near in
+        let parts : length (drop k given) ≡ suc (length behind) = ap (λ (xs : List Event). length xs) some in
+        omega (arith, long, parts, near)
+    by (Returns lane reply ∷ behind) some none = absurd none
+    by (Withdraws lane ∷ behind) some none = absurd none
 
 -- a judge gives up on none of these calls
 module _ (limits : Bounds) (most reach : ℕ) where

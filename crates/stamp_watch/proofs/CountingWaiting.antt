@@ -22,7 +22,7 @@ one_of lane e = cond (lane_of e == lane) 1 0
 one_here : (lane : ℕ) (e : Event) → lane_of e ≡ lane → one_of lane e ≡ 1
 one_here lane e same = ap (λ (b : Bool). cond b 1 0) (eq-eqb (lane_of e) lane same)
 
-one_elsewhere : (lane : ℕ) (e : Event) → lane_of e ≢ lane → one_of lane e ≡ 0
+pub one_elsewhere : (lane : ℕ) (e : Event) → lane_of e ≢ lane → one_of lane e ≡ 0
 one_elsewhere lane e apart = ap (λ (b : Bool). cond b 1 0) (ne_eqb (lane_of e) lane apart)
 
 pub count_first : (lane : ℕ) (e : Event) (events : List Event) →

@@ -18,10 +18,11 @@ use Rattle.stamp_watch.specs.declared.verdict.Verdict.{Verdict}
 use Rattle.stamp_watch.specs.Delay.{IsBeginning, IsDelayed, IsHandedOn, IsShown}
 use Rattle.stamp_watch.specs.Delay.{AreLate, AreNear, HasEndedLate, HasEndedSo, IsPending, IsShownIfAny, reach_of}
 use Rattle.stamp_watch.specs.Judge.{HasRoomForOne, IsGiven, IsJudge, IsJudgeOfSome}
-use Rattle.stamp_watch.specs.Late.BeginsLater.{as_it_is}
+use Rattle.stamp_watch.specs.Late.{IsLongCall}
+use Rattle.stamp_watch.specs.Late.LongCallsBeginLater.{as_they_are}
 use Rattle.stamp_watch.specs.Possible.{KeepsBase, KeepsOn}
 use Rattle.stamp_watch.specs.Verdict.{AreOfLock, IsOfLock}
-use Rattle.stamp_watch.specs.Waiting.{IsCounted}
+use Rattle.stamp_watch.specs.Waiting.{IsCounted, count_of}
 use Rattle.stamp_watch.specs.inner.Delay.{HasBegun, HasRoomFor, IsOfLaneAt, IsReady, IsReadyFor, IsShownBy, IsToBeAside}
 use Rattle.stamp_watch.proofs.Closeness.{few_aside, near_aside, near_first, near_late, near_passes, near_waits}
 use Rattle.stamp_watch.proofs.Forming.{form_first, next_of_lock}
@@ -68,7 +69,8 @@ module _ (delay : Delay) (ready : IsReady delay) where
   room_for_one n room some = record {
     room = let all : length ready.delayed.given + length delay.aside.items ≡ delay.passed = given_of_all in
         let long : delay.judge.course.first + length delay.judge.course.events.items ≡ length ready.delayed.given =
-        judge_long ready.limits ready.most (reach_of ready.ahead) ready.delayed.given delay.judge ready.delayed.judge_of
+        judge_long ready.limits ready.most (reach_of ready.ahead) ready.delayed.given delay.judge
+        ready.delayed.judge_of
         ready.going in
         omega (arith, all, long, room, some);
   }
@@ -171,7 +173,8 @@ module _ (limits : Bounds) (most ahead : ℕ) (run : List Event) (old : Delay) w
     pub few_given : length old.waiting.events.items ≤ old.ahead →
         length old.aside.items + length old.waiting.events.items ≤ reach_of ahead
     few_given few = let same : old.ahead ≡ ahead - 64 = is.ahead_is in
-        let lanes : length old.aside.items ≤ 64 = few_aside old.aside.items old.waiting.events.items is.handed.asides in
+        let lanes : length old.aside.items ≤ 64 =
+        few_aside old.aside.items old.waiting.events.items is.handed.asides in
         omega (arith, few, same, lanes)
 
     -- no call of the lane is aside
@@ -221,8 +224,8 @@ module _ (limits : Bounds) (most ahead : ℕ) (run : List Event) (old : Delay) w
         b ≡ get_or old.aside.items place b → length old.waiting.events.items ≤ old.ahead → AreOfLock (run ++ e ∷ []) →
         AreNear (reach_of ahead) (is.given ++ b ∷ []) (remove old.aside.items place)
         (old.waiting.events.items ++ e ∷ [])
-    near_begun place b e there read few whole = near_late (ahead - 64) (reach_of ahead) run (take late.late run) late.later
-        is.given old.aside.items (remove old.aside.items place) old.waiting.events.items b e whole.form
+    near_begun place b e there read few whole = near_late (ahead - 64) (reach_of ahead) run (take late.late run)
+        late.later is.given old.aside.items (remove old.aside.items place) old.waiting.events.items b e whole.form
         (sym (take-append-drop late.late run) ∙ ap (λ (xs : List Event). take late.late run ++ xs) late.there)
         late.spared (sym (ap lane_of read ∙ there.1 b)) (length-remove old.aside.items place there.0)
         (let same : old.ahead ≡ ahead - 64 = is.ahead_is in omega (arith, few, same))
@@ -439,7 +442,8 @@ delayed_first limits most ahead delay limits_are judge_of keeps far counted asid
               apart = λ i j d less within. absurd (omega (arith, within));
               spared = All-nil (λ (e : Event). IsSpared [] (lane_of e));
             };
-            later = λ more. as_it_is;
+            long = All-nil (λ (e : Event). IsLongCall [] (ahead - 64) (lane_of e) (count_of (lane_of e) []));
+            later = λ more. as_they_are;
             first_is = (refl, refl);
           });
       shown = shown_as limits [] [] [] delay.aside.items [] delay.waiting.events.items (Some 0) delay.shown aside_is

@@ -16,13 +16,14 @@ use Rattle.stamp_watch.specs.declared.verdict.Verdict.TheVariants as verdict
 use Rattle.stamp_watch.specs.declared.verdict.Why.TheVariants as cause
 use Rattle.stamp_watch.specs.Delay.{AreLate, IsFirstIfAny, IsHandedOn, IsShown, IsShownIfAny}
 use Rattle.stamp_watch.specs.Judging.{IsFound}
-use Rattle.stamp_watch.specs.Late.{BeginsLater, HasGivenUp, IsLateFound, OneIsUnshown, RestsOn, TellsOf}
+use Rattle.stamp_watch.specs.Late.{BeginsLater, HasGivenUp, IsLateFound, LongCallsBeginLater, OneIsUnshown, RestsOn}
+use Rattle.stamp_watch.specs.Late.{TellsOf}
 use Rattle.stamp_watch.specs.Run.{AreExplained}
 use Rattle.stamp_watch.specs.Verdict.{AreOfLock, AreTooMany, IsOpenFor, IsVerdict}
 use Rattle.stamp_watch.specs.inner.Delay.{IsFindingOf, IsLateRest, IsSettled, IsSettledFor, RestsBefore}
 use Rattle.stamp_watch.proofs.BeginningLater.{later_as_long, later_explains_no_more}
 use Rattle.stamp_watch.proofs.Forming.{next_of_lock, of_lock_up_to}
-use Rattle.stamp_watch.proofs.HandingOn.{open_still}
+use Rattle.stamp_watch.proofs.LongCalls.{later_of_long, longs_still, open_still}
 use Rattle.stamp_watch.proofs.Running.{found_now, rest_now}
 use Rattle.stamp_watch.proofs.Showing.{settled_cut}
 use Rattle.stamp_watch.proofs.Unshown.{one_unshown}
@@ -120,7 +121,8 @@ module _ (limits : Bounds) (run handed : List Event) (most ahead first : ℕ) (w
 
 -- the judge was not given the run as it stands
 late_found : (limits : Bounds) (run handed : List Event) (most ahead first k : ℕ) (v : Verdict) → AreOfLock run →
-    BeginsLater run handed → IsVerdict limits handed most None v → IsPlace limits run k → TellsOf v k →
+    LongCallsBeginLater run (ahead - 64) run handed → IsVerdict limits handed most None v → IsPlace limits run k →
+    TellsOf v k →
     RestsOn v first → IsOpenFor run first (ahead - 64) → first < length run →
     ((more : List Event) → HasGivenUp v ⊎ OneIsUnshown limits (run ++ more) (ahead - 64) (k + 1)) →
     IsLateFound limits run most ahead (finding.Late k)
@@ -132,7 +134,8 @@ late_found limits run handed most ahead first k v whole later has place tells re
   place = length run;
   before = less;
   handed = handed;
-  later = subst (λ (xs : List Event). BeginsLater xs handed) (sym (take-append_seam run more)) later;
+  later = subst (λ (xs : List Event). LongCallsBeginLater (run ++ more) (ahead - 64) xs handed)
+      (sym (take-append_seam run more)) (longs_still run more (ahead - 64) run handed later);
   verdict = v;
   has = has;
   tells = tells;
@@ -144,9 +147,12 @@ module _ (limits : Bounds) (most ahead : ℕ) (run given aside waiting : List Ev
     (whole : AreOfLock run) (is : IsHandedOn (ahead - 64) run given aside waiting first passed) (shown : Option ℕ)
     (shows : IsShownIfAny limits run given aside waiting shown)
     (late : AreLate limits run aside waiting (ahead - 64) shown) where
+  longs_here : LongCallsBeginLater run (ahead - 64) run (given ++ (aside ++ waiting))
+  longs_here = subst (λ (xs : List Event). LongCallsBeginLater run (ahead - 64) xs (given ++ (aside ++ waiting)))
+      (sym is.run_is) (is.later waiting)
+
   later_here : BeginsLater run (given ++ (aside ++ waiting))
-  later_here = subst (λ (xs : List Event). BeginsLater xs (given ++ (aside ++ waiting))) (sym is.run_is)
-      (is.later waiting)
+  later_here = later_of_long run (ahead - 64) run (given ++ (aside ++ waiting)) longs_here
 
   long_here : length (given ++ (aside ++ waiting)) ≡ length run
   long_here = later_as_long run (given ++ (aside ++ waiting)) later_here
@@ -247,7 +253,7 @@ module _ (limits : Bounds) (most ahead : ℕ) (run given aside waiting : List Ev
                 (found_now limits given most None v found)
             either (inr is_settled) = settled_found v found is_settled
         by (Some n) some (finding.Late k) both = late_found limits run (given ++ (aside ++ waiting)) most ahead n k v
-            whole later_here (found (aside ++ waiting))
+            whole longs_here (found (aside ++ waiting))
             (place_here k (place_given k (place_of limits given most ahead k v (found (stray ∷ [])) both.0))) both.0
             both.1 some.open_for some.before (why_late v k both.0 both.2 (λ same.
             let within : k + 1 ≤ length given = cut_within given (k + 1) (subst (λ (w : Verdict).
@@ -314,7 +320,7 @@ module _ (limits : Bounds) (most ahead : ℕ) (run given aside waiting : List Ev
                 some.given_more some.same v has_rest rests
             either (inr is_settled) = settled_rest v rest is_settled
         by (Some n) some (finding.Late k) both = late_found limits run (given ++ (aside ++ waiting)) most ahead n k v
-            whole later_here has_rest (place_here k (place_of limits (given ++ (aside ++ waiting)) most ahead k v
+            whole longs_here has_rest (place_here k (place_of limits (given ++ (aside ++ waiting)) most ahead k v
             (with_stray v both.0 rest) both.0)) both.0 both.1 some.open_for some.before
             (why_late v k both.0 both.2 (λ same.
             let within : k + 1 ≤ length (given ++ (aside ++ waiting)) = cut_within (given ++ (aside ++ waiting)) (k + 1)

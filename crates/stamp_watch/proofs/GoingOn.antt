@@ -3,7 +3,7 @@ use Rattle.std.proofs.Common.{ℕ, ◌≡◌, ◌+◌, ◌*◌, ◌^◌, ◌<◌
 use Rattle.std.proofs.Common.{◌∙◌}
 use Rattle.std.proofs.Common.{ap, subst, arith}
 use Rattle.std.specs.Prelude.{MatchOption}
-use Rattle.std.proofs.lemmas.List.{length-append}
+use Rattle.std.proofs.lemmas.List.{drop_all, length-append}
 use Rattle.stamp_core.specs.Limits.{Bounds}
 use Rattle.stamp_watch.specs.declared.event.Event.{Event}
 use Rattle.stamp_watch.specs.declared.course.Course.{Course}
@@ -15,6 +15,7 @@ use Rattle.stamp_watch.specs.Verdict.{AreOfLock}
 use Rattle.stamp_watch.specs.Judging.{AreBusyLanes, IsFound}
 use Rattle.stamp_watch.specs.inner.Judging.{MayComeIn, SetsBusy}
 use Rattle.stamp_watch.specs.Course.{HasRoom, IsCourse, IsNear, IsRest, IsRunOn, IsSmall}
+use Rattle.stamp_watch.specs.SoFar.{BeginWithOpenCall}
 use Rattle.stamp_watch.specs.inner.Course.{HasGoneOn, IsOneLonger, IsOnCourse, broken_off}
 use Rattle.stamp_watch.proofs.Forming.{busy_lanes_then, form_first, of_lock_on}
 use Rattle.stamp_watch.proofs.Running.{broken_found, found_later}
@@ -65,7 +66,11 @@ judge_first limits most ahead judge same far free none course_of small = record 
     course_of = course_of;
     lanes = subst (AreBusyLanes []) (sym free) form_first.1;
     room = record { room = omega (arith, long) };
-    near = record { events = omega (arith, long) };
+    near = record {
+      events = omega (arith, long);
+      waits = subst BeginWithOpenCall
+          (sym (drop_all judge.course.seen judge.course.events.items (omega (arith, long)))) tt;
+    };
   });
 }
   where

@@ -2,36 +2,27 @@
 use Rattle.std.proofs.Common.{◌≡◌, ◌≢◌, ◌⊎◌, ◌+◌, ◌-◌, ◌<◌, ◌≤◌, ℕ, zero, suc, List, [], ◌∷◌, ◌++◌, length, get_or, Option, true, false}
 use Rattle.std.proofs.Common.{Some, None, refl, sym, ◌∙◌, ap, subst, inl, inr, arith, append_assoc, append-nil}
 use Rattle.std.specs.Prelude.{take, drop}
-use Rattle.std.specs.List.{All, remove}
+use Rattle.std.specs.List.{All, AllPairs, remove}
 use Rattle.std.specs.Option.{is_some}
 use Rattle.std.proofs.lemmas.Bool.{cases_lt, false≢true}
-use Rattle.std.proofs.lemmas.List.{length-append, length_push, take-append-le, drop-append-le, get_or-take, get_or-drop}
+use Rattle.std.proofs.lemmas.List.{length-append, length_push, take-append-le, get_or-take, get_or-drop}
 use Rattle.std.proofs.lemmas.List.{length-take-le, length-drop, take-append-drop}
 use Rattle.std.proofs.lemmas.List.Elements.{All-head, All-tail, All-push, All-take, All-drop, All-append}
 use Rattle.std.proofs.lemmas.List.Quantifiers.{all_pairs_push, all_pairs_remove}
 use Rattle.std.proofs.Math.Seq.{drop-append_seam, drop-cons, take-append_seam, take-length}
+use Rattle.stamp_explain.proofs.Lists.{pairs_left}
 use Rattle.stamp_watch.specs.declared.event.Event.{Event}
 use Rattle.stamp_watch.specs.declared.event.Event.TheVariants.{Begins, Returns, Withdraws}
 use Rattle.stamp_watch.specs.Ahead.{EndsNever, IsSpared, lane_of}
 use Rattle.stamp_watch.specs.Ahead.EndsNever.{never_more, not_beginning, not_returning, not_withdrawing}
 use Rattle.stamp_watch.specs.Delay.{IsBeginning, IsFirstIfAny, IsFirstLate, IsHandedOn}
-use Rattle.stamp_watch.specs.Late.{BeginsLater}
+use Rattle.stamp_watch.specs.Late.{BeginsLater, IsLongCall, LongCallsBeginLater}
 use Rattle.stamp_watch.specs.Verdict.{IsOpenFor}
 use Rattle.stamp_watch.specs.inner.Delay.{IsOfLaneAt, IsToBeAside}
-use Rattle.stamp_watch.proofs.BeginningLater.{later_as_long, moves_before}
-
--- a call stays open for so many events when more come
-pub open_still : (run more : List Event) (k ahead : ℕ) → k < length run → IsOpenFor run k ahead →
-    IsOpenFor (run ++ more) k ahead
-open_still run more k ahead less is = record {
-  lane = is.lane;
-  call = is.call;
-  later = is.later ++ more;
-  there = drop-append-le k run more (omega (arith, less)) ∙ ap (λ (xs : List Event). xs ++ more) is.there;
-  many = let long : length (is.later ++ more) ≡ length is.later + length more = length-append is.later more in
-      let many : ahead ≤ length is.later = is.many in omega (arith, long, many);
-  never = subst (EndsNever is.lane) (sym (take-append-le ahead is.later more is.many)) is.never;
-}
+use Rattle.stamp_watch.specs.Waiting.{count_of}
+use Rattle.stamp_watch.proofs.BeginningLater.{later_as_long}
+use Rattle.stamp_watch.proofs.LongCalls.{later_of_long, long_here, long_moves_before, long_still, longs_past}
+use Rattle.stamp_watch.proofs.LongCalls.{longs_still, open_still}
 
 -- where no event is of the lane, none ends its call
 pub never_of_spared : (lane n : ℕ) (events : List Event) → IsSpared events lane → EndsNever lane (take n events)
@@ -79,8 +70,9 @@ module _ (ahead : ℕ) (run given aside waiting : List Event) (first : Option �
 
   pub given_length : length given + length aside ≡ passed
   given_length = sym (length-append given aside) ∙ ap (λ (xs : List Event). length (given ++ xs)) (sym (append-nil aside))
-      ∙ later_as_long (is.past ++ []) (given ++ (aside ++ [])) (is.later []) ∙ ap length (append-nil is.past) ∙
-      sym is.passed_is
+      ∙ later_as_long (is.past ++ []) (given ++ (aside ++ []))
+      (later_of_long run ahead (is.past ++ []) (given ++ (aside ++ [])) (is.later [])) ∙
+      ap length (append-nil is.past) ∙ sym is.passed_is
 
   -- one more event waits
   pub handed_waits : (e : Event) → IsSpared aside (lane_of e) →
@@ -96,7 +88,9 @@ module _ (ahead : ℕ) (run given aside waiting : List Event) (first : Option �
       spared = λ k d less. All-push (λ (x : Event). lane_of x ≢ lane_of (get_or aside k d)) waiting e
           (is.asides.spared k d less) (λ same. spared k d less (sym same));
     };
-    later = is.later;
+    long = λ k d less. long_still run (e ∷ []) ahead (lane_of (get_or aside k d))
+        (count_of (lane_of (get_or aside k d)) given) (is.long k d less);
+    later = λ more. longs_still run (e ∷ []) ahead (is.past ++ more) (given ++ (aside ++ more)) (is.later more);
     first_is = by first is.first_is;
   }
     where
@@ -154,11 +148,17 @@ module _ (ahead : ℕ) (run given aside waiting : List Event) (first : Option �
         apart = all_pairs_remove (λ (d e : Event). lane_of d ≢ lane_of e) aside place there.0 is.asides.apart;
         spared = kept (λ (e : Event). IsSpared waiting (lane_of e)) is.asides.spared;
       };
-      later = λ more. subst (BeginsLater (is.past ++ more)) (behind more)
-          (moves_before (is.past ++ more) given (take place aside) b (drop (suc place) aside ++ more)
+      long = longs_past run ahead given (remove aside place) b
+          (subst (IsSpared (remove aside place)) (sym lane_is) rest_spared)
+          (kept (λ (e : Event). IsLongCall run ahead (lane_of e) (count_of (lane_of e) given)) is.long);
+      later = λ more. subst (LongCallsBeginLater run ahead (is.past ++ more)) (behind more)
+          (long_moves_before run ahead (is.past ++ more) given (take place aside) b (drop (suc place) aside ++ more)
           (All-take IsBeginning place aside is.asides.begin)
           (subst (IsSpared (take place aside)) (sym lane_is) before_spared)
-          (subst (BeginsLater (is.past ++ more)) (ahead_of more) (is.later more)));
+          (pairs_left (λ (d e : Event). lane_of d ≢ lane_of e) (take place aside) (b ∷ drop (suc place) aside)
+          (subst (AllPairs (λ (d e : Event). lane_of d ≢ lane_of e)) parts is.asides.apart))
+          (All-take (λ (e : Event). IsLongCall run ahead (lane_of e) (count_of (lane_of e) given)) place aside is.long)
+          (subst (LongCallsBeginLater run ahead (is.past ++ more)) (ahead_of more) (is.later more)));
       first_is = by first is.first_is;
     }
       where
@@ -215,8 +215,9 @@ module _ (ahead : ℕ) (run given aside waiting : List Event) (x : Event) (first
   passed_then : passed + 1 ≡ length (is.past ++ x ∷ [])
   passed_then = ap (λ (n : ℕ). n + 1) is.passed_is ∙ sym (length_push is.past x)
 
-  later_then : (more : List Event) → BeginsLater ((is.past ++ x ∷ []) ++ more) (given ++ (aside ++ x ∷ more))
-  later_then more = subst (λ (xs : List Event). BeginsLater xs (given ++ (aside ++ x ∷ more)))
+  later_then : (more : List Event) →
+      LongCallsBeginLater run ahead ((is.past ++ x ∷ []) ++ more) (given ++ (aside ++ x ∷ more))
+  later_then more = subst (λ (xs : List Event). LongCallsBeginLater run ahead xs (given ++ (aside ++ x ∷ more)))
       (sym (append_assoc is.past (x ∷ []) more)) (is.later (x ∷ more))
 
   spared_then : All (λ (e : Event). IsSpared waiting (lane_of e)) aside
@@ -239,9 +240,11 @@ module _ (ahead : ℕ) (run given aside waiting : List Event) (x : Event) (first
       apart = is.asides.apart;
       spared = spared_then;
     };
-    later = λ more. subst (BeginsLater ((is.past ++ x ∷ []) ++ more))
+    long = longs_past run ahead given aside x x_spared is.long;
+    later = λ more. subst (LongCallsBeginLater run ahead ((is.past ++ x ∷ []) ++ more))
         (sym (append_assoc given (x ∷ []) (aside ++ more)))
-        (moves_before ((is.past ++ x ∷ []) ++ more) given aside x more is.asides.begin x_spared (later_then more));
+        (long_moves_before run ahead ((is.past ++ x ∷ []) ++ more) given aside x more is.asides.begin x_spared
+        is.asides.apart is.long (later_then more));
     first_is = by first is.first_is;
   }
     where
@@ -263,7 +266,12 @@ module _ (ahead : ℕ) (run given aside waiting : List Event) (x : Event) (first
       apart = all_pairs_push (λ (d e : Event). lane_of d ≢ lane_of e) aside x is.asides.apart x_spared;
       spared = All-push (λ (e : Event). IsSpared waiting (lane_of e)) aside x spared_then (spared_so x waiting to);
     };
-    later = λ more. subst (λ (xs : List Event). BeginsLater ((is.past ++ x ∷ []) ++ more) (given ++ xs))
+    long = All-push (λ (e : Event). IsLongCall run ahead (lane_of e) (count_of (lane_of e) given)) aside x is.long
+        (long_here run is.past waiting given aside ahead passed x (begins_so x waiting to)
+        (never_of_spared (lane_of x) ahead waiting (spared_so x waiting to)) many is.run_is is.passed_is there x_spared
+        so_far);
+    later = λ more. subst (λ (xs : List Event). LongCallsBeginLater run ahead ((is.past ++ x ∷ []) ++ more)
+        (given ++ xs))
         (sym (append_assoc aside (x ∷ []) more)) (later_then more);
     first_is = by first is.first_is;
   }
@@ -279,6 +287,11 @@ module _ (ahead : ℕ) (run given aside waiting : List Event) (x : Event) (first
       }
       opened (Returns lane reply) none there = absurd none
       opened (Withdraws lane) none there = absurd none
+
+      so_far : BeginsLater is.past (given ++ aside)
+      so_far = subst (λ (xs : List Event). BeginsLater xs (given ++ aside)) (append-nil is.past)
+          (subst (λ (xs : List Event). BeginsLater (is.past ++ []) (given ++ xs)) (append-nil aside)
+          (later_of_long run ahead (is.past ++ []) (given ++ (aside ++ [])) (is.later [])))
 
       there : drop passed run ≡ x ∷ waiting
       there = ap (λ (n : ℕ). drop n run) is.passed_is ∙ ap (drop (length is.past)) is.run_is ∙

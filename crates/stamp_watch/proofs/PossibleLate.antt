@@ -22,7 +22,7 @@ use Rattle.stamp_watch.specs.declared.possible.KeptReturn.{KeptReturn}
 use Rattle.stamp_watch.specs.inner.Possible.{IsKeptReturn, IsReturnHere}
 use Rattle.stamp_watch.specs.Run.{AreExplained}
 use Rattle.stamp_watch.specs.Verdict.{IsOpenFor}
-use Rattle.stamp_watch.proofs.HandingOn.{open_still}
+use Rattle.stamp_watch.proofs.LongCalls.{open_still}
 use Rattle.stamp_watch.proofs.TryingReplies.{run_there}
 
 -- the call that is open begins at one of the events

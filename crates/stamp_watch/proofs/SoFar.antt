@@ -1,7 +1,7 @@
 -- How far a judge has come with a run.
 use Rattle.std.proofs.Common.{ℕ, zero, suc, ◌≡◌, ◌+◌, ◌<◌, ◌≤◌, Bool, true, false, List, length, sym, ◌∙◌, subst, arith}
 use Rattle.std.proofs.Common.{[], ◌++◌, None, append-nil, ap, refl}
-use Rattle.std.specs.Prelude.{if◌then◌else◌, ◌↔◌, take}
+use Rattle.std.specs.Prelude.{if◌then◌else◌, ◌↔◌, drop, take}
 use Rattle.std.specs.Int.{bit_at}
 use Rattle.std.proofs.lemmas.Bool.{false≢true}
 use Rattle.std.proofs.lemmas.Nat.Bits.{bit_at-lt}
@@ -13,9 +13,10 @@ use Rattle.stamp_watch.specs.Course.{IsRunOn}
 use Rattle.stamp_watch.specs.Judge.{IsJudge, IsUnderWay}
 use Rattle.stamp_watch.specs.Judging.{AreBusyLanes}
 use Rattle.stamp_watch.specs.Run.{AreExplained}
-use Rattle.stamp_watch.specs.SoFar.{IsExplainedUpTo, open_below, open_calls}
+use Rattle.stamp_watch.specs.SoFar.{BeginWithOpenCall, IsExplainedUpTo, open_below, open_calls}
 use Rattle.stamp_watch.specs.inner.Lanes.{lanes_below, lanes_in}
 use Rattle.stamp_watch.proofs.GoingOn.{run_long, way_of}
+use Rattle.stamp_watch.proofs.LettingGo.{run_behind}
 use Rattle.stamp_watch.proofs.Running.{cut_run}
 
 -- the bit of a lane is whether it has an open call
@@ -62,3 +63,7 @@ module _ (limits : Bounds) (most ahead : ℕ) (run : List Event) (judge : Judge)
     near = let near : length judge.course.events.items ≤ judge.course.seen + ahead = way.near.events in
         omega (arith, long, near);
   }
+
+  pub waits_is : BeginWithOpenCall (drop (judge.course.first + judge.course.seen) run)
+  waits_is = subst BeginWithOpenCall (sym (run_behind limits run judge.course.first judge.course.seen
+      judge.course.events.items judge.course.base judge.course.watch on judge.course.seen)) way.near.waits

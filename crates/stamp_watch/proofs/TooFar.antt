@@ -18,6 +18,7 @@ use Rattle.stamp_watch.specs.Foretold.{ends_as}
 use Rattle.stamp_watch.specs.Judging.{IsFound}
 use Rattle.stamp_watch.specs.Course.{IsRunOn}
 use Rattle.stamp_watch.specs.Run.{AreExplained}
+use Rattle.stamp_watch.specs.SoFar.{BeginWithOpenCall, IsUnended}
 use Rattle.stamp_watch.specs.Verdict.{AreOfLock, IsOpenFor}
 use Rattle.stamp_watch.specs.inner.Judging.{IsEndTold}
 use Rattle.stamp_watch.specs.inner.Course.{IsUnknown}
@@ -36,6 +37,19 @@ never_up_to lane (suc k) (Returns other reply ∷ events) never = not_returning 
     (never_up_to lane k events (never_past_return never).1)
 never_up_to lane (suc k) (Withdraws other ∷ events) never = not_withdrawing other (never_past_withdrawal never).0
     (never_up_to lane k events (never_past_withdrawal never).1)
+
+unended : (e : Event) (n : ℕ) (ends : Ending) (behind : List Event) → IsUnknown e ends → IsEndTold e n behind ends →
+    IsUnended e behind
+unended (Begins lane call) n ends behind never told = ends_so lane n behind Never (sym (ap ends_as never) ∙ told)
+unended (Returns lane reply) n ends behind never told = absurd never
+unended (Withdraws lane) n ends behind never told = absurd never
+
+-- what was not seen begins with a call of which it isn't known how it ends
+pub front_waits : (events : List Event) (seen : ℕ) (e : Event) → seen < length events → e ≡ get_or events seen e →
+    (n : ℕ) (ends : Ending) → IsUnknown e ends → IsEndTold e n (drop (seen + 1) events) ends →
+    BeginWithOpenCall (drop seen events)
+front_waits events seen e less read n ends unknown told = subst BeginWithOpenCall
+    (sym (drop_read events seen e less read)) (unended e n ends (drop (seen + 1) events) unknown told)
 
 open_for : (e : Event) (n k ahead : ℕ) (ends : Ending) (run behind more : List Event) → IsUnknown e ends →
     IsEndTold e n behind ends → drop k run ≡ e ∷ behind ++ more → ahead ≤ length behind → IsOpenFor run k ahead

@@ -17,7 +17,8 @@ use Rattle.stamp_watch.specs.Issued.{LosesNothing}
 use Rattle.stamp_watch.specs.Late.{EndsBehind, OneIsUnshown, last_of}
 use Rattle.stamp_watch.specs.Verdict.{IsOpenFor}
 use Rattle.stamp_watch.specs.inner.Delay.{IsSettled}
-use Rattle.stamp_watch.proofs.HandingOn.{never_of_spared, open_still}
+use Rattle.stamp_watch.proofs.HandingOn.{never_of_spared}
+use Rattle.stamp_watch.proofs.LongCalls.{open_still}
 use Rattle.stamp_watch.proofs.StandingFor.{first_same, rest_same}
 
 -- the first event of a lane, and those before it, are the same

@@ -11,6 +11,7 @@ use Rattle.stamp_watch.specs.declared.watch.Watch.{Watch}
 use Rattle.stamp_watch.specs.Ahead.{EndsNever}
 use Rattle.stamp_watch.specs.AsObserved.{AreEnded}
 use Rattle.stamp_watch.specs.Run.{AreExplained}
+use Rattle.stamp_watch.specs.SoFar.{BeginWithOpenCall}
 use Rattle.stamp_watch.specs.Verdict.{AreOfLock, IsVerdict, NoMoreAreOfLock}
 use Rattle.stamp_watch.specs.Judging.{IsFound, IsJudging}
 
@@ -64,9 +65,10 @@ pub record IsSmall (ahead : ℕ) (course : Course) : Type 0 where
   pub seen : course.seen ≤ course.place + (ahead + 1024)
   pub events : length course.events.items ≤ course.seen + ahead + 1
 
--- one event more may come then
+-- one event more may come then, and all that can be seen so far was seen
 pub record IsNear (ahead : ℕ) (course : Course) : Type 0 where
   pub events : length course.events.items ≤ course.seen + ahead
+  pub waits : BeginWithOpenCall (drop course.seen course.events.items)
 
 -- no event of the lock comes next
 abbrev pub IsOver : List Event → List Event → Type 0

@@ -10,11 +10,11 @@ use Rattle.stamp_watch.specs.declared.event.Event.{Event}
 use Rattle.stamp_watch.specs.declared.event.Event.TheVariants.{Begins, Returns, Withdraws}
 use Rattle.stamp_watch.specs.Judge.{IsJudge}
 use Rattle.stamp_watch.specs.Issued.{LosesNothing}
-use Rattle.stamp_watch.specs.Late.{BeginsLater, EndsBehind, last_of}
+use Rattle.stamp_watch.specs.Late.{BeginsLater, EndsBehind, IsLongCall, LongCallsBeginLater, last_of}
 use Rattle.stamp_watch.specs.Possible.{KeepsBase}
 use Rattle.stamp_watch.specs.Run.{AreExplained}
 use Rattle.stamp_watch.specs.Verdict.{AreOfLock, IsOpenFor}
-use Rattle.stamp_watch.specs.Waiting.{IsCounted}
+use Rattle.stamp_watch.specs.Waiting.{IsCounted, count_of}
 
 abbrev pub IsBeginning : Event → Type 0
 IsBeginning (Begins lane call) = Unit {0}
@@ -40,13 +40,18 @@ abbrev pub IsFirstIfAny : ℕ → List Event → List Event → List Event → L
 IsFirstIfAny ahead run passed given aside None = (aside ≡ []) × (given ≡ passed)
 IsFirstIfAny ahead run passed given aside (Some first) = IsFirstLate ahead run given first
 
+-- the calls that are aside begin behind as many events of their lanes as were given, and are open for so many events
+abbrev pub AreLong : List Event → ℕ → List Event → List Event → Type 0
+AreLong run window given aside = All (λ e. IsLongCall run window (lane_of e) (count_of (lane_of e) given)) aside
+
 -- of a run a judge was given these events, and others wait; between them the calls that are aside begin
 pub record IsHandedOn (ahead : ℕ) (run given aside waiting : List Event) (first : Option ℕ) (passed : ℕ) : Type 0 where
   pub past : List Event
   pub passed_is : passed ≡ length past
   pub run_is : run ≡ past ++ waiting
   pub asides : AreAside aside waiting
-  pub later : (more : List Event) → BeginsLater (past ++ more) (given ++ (aside ++ more))
+  pub long : AreLong run ahead given aside
+  pub later : (more : List Event) → LongCallsBeginLater run ahead (past ++ more) (given ++ (aside ++ more))
   pub first_is : IsFirstIfAny ahead run past given aside first
 
 -- these events are those that were given and, in their places, those that are aside; behind each of these none is of
@@ -139,7 +144,8 @@ pub record AreNear (reach : ℕ) (given aside waiting : List Event) : Type 0 whe
   pub each : (k lane : ℕ) (call : Call) (behind : List Event) → drop k given ≡ Begins lane call ∷ behind →
       EndsNever lane behind → EndsNear reach lane behind aside waiting
 
--- So many events the judge looks at for the end of a call. Up to 64 calls may begin late among those, so 64 fewer wait.
+-- So many events the judge looks at for the end of a call. Up to 64 calls may begin late among those, so 64 fewer
+-- wait.
 abbrev pub reach_of : ℕ → ℕ
 reach_of ahead = (ahead - 64) + 64
 

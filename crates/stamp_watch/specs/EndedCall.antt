@@ -1,6 +1,6 @@
 -- The calls that end at events of a run.
-use Rattle.std.specs.Prelude.{ℕ, ◌≡◌, ◌+◌, ◌-◌, ◌==◌, List, length, take, slice_get, Option, Some, None, if◌then◌else◌, nat_le}
-use Rattle.std.specs.Prelude.{option_map, option_and_then}
+use Rattle.std.specs.Prelude.{ℕ, ◌≡◌, ◌+◌, ◌-◌, ◌==◌, List, length, take, slice_get, Option, Some, None}
+use Rattle.std.specs.Prelude.{if◌then◌else◌, nat_le, option_map, option_and_then}
 use Rattle.std.specs.List.{fold}
 use Rattle.stamp_core.specs.declared.call.Call.{Call}
 use Rattle.stamp_core.specs.declared.reply.Reply.{Reply}

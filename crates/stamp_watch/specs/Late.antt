@@ -13,6 +13,7 @@ use Rattle.stamp_watch.specs.Form.{AreInForm}
 use Rattle.stamp_watch.specs.Issued.{LosesNothing}
 use Rattle.stamp_watch.specs.Run.{AreExplained}
 use Rattle.stamp_watch.specs.Verdict.{AreOfLock, IsOpenFor, IsVerdict}
+use Rattle.stamp_watch.specs.Waiting.{count_of}
 
 -- one call begins one event later; that is of another lane
 pub record BeginsOneLater (old new : List Event) : Type 0 where
@@ -29,6 +30,19 @@ pub record BeginsOneLater (old new : List Event) : Type 0 where
 pub data BeginsLater (run : List Event) : List Event → Type 0 where
   as_it_is : BeginsLater run run
   then_later : {old new : List Event} → BeginsLater run old → BeginsOneLater old new → BeginsLater run new
+
+-- the call that begins in this lane behind so many events of the lane is open for so many events of the run
+pub record IsLongCall (run : List Event) (window lane count : ℕ) : Type 0 where
+  pub late : ℕ
+  pub open_for : IsOpenFor run late window
+  pub lane_is : open_for.lane ≡ lane
+  pub count_is : count_of lane (take late run) ≡ count
+
+-- the same events, but calls begin later that are open for so many events of the run
+pub data LongCallsBeginLater (run : List Event) (window : ℕ) (events : List Event) : List Event → Type 0 where
+  as_they_are : LongCallsBeginLater run window events events
+  one_later : {old new : List Event} → LongCallsBeginLater run window events old → (one : BeginsOneLater old new) →
+      IsLongCall run window one.lane (count_of one.lane one.past) → LongCallsBeginLater run window events new
 
 -- So what is explained then is explained as it stands, up to each of its events: a judge that lets calls begin later
 -- explains no more.
@@ -85,8 +99,9 @@ pub record OneIsUnshown (limits : Bounds) (run : List Event) (window place : ℕ
   pub is : IsUnshown limits run late window place
 
 -- The run is explained before the event. A call that begins at an event before a place is open for all but 64 of the
--- events that are looked at. The run up to that place, with calls begun later, has a verdict that rests on that call
--- and tells of the event. It was given up; or up to the event it is not shown of such a call that nothing is lost.
+-- events that are looked at. The run up to that place, with such calls begun later, has a verdict that rests on that
+-- call and tells of the event. It was given up; or up to the event it is not shown of such a call that nothing is
+-- lost.
 pub record IsLate (limits : Bounds) (run : List Event) (most ahead k : ℕ) : Type 0 where
   pub whole : AreOfLock (take k run)
   pub explained : AreExplained limits (take k run)
@@ -95,7 +110,7 @@ pub record IsLate (limits : Bounds) (run : List Event) (most ahead k : ℕ) : Ty
   pub place : ℕ
   pub before : late < place
   pub handed : List Event
-  pub later : BeginsLater (take place run) handed
+  pub later : LongCallsBeginLater run (ahead - 64) (take place run) handed
   pub verdict : Verdict
   pub has : IsVerdict limits handed most None verdict
   pub tells : TellsOf verdict k

@@ -8,7 +8,7 @@
 ghost use Rattle.std.specs.Prelude.{◌≡◌, ◌+◌, ◌*◌, ◌^◌, ◌<◌, ◌≤◌, ◌↔◌, [], ⊤, IfOk, IfSome, MatchOption, None, Some, List, ℕ, false, length};
 ghost use Rattle.stamp_core.specs.Limits.{Bounds};
 ghost use Rattle.stamp_watch.specs.declared.event.Event.{Event};
-ghost use Rattle.stamp_watch.specs.Delay.{kept_of, reach_of};
+ghost use Rattle.stamp_watch.specs.Delay.{kept_of};
 ghost use Rattle.stamp_watch.specs.EndedCall.{IsEndedAt, ended_from};
 ghost use Rattle.stamp_watch.specs.Late.{IsLateVerdict};
 ghost use Rattle.stamp_watch.specs.SoFar.{IsExplainedUpTo, open_calls};
@@ -29,9 +29,9 @@ use stamp_core::{Call, Limits, Reply};
 use std::alloc::{AllocError, Global};
 
 /// Judges a run of a lock event by event, from a new lock on. It is as `Judge`, but a call may be open for as long as
-/// it likes: where that is longer than many events, it begins later, and none is too far from its end. What is found is
-/// what a `Judge` would find, if it is shown of each such call that nothing is lost. After an `Err` it is of no more
-/// use.
+/// it likes, and is never too far from its end: where it is open for more than many events, it begins later. What is
+/// found is what a `Judge` would find, if it is shown of each such call that nothing is lost. After an `Err` it is of
+/// no more use.
 #[derive(Drop)]
 pub struct LateJudge {
     pub(crate) delay: Delay,
@@ -170,12 +170,12 @@ impl LateJudge {
     }
 
     /// So many of the events that it was given are explained, from the first on, where nothing is found of them. Of
-    /// the others there are no more than twice `ahead`, or 128 if that is more.
+    /// the others there are no more than twice `ahead`, and 64.
     pub fn explained(&self) -> u64
         requires some { IsLateJudgeOfSome self.now }
         requires none { HasFoundNothingLater self.now }
         ensures { (limits : Bounds) (most ahead : ℕ) (run : List Event)
-            → IsLateJudge limits most ahead run self.now → IsExplainedUpTo limits run (2 * reach_of ahead) result }
+            → IsLateJudge limits most ahead run self.now → IsExplainedUpTo limits run (2 * ahead + 64) result }
     {
         self.delay.judge.explained()
     }

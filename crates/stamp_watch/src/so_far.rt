@@ -1,9 +1,9 @@
 //! How far a judge has come with a run.
-ghost use Rattle.std.specs.Prelude.{◌≡◌, List, ℕ};
+ghost use Rattle.std.specs.Prelude.{◌≡◌, List, ℕ, drop};
 ghost use Rattle.stamp_core.specs.Limits.{Bounds};
 ghost use Rattle.stamp_watch.specs.declared.event.Event.{Event};
 ghost use Rattle.stamp_watch.specs.Judge.{HasFoundNothing, IsJudge, IsJudgeOfSome};
-ghost use Rattle.stamp_watch.specs.SoFar.{IsExplainedUpTo, open_calls};
+ghost use Rattle.stamp_watch.specs.SoFar.{BeginWithOpenCall, IsExplainedUpTo, open_calls};
 ghost use Rattle.stamp_watch.specs.inner.Lanes.{lanes_in};
 
 use crate::online::Judge;
@@ -25,12 +25,14 @@ pub(crate) fn lanes_in(lanes: u64) -> u64
 
 impl Judge {
     /// So many of the events that it was given are explained, from the first on, where nothing is found of them. Of
-    /// the others there are no more than it may look ahead.
+    /// the others there are no more than it may look ahead, and the first of them begins a call that has not ended.
     pub fn explained(&self) -> u64
         requires some { IsJudgeOfSome self.now }
         requires none { HasFoundNothing self.now }
-        ensures { (limits : Bounds) (most ahead : ℕ) (run : List Event)
+        ensures explained { (limits : Bounds) (most ahead : ℕ) (run : List Event)
             → IsJudge limits most ahead run self.now → IsExplainedUpTo limits run ahead result }
+        ensures waits { (limits : Bounds) (most ahead : ℕ) (run : List Event)
+            → IsJudge limits most ahead run self.now → BeginWithOpenCall (drop result run) }
     {
         self.course.first + self.course.seen as u64
     }

@@ -7,7 +7,6 @@ use Rattle.stamp_core.specs.Limits.{Bounds}
 use Rattle.stamp_watch.specs.declared.event.Event.{Event}
 use Rattle.stamp_watch.specs.declared.late.LateJudge.{LateJudge}
 use Rattle.stamp_watch.specs.LateJudge.{HasFoundNothingLater, IsLateJudge}
-use Rattle.stamp_watch.specs.Delay.{reach_of}
 use Rattle.stamp_watch.specs.SoFar.{IsExplainedUpTo, open_calls}
 use Rattle.stamp_watch.specs.Verdict.{AreOfLock}
 use Rattle.stamp_watch.proofs.JudgingLate.{late_way}
@@ -168,7 +167,7 @@ module _ (most ahead : ℕ) (fed : List ℕ) (judge : StreamJudge) (is : IsFed m
     pub so_far_is : (inner : LateJudge) → judge.judge ≡ Some inner → (so_far : SoFar) →
         so_far.calls ≡ judge.begun - judge.withdrawn →
         ((limits : Bounds) (most ahead : ℕ) (run : List Event) → IsLateJudge limits most ahead run inner →
-        IsExplainedUpTo limits run (2 * reach_of ahead) so_far.explained) →
+        IsExplainedUpTo limits run (2 * ahead + 64) so_far.explained) →
         ((limits : Bounds) (most ahead : ℕ) (run : List Event) → IsLateJudge limits most ahead run inner →
         so_far.under_way ≡ open_calls run) → IsSoFarOf ahead fed so_far
     so_far_is inner some so_far_here calls explained under_way =

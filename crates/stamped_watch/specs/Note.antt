@@ -6,8 +6,7 @@ use Rattle.stamp_core.specs.Texts.{call_text, reply_text}
 use Rattle.stamp_core.specs.declared.reply.Reply.{Reply}
 use Rattle.stamp_watch.specs.declared.ended_call.EndedCall.{EndedCall}
 use Rattle.stamped_watch.specs.declared.finding.Finding.{Finding}
-use Rattle.stamped_watch.specs.declared.finding.Finding.TheVariants.{Stuck, StuckWithin, Undecided, Late}
-use Rattle.stamp_watch.specs.declared.verdict.Why.TheVariants.{TooFar}
+use Rattle.stamped_watch.specs.declared.finding.Finding.TheVariants.{Stuck, StuckWithin, Late}
 use Rattle.stamped_watch.specs.declared.orders.Watching.{Watching}
 use Rattle.stamp_watch.specs.EndedCall.{ended_at}
 use Rattle.stamp_watch.specs.Verdict.{IsOpenFor}
@@ -35,10 +34,6 @@ stuck_text k ended replies = ended_text k ended ++ possible_text replies
 abbrev pub within_text : List ℕ
 within_text = codes "stamped_watch: no order explains the run; from which event on is undecided"
 
-abbrev pub ahead_text : ℕ → ℕ → List ℕ
-ahead_text k ahead = codes "stamped_watch: the call of event " ++ (decimal k ++
-    (codes " is open for more than " ++ (decimal ahead ++ codes " events")))
-
 abbrev pub late_text : ℕ → List ℕ
 late_text ahead = codes "stamped_watch: a call was open for nearly " ++ (decimal ahead ++
     codes " events; a larger --ahead may tell more")
@@ -47,7 +42,6 @@ late_text ahead = codes "stamped_watch: a call was open for nearly " ++ (decimal
 abbrev pub note_text : Watching → Finding → Option EndedCall → Option (List Reply) → Option (List ℕ)
 note_text asked (Stuck k) (Some ended) replies = Some (stuck_text k ended replies)
 note_text asked (StuckWithin k m) ended replies = Some within_text
-note_text asked (Undecided k TooFar) ended replies = Some (ahead_text k asked.ahead)
 note_text asked (Late k) ended replies = Some (late_text asked.ahead)
 note_text asked finding ended replies = None
 

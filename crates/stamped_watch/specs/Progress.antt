@@ -10,7 +10,6 @@ use Rattle.stamp_cli.specs.TakesNone.{takes_none}
 use Rattle.stamp_cli.specs.declared.faults.ServeFault.{ServeFault}
 use Rattle.stamp_core.specs.Limits.{Bounds}
 use Rattle.stamp_watch.specs.declared.event.Event.{Event}
-use Rattle.stamp_watch.specs.Delay.{reach_of}
 use Rattle.stamp_watch.specs.SoFar.{IsExplainedUpTo, open_calls}
 use Rattle.stamped_watch.specs.declared.finding.Finding.{Finding}
 use Rattle.stamped_watch.specs.declared.orders.Watching.{Watching}
@@ -35,7 +34,7 @@ pub record IsSoFarOf (ahead : ℕ) (bytes : List ℕ) (so_far : SoFar) : Type 0 
   pub stream : IsStream bytes limits events rest
   pub short : length rest < 16
   pub calls_are : so_far.calls ≡ calls_in events
-  pub explained_is : IsExplainedUpTo limits events (2 * reach_of ahead) so_far.explained
+  pub explained_is : IsExplainedUpTo limits events (2 * ahead + 64) so_far.explained
   pub under_way_are : so_far.under_way ≡ open_calls events
 
 -- the line of that

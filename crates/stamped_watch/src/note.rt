@@ -2,14 +2,14 @@
 //! were possible; and else why it is not judged further.
 
 ghost use Rattle.std.specs.Prelude.{◌≡◌, IfOk, Some, string_bytes};
-ghost use Rattle.stamped_watch.specs.Note.{IsNote, ahead_text, end_text, ended_text, late_text, note_text, stuck_text, text_in, within_text};
+ghost use Rattle.stamped_watch.specs.Note.{IsNote, end_text, ended_text, late_text, note_text, stuck_text, text_in, within_text};
 ghost use Rattle.stamped_watch.specs.Possible.{items_in};
 
 use crate::finding::Finding;
 use crate::orders::Watching;
 use crate::possible::possible_text;
 use stamp_core::Reply;
-use stamp_watch::{EndedCall, Why};
+use stamp_watch::EndedCall;
 use std::alloc::{AllocError, Global};
 use std::fmt;
 
@@ -64,15 +64,6 @@ fn within_text(alloc: Global) -> Result<String, AllocError>
     )
 }
 
-/// That the call which begins at the event is open for too long.
-fn ahead_text(alloc: Global, event: u64, ahead: usize) -> Result<String, AllocError>
-    ensures { IfOk result (λ text. string_bytes text ≡ ahead_text event ahead) }
-{
-    format!(in alloc;
-        "stamped_watch: the call of event {event} is open for more than {ahead} events"
-    )
-}
-
 /// That a call was open for long, which began late.
 fn late_text(alloc: Global, ahead: usize) -> Result<String, AllocError>
     ensures { IfOk result (λ text. string_bytes text ≡ late_text ahead) }
@@ -98,9 +89,6 @@ fn note_of(
             Ok(Some(stuck_text(alloc, *event, ended, replies)?))
         }
         (Finding::StuckWithin(_, _), _) => Ok(Some(within_text(alloc)?)),
-        (Finding::Undecided(event, Why::TooFar), _) => {
-            Ok(Some(ahead_text(alloc, *event, asked.ahead)?))
-        }
         (Finding::Late(_), _) => Ok(Some(late_text(alloc, asked.ahead)?)),
         _ => Ok(None),
     }

@@ -1,4 +1,6 @@
-use Rattle.std.proofs.Common.{arith, refl}
+use Rattle.std.proofs.Common.{arith, refl, subst, sym}
+use Rattle.std.proofs.lemmas.List.{drop_all}
+use Rattle.stamp_watch.specs.SoFar.{BeginWithOpenCall}
 use Rattle.stamp_watch.specs.inner.Course.{IsSameRun}
 use Rattle.stamp_watch.proofs.SameRuns.{same_run_on, on_course_still, room_still}
 use Rattle.stamp_watch.proofs.Kept.{kept_of}
@@ -77,7 +79,11 @@ returns-in-Finds-clause-small c small = c.in_ok-onward.ensures.small
 pub returns-clause-found : goal.returns-clause-found
 returns-clause-found c = record {
   same = c.unseen.invariant.same;
-  near = record { events = omega (arith, c.unseen-test.false, c.len.ensures, c.unseen.self.events.ok.0) };
+  near = record {
+    events = omega (arith, c.unseen-test.false, c.len.ensures, c.unseen.self.events.ok.0);
+    waits = subst BeginWithOpenCall (sym (drop_all c.unseen.self.seen c.unseen.self.events.items
+        (omega (arith, c.unseen-test.false, c.len.ensures, c.unseen.self.events.ok.0)))) tt;
+  };
 }
 
 pub returns-in-Waits-clause-kept : goal.returns-in-Waits-clause-kept

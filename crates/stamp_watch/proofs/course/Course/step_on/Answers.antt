@@ -3,7 +3,7 @@ use Rattle.std.specs.Prelude.{drop}
 use Rattle.std.proofs.lemmas.Result.{IfOk-weaker}
 use Rattle.stamp_watch.specs.declared.event.Event.{Event}
 use Rattle.stamp_watch.proofs.Looking.{looked_all}
-use Rattle.stamp_watch.proofs.TooFar.{run_too_far}
+use Rattle.stamp_watch.proofs.TooFar.{front_waits, run_too_far}
 use Rattle.stamp_watch.proofs.Kept.{kept_of, kept_same}
 use Rattle.stamp_watch.proofs.course.Course.step_on.Goals as goal
 
@@ -50,7 +50,14 @@ returns-then-self-ahead-clause-onward c = record {
       spare_is = is.spare_is;
     };
   };
-  near = record { events = omega (arith, c.len.ensures, c.args.self.now.events.ok.0, c.if-self-ahead.true) };
+  near = record {
+    events = omega (arith, c.len.ensures, c.args.self.now.events.ok.0, c.if-self-ahead.true);
+    waits = front_waits c.args.self.now.events.items c.args.self.now.seen c.index-events-self.result c.requires.more
+        (subst (λ (xs : List Event). c.index-events-self.result ≡
+        get_or xs c.args.self.now.seen c.index-events-self.result) c.as_slice-events.ensures.value
+        c.index-events-self.is) (c.args.self.now.first + c.args.self.now.seen + 1) c.end_at_front-ends.result
+        (c.is_known.ensures.unknown c.if-is_known.false) c.end_at_front-ends.ensures.told;
+  };
 }
 
 pub returns-then-self-ahead-clause-small : goal.returns-then-self-ahead-clause-small

@@ -16,8 +16,8 @@ give-requires-clause-room c =
     let long : length c.as_slice.result.now ≡ length c.args.self.now.aside.items =
     ap (λ (xs : List Event). length xs) c.as_slice.ensures.value in
     let room : c.args.self.now.passed + length c.args.self.now.waiting.events.items < 2 ^ 64 = c.requires.room in
-    room_of some.limits some.most (reach_of some.ahead) some.delayed.given c.args.self.now.judge (length c.as_slice.result.now)
-    some.delayed.judge_of (omega (arith, all, long, room))
+    room_of some.limits some.most (reach_of some.ahead) some.delayed.given c.args.self.now.judge
+    (length c.as_slice.result.now) some.delayed.judge_of (omega (arith, all, long, room))
 
 pub give-requires-2-clause-room : goal.give-requires-2-clause-room
 give-requires-2-clause-room c =
@@ -61,7 +61,8 @@ give-requires-3-clause-room c =
     length-append c.as_slices.result.0.now c.as_slices.result.1.now in
     room_of some.limits some.most (reach_of some.ahead) ((some.delayed.given ++ c.as_slice.result.now) ++
     c.as_slices.result.0.now) c.give-2.new.judge (length c.as_slices.result.1.now)
-    (c.in_ok-give-2.ensures.given some.limits some.most (reach_of some.ahead) (some.delayed.given ++ c.as_slice.result.now)
+    (c.in_ok-give-2.ensures.given some.limits some.most (reach_of some.ahead)
+    (some.delayed.given ++ c.as_slice.result.now)
     (c.in_ok-give.ensures.given some.limits some.most (reach_of some.ahead) some.delayed.given some.delayed.judge_of))
     (omega (arith, all, long, room, given, then_given, parts, sum))
 

@@ -19,4 +19,6 @@ explained-requires-clause-none c = let some = c.requires.some in
 pub returns : goal.returns
 returns c limits most ahead run is = late_explained_is limits most ahead run c.args.self.now is c.requires.none
     c.explained.result (let here = way limits most ahead run c.args.self.now is c.requires.none in
-    c.explained.ensures limits most (reach_of ahead) here.delayed.given here.delayed.judge_of)
+    c.explained.ensures.explained limits most (reach_of ahead) here.delayed.given here.delayed.judge_of)
+    (let here = way limits most ahead run c.args.self.now is c.requires.none in
+    c.explained.ensures.waits limits most (reach_of ahead) here.delayed.given here.delayed.judge_of)
