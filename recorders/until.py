@@ -27,8 +27,12 @@ def until(entries, awaited, replies):
 def main():
     if len(sys.argv) not in (2, 3):
         sys.exit(__doc__)
-    history, awaited, replies = json.load(sys.stdin), int(sys.argv[1]), [json.loads(it) for it in sys.argv[2:]]
-    if "last" not in history["entries"][awaited]:
+    try:
+        history, awaited, replies = json.load(sys.stdin), int(sys.argv[1]), [json.loads(it) for it in sys.argv[2:]]
+        entry = history["entries"][awaited]
+    except (ValueError, LookupError, TypeError) as fault:
+        sys.exit(f"until.py: no history, no such entry, or no JSON as a reply: {fault}")
+    if "last" not in entry:
         sys.exit(f"until.py: entry {awaited} has not returned")
     entries = [*until(history["entries"], awaited, replies)]
     print(json.dumps({**history, "entries": entries}, separators=(",", ":")))
