@@ -109,7 +109,10 @@ def third_with(cause):
 OF_CAUSES_IN_ONE_ENTRY_THE_FIRST_IS_TOLD = [
     judged(f"bad 1 {causes[0]}" if causes else "ok 2", OPENING, second_with(*causes))
     for count in range(5) for causes in itertools.combinations(CAUSES, count)
-] + [judged("bad 0 interval", (0, TRY_WRITE, reply, 2, 1, 3)) for reply in ("385", '"yes"')]
+] + [
+    # The first entry may have two causes.
+    judged("bad 0 interval", (0, TRY_WRITE, reply, 2, 1, 3)) for reply in ("385", '"yes"')
+]
 
 OF_CAUSES_IN_TWO_ENTRIES_THE_EARLIER_IS_TOLD = [
     judged(f"bad 1 {earlier}", OPENING, second_with(earlier), third_with(later))

@@ -77,6 +77,7 @@ CALLS_THAT_FINISHED = [
     ("run", '{"readers":1,"steps":[0,0],"threads":[[["validate",256]]],"versions":1,"width":0}',
      '{"entries":[{"call":["validate",256],"first":0,"last":0,"point":0,"reply":"yes","thread":0}],'
      '"format":1,"readers":1,"versions":1,"width":0}'),
+    # Where nothing finished there is no report.
     *((words, '{"readers":2,"steps":[],"threads":[],"versions":3,"width":16}',
        '{"entries":[],"format":1,"readers":2,"versions":3,"width":16}') for words in ("run", "run --report")),
 ]
