@@ -52,6 +52,57 @@ ANSWERS = [
     ("no input", "", None, "", "no input", 1),
     ("a blank", " ", None, "", "not json", 1),
 ]
+
+
+def second(entry):
+    """A history of width 2 whose entry 1 is this one, with what is none behind it."""
+    return ('{"entries":[{"call":["get"],"first":0,"thread":0},' + entry
+            + ',0],"format":1,"readers":1,"versions":0,"width":2}')
+
+
+# What is refused, most with two faults, of which the first in the order of the fields is told.
+REFUSED = [
+    ("not a history: top", "[]",
+     '{"entries":[],"format":1,"readers":1,"report":[],"versions":1,"width":0}',
+     '{"entries":[],"format":2,"layout":2,"readers":1,"report":[],"versions":1,"width":0}',
+     '{"entries":[],"format":7,"readers":1,"versions":1}'),
+    ("not a history: format",
+     '{"entries":5,"format":2,"readers":0,"versions":1,"width":0}',
+     '{"entries":5,"format":1,"layout":2,"readers":0,"versions":1,"width":0}'),
+    ("not a history: layout", '{"entries":5,"format":2,"layout":3,"readers":0,"versions":1,"width":0}'),
+    ("not a history: readers", '{"entries":5,"format":1,"readers":"1","versions":-1,"width":0}'),
+    ("over a limit: readers", '{"entries":5,"format":1,"readers":128,"versions":-1,"width":0}'),
+    ("not a history: versions", '{"entries":5,"format":1,"readers":127,"versions":-1,"width":17}'),
+    ("over a limit: versions",
+     '{"entries":5,"format":2,"layout":2,"readers":65535,"versions":70368744177663,"width":17}'),
+    ("not a history: width", '{"entries":5,"format":1,"readers":1,"versions":0,"width":[]}'),
+    ("over a limit: width", '{"entries":5,"format":1,"readers":1,"versions":0,"width":17}'),
+    ("not a history: entries", '{"entries":{},"format":1,"readers":1,"versions":0,"width":16}'),
+    ("not a history: entry 0", '{"entries":[0],"format":1,"readers":1,"versions":0,"width":16}'),
+    ("not a history: entry 1", *map(second, (
+        "[]", '{"call":["get"],"first":0}', '{"call":["get"],"first":0,"last":0,"thread":0}',
+        '{"call":["get"],"first":0,"reply":0,"thread":0}',
+        '{"call":["get"],"first":0,"last":0,"point":0,"reply":0,"thread":0}',
+        '{"call":["get"],"first":0,"last":0,"more":0,"thread":0}',
+        '{"call":["get"],"first":0,"last":0,"reply":null,"thread":64}',
+        '{"call":["put",[0]],"first":0,"thread":64}', '{"call":["unlock",[0,0]],"first":0,"thread":0}'))),
+    ("over a limit: entry 1", *map(second, (
+        '{"call":["get"],"first":0,"thread":64}', '{"call":["get"],"first":288230376151711744,"thread":63}',
+        '{"call":["get"],"first":288230376151711744,"last":0,"reply":0,"thread":0}',
+        '{"call":["get"],"first":0,"last":288230376151711744,"reply":0,"thread":0}'))),
+]
+LAST = 288_230_376_151_711_743
+# Of each call its thread, its first position, and its last, unless it is under way: the first that can't have been seen
+# is named. Of the others those that returned explain the history.
+SEEN_CALLS = [
+    ("ok 0",), ("ok 1", (0, 0, 0)), ("bad 0 interval", (0, 1, 0)), ("bad 1 overlap", (0, 0, 3), (0, 3, 5)),
+    ("ok 2", (0, 0, 3), (0, 4, 5)), ("ok 2", (0, 0, 3), (1, 2, 5)), ("ok 2", (0, 4, 5), (0, 0, 3)),
+    ("bad 1 overlap", (0, 4, 5), (0, 0, 4)), ("ok 1", (0, 4, None), (0, 0, 3)),
+    ("bad 1 overlap", (0, 4, None), (0, LAST, LAST)), ("bad 1 overlap", (0, 4, None), (0, 7, None)),
+    ("bad 1 interval", (0, 0, 9), (0, 5, 4)), ("bad 1 overlap", (0, 0, 9), (0, 5, 6), (1, 3, 2)),
+    ("bad 1 interval", (0, 0, 9), (1, 3, 2), (0, 5, 6)),
+    ("bad 3 overlap", (0, 0, 1), (0, 9, 9), (1, 0, None), (0, 5, 9), (1, 1, None)),
+]
 # What the calls of a history tried, and its number of calls.
 TOLD = [
     (SEEN, 3, "3 of 3 calls overlapped another; failed: attempts 1, validations 0, conversions 0"),
@@ -121,6 +172,26 @@ def try_answers(program):
     print(f"answers: {2 * len(ANSWERS)} as they are to be")
 
 
+def try_refused(program):
+    for said, *texts in REFUSED:
+        for text in texts:
+            expect(program, [], text, "", said, 1)
+    print(f"refused texts: {sum(len(texts) for _, *texts in REFUSED)} as they are to be")
+
+
+def text_of(calls):
+    entries = ",".join(
+        f'{{"call":["optimistic"],"first":{first},"thread":{thread}'
+        + ("}" if last is None else f',"last":{last},"reply":256}}') for thread, first, last in calls)
+    return f'{{"format":1,"readers":1,"versions":1,"width":0,"entries":[{entries}]}}'
+
+
+def try_seen(program):
+    for line, *calls in SEEN_CALLS:
+        expect(program, ["--judge"], text_of(calls), line, "", 0 if line.startswith("ok ") else 1)
+    print(f"calls that were seen, or can't have been: {len(SEEN_CALLS)} as they are to be")
+
+
 def try_told(program):
     """What the calls tried is told beside a history that is explained, and of a stuck one what was possible."""
     for text, count, tried in TOLD:
@@ -168,6 +239,8 @@ def try_forms(program):
 def main():
     program = sys.argv[1]
     try_answers(program)
+    try_refused(program)
+    try_seen(program)
     try_told(program)
     try_small(program)
     try_forms(program)

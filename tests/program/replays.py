@@ -29,6 +29,8 @@ CALLS_FROM_THE_OPENING = [
     replay(
         '["try_read"],["read_count"],["is_read_locked"],["try_unlock_read"],["try_unlock_read"],["is_write_locked"]',
         '{"replies":[257,{"count":1},"yes","yes","no","no"],"word":256}'),
+    replay('["try_read"],["read_count"],["to_write",257]', '{"replies":[257,{"count":1},384],"word":384}',
+           '"readers":1,"versions":1'),
 ]
 
 CONVERSIONS_IN_ONE_STEP = [
@@ -85,9 +87,15 @@ LIMITS_END_VERSIONS_AND_READERS = [
 
 A_CALL_THAT_WAITS_IS_NAMED = [
     replay('["try_read"],["write_lock"]', "stamped: call 1 waits"),
+    replay('["try_read"],["write_lock"]', "stamped: call 1 waits", '"readers":1,"versions":1'),
     replay('["read_lock"],["read_lock"]', "stamped: call 1 waits", '"readers":1,"versions":1000'),
     replay('["try_write"],["validate",384],["read_lock"],["write_lock"]', "stamped: call 2 waits"),
-    replay('["try_read"],["write_lock"],["get"]', "stamped: not a script: call 2"),
+    replay(",".join(['["try_read"]'] * 12 + ['["write_lock"]']), "stamped: call 12 waits"),
+]
+
+A_TEXT_IS_REFUSED_BEFORE_A_CALL_OF_IT_WAITS = [
+    replay('["try_read"],["write_lock"],["get"]', "stamped: not a script: call 2", limits)
+    for limits in (PLAIN, '"readers":1,"versions":1')
 ]
 
 LAYOUT_TWO_HAS_WIDER_NUMBERS = [
@@ -96,6 +104,8 @@ LAYOUT_TWO_HAS_WIDER_NUMBERS = [
         '["validate",196608],["try_write"],["validate",196608]',
         '{"replies":[131072,196608,0,"no","done","yes",327680,"no"],"word":327680}', WIDE),
     replay('["try_write"],["to_read",196608]', '{"replies":[196608,262145],"word":262145}', WIDE),
+    replay('["unlock",0],["try_write"]', '{"replies":["mismatch",196608],"word":196608}',
+           '"layout":2,"readers":1,"versions":1'),
 ]
 
 NO_JSON = [
@@ -148,5 +158,5 @@ NO_CALLS_OF_THE_LOCK = [
 
 REPLAYS = (
     CALLS_FROM_THE_OPENING + CONVERSIONS_IN_ONE_STEP + STAMPS_THAT_DO_NOT_MATCH_CHANGE_NOTHING
-    + LIMITS_END_VERSIONS_AND_READERS + A_CALL_THAT_WAITS_IS_NAMED + LAYOUT_TWO_HAS_WIDER_NUMBERS + NO_JSON
-    + OTHER_KEYS + THE_FIRST_FAULT_OF_THE_FIELDS + NO_CALLS_OF_THE_LOCK)
+    + LIMITS_END_VERSIONS_AND_READERS + A_CALL_THAT_WAITS_IS_NAMED + A_TEXT_IS_REFUSED_BEFORE_A_CALL_OF_IT_WAITS
+    + LAYOUT_TWO_HAS_WIDER_NUMBERS + NO_JSON + OTHER_KEYS + THE_FIRST_FAULT_OF_THE_FIELDS + NO_CALLS_OF_THE_LOCK)

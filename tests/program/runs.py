@@ -32,6 +32,15 @@ def no_call(call):
     return refused(text, "not a script: call 1 1")
 
 
+def limited(text, count, end):
+    """A script of empty threads, this many, and how what it is run to ends: each thread may step, and no more do."""
+    def stepped(threads):
+        return text.replace('"steps":[', '"steps":[' + ",".join(str(thread) for thread in range(threads)))
+
+    kept = [("run", it, f'{{"entries":[],{end}}}') for it in dict.fromkeys((text, stepped(count)))]
+    return [*kept, ("run", stepped(count + 1), f"stamped: script refused: no thread at step {count}")]
+
+
 def fields(line, *texts):
     return [row for text in texts for row in refused(text, line)]
 
@@ -45,6 +54,12 @@ LOST_IN_TWO = [
 READERS = ('[["try_read"]],[["try_read"],["try_read"]]', "0,1,1,0,1,1,0,0", 0)
 READERS_ENTRIES = [
     (1, '["try_read"]', "257", 1, 2), (1, '["try_read"]', "258", 4, 5), (0, '["try_read"]', "259", 0, 7)]
+# A lost exchange, and a get between two of a put's stores.
+PUT_BESIDE_GET = (
+    '[["try_write"],["get"]],[["try_write"],["unlock_write",[1,0]],["put",[7]]]',
+    "0,1,1,1,1,0,0,1,1,0,1,0,1,0,0,0,0,0,0,0", 1)
+PUT_BESIDE_GET_ENTRIES = [
+    *LOST_ENTRIES, (1, '["put",[7]]', '"done"', 7, 12), (0, '["get"]', "[7]", 9, 17)]
 CONDITIONAL = ('[["put_if",[0],[5]]],[["put_if",[0],[6]]]', "0,0,1,1,0,1,0,0,0,0,1,1,1,1,0,0,0,0", 1)
 CONDITIONAL_ENTRIES = [
     (1, '["put_if",[0],[6]]', '"yes"', 2, 13), (0, '["put_if",[0],[5]]', '"no"', 0, 17)]
@@ -59,6 +74,30 @@ CALLS_THAT_FINISHED = [
     ("run", '{"layout":2,"readers":5,"steps":[0],"threads":[[["try_write"]]],"versions":1,"width":2}',
      '{"entries":[],"format":2,"layout":2,"readers":5,"versions":1,"width":2}'),
     run('[["validate",256]]', "0,0", 0, (0, '["validate",256]', '"yes"', 0, 0)),
+    ("run", '{"readers":1,"steps":[0,0],"threads":[[["validate",256]]],"versions":1,"width":0}',
+     '{"entries":[{"call":["validate",256],"first":0,"last":0,"point":0,"reply":"yes","thread":0}],'
+     '"format":1,"readers":1,"versions":1,"width":0}'),
+    # Where nothing finished there is no report.
+    *((words, '{"readers":2,"steps":[],"threads":[],"versions":3,"width":16}',
+       '{"entries":[],"format":1,"readers":2,"versions":3,"width":16}') for words in ("run", "run --report")),
+]
+
+# Of a key that stands twice the last counts.
+LIMITS_AND_WIDTH_ARE_READ = [
+    row for text, count, end in (
+        ('{"readers":127,"steps":[],"threads":[],"versions":1000,"width":0}', 0,
+         '"format":1,"readers":127,"versions":1000,"width":0'),
+        ('{"width":16,"versions":36028797018963966,"threads":[[],[]],"steps":[],"readers":1}', 2,
+         '"format":1,"readers":1,"versions":36028797018963966,"width":16'),
+        (' {"readers" : 2,\n"versions":\t0, "width":1, "steps":[ ],"threads":[[ ]] }\r\n', 1,
+         '"format":1,"readers":2,"versions":0,"width":1'),
+        ('{"layout":1,"readers":127,"steps":[],"threads":[],"versions":5,"width":2}', 0,
+         '"format":1,"readers":127,"versions":5,"width":2'),
+        ('{"layout":2,"readers":65535,"steps":[],"threads":[],\n"versions":70368744177662,"width":2}', 0,
+         '"format":2,"layout":2,"readers":65535,"versions":70368744177662,"width":2'),
+        ('{"width":"0","readers":5,"steps":[],"threads":[],"versions":1,"width":3}', 0,
+         '"format":1,"readers":5,"versions":1,"width":3'))
+    for row in limited(text, count, end)
 ]
 
 STEPS_OF_THREADS_BETWEEN_ONE_ANOTHER = [
@@ -92,6 +131,7 @@ STEPS_OF_THREADS_BETWEEN_ONE_ANOTHER = [
     run('[["write_lock"]],[["try_write"]]', "1,1," + ",".join("0" * 1000), 0, (1, '["try_write"]', "384", 0, 1)),
     run(*READERS, *READERS_ENTRIES),
     run(*CONDITIONAL, *CONDITIONAL_ENTRIES),
+    run(*PUT_BESIDE_GET, *PUT_BESIDE_GET_ENTRIES),
 ]
 
 OWN_STEPS_AND_WHAT_OTHERS_CHANGED = [
@@ -99,6 +139,7 @@ OWN_STEPS_AND_WHAT_OTHERS_CHANGED = [
            (0, '["try_write"]', "384", 0, 2), (1, '["try_write"]', "0", 1, 3)),
     report(*READERS, '"report":[[2,0],[2,0],[4,2]]', *READERS_ENTRIES),
     report(*CONDITIONAL, '"report":[[7,0],[11,0]]', *CONDITIONAL_ENTRIES),
+    report(*PUT_BESIDE_GET, '"report":[[2,0],[2,0],[3,2],[4,0],[7,0]]', *PUT_BESIDE_GET_ENTRIES),
     report('[["put_if",[0],[5]]]', ",".join("0" * 7), 1, '"report":[[7,0]]',
            (0, '["put_if",[0],[5]]', '"yes"', 0, 6)),
     report('[["try_write"]]', "", 0, ""),
@@ -167,6 +208,8 @@ THE_FIRST_FAULT_OF_THE_FIELDS = (
         '{"readers":1,"steps":[],"threads":["try_write"],"versions":1,"width":99}')
     + fields("not a script: call 0 1",
              '{"readers":1,"steps":[-1],"threads":[[["get"],0],[1]],"versions":1,"width":0}')
+    + fields("not a script: call 3 17",
+             '{"readers":1,"steps":[],"threads":[[],[],[],[' + '["get"],' * 17 + '0]],"versions":1,"width":1}')
     + fields("not a script: call 1 1", '{"readers":1,"steps":[],"threads":[[],[["get"],["put",[]]]],'
              '"versions":1,"width":1}')
     + fields(
@@ -190,8 +233,9 @@ NO_CALLS = [
 ]
 
 RUNS = (
-    CALLS_THAT_FINISHED + STEPS_OF_THREADS_BETWEEN_ONE_ANOTHER + OWN_STEPS_AND_WHAT_OTHERS_CHANGED
-    + PARTS_THAT_DO_NOT_SUIT + AS_MUCH_AS_THERE_MAY_BE + THE_FIRST_FAULT_OF_THE_FIELDS + NO_CALLS)
+    CALLS_THAT_FINISHED + LIMITS_AND_WIDTH_ARE_READ + STEPS_OF_THREADS_BETWEEN_ONE_ANOTHER
+    + OWN_STEPS_AND_WHAT_OTHERS_CHANGED + PARTS_THAT_DO_NOT_SUIT + AS_MUCH_AS_THERE_MAY_BE
+    + THE_FIRST_FAULT_OF_THE_FIELDS + NO_CALLS)
 
 CALLS = (
     '["try_write"]', '["try_read"]', '["write_lock"]', '["read_lock"]', '["optimistic"]', '["validate",0]',

@@ -19,6 +19,19 @@ from stamps import STAMPS, UNREAD, WORDS
 MOST_BYTES = 16_777_216
 TOO_LONG = "stamped: input over 16777216 bytes"
 EMPTY = b'{"entries":[],"format":1,"readers":127,"versions":1000,"width":0}'
+# A script, what it is run to, that with its report and in layout 2, and a history that is bad.
+SCRIPT = '{"readers":1,"steps":[0,0],"threads":[[["try_read"]]],"versions":1,"width":0}'
+FOUND = ('{"entries":[{"call":["try_read"],"first":0,"last":1,"point":1,"reply":257,"thread":0}],'
+         '"format":1,"readers":1,"versions":1,"width":0}')
+REPORTED = FOUND.replace('"versions"', '"report":[[2,0]],"versions"')
+WIDE = FOUND.replace("257", "131073").replace('"format":1', '"format":2,"layout":2')
+WRONG = FOUND.replace("257", "258")
+EACH_ORDER_IS_ANSWERED = [
+    ("replay", '{"calls":[["try_read"]],"readers":1,"versions":1}', '{"replies":[257],"word":257}'),
+    ("run", SCRIPT, FOUND), ("run --report", SCRIPT, REPORTED), ("check", FOUND, "ok 1"),
+    ("check", WRONG, "bad 0 reply"), ("migrate", FOUND, WIDE), ("stamp 384", "", "write 1"),
+    ("stamp --layout 2 384", "", "none"), ("check", SCRIPT, "stamped: not a history: top"),
+]
 # What is told on standard error alone, and with which status.
 UNTOLD = [([], b"", 2), (["check", "check"], b"", 2), (["check"], b"[", 1), (["replay"], b"", 1)]
 
@@ -45,7 +58,8 @@ def expect(program, words, text, wanted, **source):
 
 
 def try_tables(program):
-    tables = {"replays": REPLAYS, "runs": RUNS, "histories": HISTORIES, "stamps": STAMPS, "command lines": WORDS}
+    tables = {"orders": EACH_ORDER_IS_ANSWERED, "replays": REPLAYS, "runs": RUNS, "histories": HISTORIES,
+              "stamps": STAMPS, "command lines": WORDS}
     for name, table in tables.items():
         for words, text, wanted in table:
             expect(program, words.split(" ") if isinstance(words, str) else words, text, wanted)

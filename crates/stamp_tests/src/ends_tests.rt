@@ -1,11 +1,16 @@
 //! What a `ReadSource` does with its reader and a `WriteSink` with its writer: one call for each of theirs.
 
-use crate::serve_tests::{Full, INPUT, LINE, Narrow};
 use stamp_cli::{Order, ReadSource, ServeFault, Sink, Source, Verdict, WriteSink, serve};
 use stamp_history::ReadError;
 use std::cell::Cell;
 use std::io;
 use std::io::{Read, Write};
+
+/// Observing 256 and validating it, and what that is answered.
+const INPUT: &[u8] =
+    br#"{"calls":[["optimistic"],["validate",256]],"readers":127,"versions":1000}"#;
+
+const LINE: &[u8] = b"{\"replies\":[256,\"yes\"],\"word\":256}\n";
 
 /// What a read gives, or that it fails.
 #[derive(Clone, Copy)]
@@ -167,10 +172,11 @@ fn a_source_is_served_again(rt: HostRuntime) {
         (Order::Replay, Ok(Verdict::Accepted), LINE, 7),
     ];
     for (order, want, line, reads) in table {
-        let mut sink = WriteSink::new(Narrow::new(64, Full::Fails));
+        let taken: Vec<u8> = Vec::new(rt.alloc());
+        let mut sink = WriteSink::new(taken);
         let result = serve(rt.alloc(), order, &mut source, &mut sink);
         assert!(rt; result == want, "{reads}");
-        assert!(rt; sink.into_inner().is_taken(line), "{reads}");
+        assert!(rt; sink.into_inner().as_slice() == line, "{reads}");
         assert!(rt; calls.get() == reads);
     }
 }

@@ -1,44 +1,8 @@
 use stamp_core::{Call, Entry, Layout, Limits, Record, Reply, Words};
-use stamp_history::{Field, ReadError, read_history, write_history};
+use stamp_history::{read_history, write_history};
 use std::alloc::Global;
 use std::process::Abort;
 use std::test::Fail;
-
-/// The texts of `tests/program` are given to the program; here some are refused, each by its first fault.
-#[test]
-fn a_history_is_refused_by_its_first_fault(rt: HostRuntime) {
-    let table = [
-        ("{", ReadError::NotJson),
-        (
-            r#"{"entries":5,"format":7,"readers":0,"versions":-1}"#,
-            ReadError::NotHistory(Field::Top),
-        ),
-        (
-            r#"{"entries":5,"format":1,"readers":1,"versions":0,"width":17}"#,
-            ReadError::Limit(Field::Width),
-        ),
-        (
-            r#"{"entries":[[]],"format":1,"readers":1,"report":5,"versions":0,"width":2}"#,
-            ReadError::NotHistory(Field::Entry(0)),
-        ),
-    ];
-    for (text, fault) in table {
-        let found = read_history(rt.alloc(), text.as_bytes()).err();
-        assert!(rt; found == Some(fault), "{text}");
-    }
-}
-
-#[test]
-fn format_two_may_have_layout_one_and_an_empty_report(rt: HostRuntime) -> Result<(), Fail> {
-    let text = br#" {"width":3, "versions":2,"report":[],"readers":127,"layout":1,
-        "format":2,"entries":[] } "#;
-    let read = read_history(rt.alloc(), text)?;
-    assert!(rt; read.limits() == Limits::in_layout(Layout::One, 127, 2)?);
-    assert!(rt; read.width() == 3);
-    assert!(rt; read.entries().is_empty());
-    assert!(rt; read.report().is_empty());
-    Ok(())
-}
 
 fn entry(thread: u64, call: Call, reply: Reply) -> Entry {
     Entry {

@@ -141,12 +141,3 @@ fn a_record_is_written_in_its_layout_and_with_its_report(rt: HostRuntime) -> Res
     }
     Ok(())
 }
-
-#[test]
-fn a_record_of_nothing_has_no_report(rt: HostRuntime) -> Result<(), Fail> {
-    let made = record(rt.alloc(), Layout::One, 16, &[], &[])?;
-    let text = write_history(rt.alloc(), &made)?;
-    let wanted = br#"{"entries":[],"format":1,"readers":2,"versions":3,"width":16}"#;
-    assert!(rt; text.as_slice() == wanted.as_slice());
-    Ok(())
-}

@@ -1,19 +1,15 @@
 //! The tests of the libraries of calls, machines, histories and runs, and of the program's engine, in a crate of their
-//! own, since one with tests is proved twice.
+//! own, since one with tests is proved twice. What a program shows of them is tested by `tests/program`.
 #![tactic(auto)]
 
 #[cfg(test)]
 mod brute_tests;
-#[cfg(test)]
-mod check_tests;
 #[cfg(test)]
 mod core_tests;
 #[cfg(test)]
 mod ends_tests;
 #[cfg(test)]
 mod explain_tests;
-#[cfg(test)]
-mod fault_tests;
 #[cfg(test)]
 mod fixtures;
 #[cfg(test)]
@@ -30,8 +26,6 @@ mod machine_tests;
 mod migration_tests;
 #[cfg(test)]
 mod online_tests;
-#[cfg(test)]
-mod plain_check;
 #[cfg(test)]
 mod plain_lock;
 #[cfg(test)]

@@ -1,5 +1,5 @@
 use stamp_core::{Call, Layout, Replayed, Reply, Word, Words};
-use stamp_history::{AnswerError, Field, ReadError, read_replay, replay_text, write_replay};
+use stamp_history::{Field, read_replay, write_replay};
 use std::test::Fail;
 
 /// The layout, readers and versions that a text gives.
@@ -78,30 +78,6 @@ fn each_call_of_the_lock_is_read_by_its_name(rt: HostRuntime) -> Result<(), Fail
     Ok(())
 }
 
-/// The texts of `tests/program` are given to the program; here some are refused, each by its first fault.
-#[test]
-fn a_replay_is_refused_by_its_first_fault(rt: HostRuntime) {
-    let table = [
-        ("{} {}", ReadError::NotJson),
-        (
-            r#"{"calls":5,"readers":0,"version":1}"#,
-            ReadError::NotScript(Field::Top),
-        ),
-        (
-            r#"{"calls":5,"readers":0,"versions":"1"}"#,
-            ReadError::Limit(Field::Readers),
-        ),
-        (
-            r#"{"calls":[["try_write"],["get"],0],"readers":1,"versions":0}"#,
-            ReadError::NotScript(Field::Call(1)),
-        ),
-    ];
-    for (text, fault) in table {
-        let found = read_replay(rt.alloc(), text.as_bytes()).err();
-        assert!(rt; found == Some(fault), "{text}");
-    }
-}
-
 #[test]
 fn each_reply_is_written_in_its_form(rt: HostRuntime) -> Result<(), Fail> {
     let words = Words::new(&[0, u64::MAX, 7]).ok_or("no words")?;
@@ -148,48 +124,4 @@ fn a_field_has_its_text(rt: HostRuntime) -> Result<(), Fail> {
         assert!(rt; format!(in rt.alloc(); "{field}")?.as_str() == text);
     }
     Ok(())
-}
-
-#[test]
-fn a_text_is_answered_as_its_calls_are_replayed(rt: HostRuntime) -> Result<(), Fail> {
-    let table = [
-        (
-            r#"{"calls":[],"readers":127,"versions":1000}"#,
-            r#"{"replies":[],"word":256}"#,
-        ),
-        (
-            r#"{"calls":[["try_read"],["read_count"],["to_write",257]],"readers":1,"versions":1}"#,
-            r#"{"replies":[257,{"count":1},384],"word":384}"#,
-        ),
-        (
-            r#"{"calls":[["unlock",0],["try_write"]],"layout":2,"readers":1,"versions":1}"#,
-            r#"{"replies":["mismatch",196608],"word":196608}"#,
-        ),
-    ];
-    for (text, answer) in table {
-        let given = replay_text(rt.alloc(), text.as_bytes())
-            .ok()
-            .ok_or("refused")?;
-        assert!(rt; given.as_slice() == answer.as_bytes(), "{text}");
-    }
-    Ok(())
-}
-
-#[test]
-fn a_text_is_refused_before_a_call_of_it_waits(rt: HostRuntime) {
-    let table = [
-        (
-            r#"{"calls":[["try_read"],["write_lock"]],"readers":1,"versions":1}"#,
-            AnswerError::Waits(1),
-        ),
-        (
-            r#"{"calls":[["try_read"],["write_lock"],["get"]],"readers":1,"versions":1}"#,
-            AnswerError::Refused(ReadError::NotScript(Field::Call(2))),
-        ),
-        ("", AnswerError::Refused(ReadError::NotJson)),
-    ];
-    for (text, error) in table {
-        let given = replay_text(rt.alloc(), text.as_bytes()).err();
-        assert!(rt; given == Some(error), "{text}");
-    }
 }
