@@ -3,7 +3,7 @@
 use Rattle.std.proofs.Common.{◌≡◌, ◌≤◌, ◌+◌, ◌++◌, ◌∷◌, [], ℕ, List, Some, length, length-append, arith, refl, ap, ◌∙◌}
 use Rattle.std.specs.Prelude.{slice_get}
 use Rattle.std.specs.List.{All}
-use Rattle.std.proofs.lemmas.Option.{slice_get-get_or}
+use Rattle.std.proofs.lemmas.Option.{slice_get-get_or, MatchOption-at_some}
 use Rattle.std.proofs.Math.Seq.{get_or-append_seam}
 use Rattle.stamp_core.specs.Limits.{units}
 use Rattle.stamp_explain.specs.declared.observed.Observation.{Observation}
@@ -12,7 +12,8 @@ use Rattle.stamp_explain.specs.Observed.{ObservedHistory, IsObserved}
 use Rattle.stamp_observed.specs.declared.fault.Fault.{Fault}
 use Rattle.stamp_observed.specs.declared.candidate.Candidate.{Candidate}
 use Rattle.stamp_observed.specs.Small.{ArePossibleToo, IsStuckAs, renumbered_possible}
-use Rattle.stamp_observed.specs.inner.Fault.{IsFaultOf, replies_in}
+use Rattle.stamp_observed.specs.Issued.{IsStillIssued}
+use Rattle.stamp_observed.specs.inner.Fault.{IsFaultOf, IsShownBy, replies_in}
 use Rattle.stamp_observed.specs.inner.Candidate.{history_of, return_in, stand_in}
 use Rattle.stamp_observed.specs.inner.Over.{IsOverBy}
 use Rattle.stamp_observed.proofs.CutAgain.{all_over}
@@ -27,8 +28,8 @@ pub stuck_as : (h : ObservedHistory) (most : ℕ) (fault : Fault) (c : Candidate
     IsFaultOf h most fault → IsObserved small → small ≡ history_of h fault c → place ≡ length c.others.items →
     All (IsOverBy c.last) small.entries → IsStuck small place →
     ArePossibleToo small place (renumbered_possible (units h.limits) c.versions (replies_in fault.possible)) →
-    IsStuckAs h most fault.entry small
-stuck_as h most fault c small place is observed same here over stuck too = record {
+    IsShownBy (units h.limits) c.versions small.entries c.first fault → IsStuckAs h most fault.entry small
+stuck_as h most fault c small place is observed same here over stuck too shown = record {
   observed = observed;
   limits = ap (λ (g : ObservedHistory). g.limits) same;
   width = ap (λ (g : ObservedHistory). g.width) same;
@@ -46,6 +47,13 @@ stuck_as h most fault c small place is observed same here over stuck too = recor
   whole = all_over small c.last (place + 1) over length_is;
   versions = c.versions;
   renumbered = record { thread = refl; call = refl; reply = refl };
+  kept = record {
+    few = omega (arith, shown.few, is.writes);
+    answer = shown.answer;
+    issued = λ stamp taken some before. MatchOption-at_some (Unit {0})
+        (IsStillIssued (units h.limits) c.versions small.entries c.first) stamp (is.stamp stamp taken some before)
+        shown.issued;
+  };
   replies = replies_in fault.possible;
   possible = is.possible;
   too = too;

@@ -31,6 +31,8 @@ fn fault_with(ended: &Observation) -> Option<Fault>
             call: *ended,
             returned,
             possible: None,
+            stamp: None,
+            writes: 0,
         }),
     }
 }

@@ -1,0 +1,112 @@
+//! Which stamps were issued, and which stay where versions are left out.
+ghost use Rattle.std.specs.Prelude.{◌≡◌, ◌↔◌, IsTrue, Any};
+ghost use Rattle.stamp_core.specs.Layout.{units_of};
+ghost use Rattle.stamp_observed.specs.Issued.{Issues, StaysAnswered, asks_to_write, writes_by};
+ghost use Rattle.stamp_observed.specs.inner.Fault.{HasStamp, IsShownBy, IsStampShown};
+
+use crate::fault::Fault;
+use crate::renumbering::{renumbered_stamp, stamp_of};
+use stamp_core::{Call, Layout, Reply};
+use stamp_explain::Observation;
+
+/// Whether the call had returned before this position, and was answered this stamp.
+fn issues(call: &Observation, position: u64, stamp: u64) -> bool
+    ensures { IsTrue result ↔ Issues position stamp call.now }
+{
+    match &call.returned {
+        None => false,
+        Some(returned) => match returned.reply {
+            Reply::Stamp(answered) => returned.last < position && answered == stamp,
+            _ => false,
+        },
+    }
+}
+
+/// Whether one of these calls, which had returned before this position, was answered this stamp.
+fn is_issued(calls: &[Observation], position: u64, stamp: u64) -> bool
+    ensures { IsTrue result ↔ Any (Issues position stamp) calls.now }
+{
+    for call in calls {
+        if issues(call, position, stamp) {
+            return true;
+        }
+    }
+    false
+}
+
+/// The stamp that the call takes, if one of these calls, which had returned before it, was answered it. That it was
+/// answered 0 isn't asked.
+pub(crate) fn issued_stamp(calls: &[Observation], call: &Observation) -> Option<u64>
+    ensures { HasStamp calls.now call.now result }
+{
+    let stamp = stamp_of(&call.call)?;
+    if stamp != 0 && is_issued(calls, call.first, stamp) {
+        Some(stamp)
+    } else {
+        None
+    }
+}
+
+/// Whether the call acquires write mode, if anything.
+fn asks_to_write(call: &Call) -> bool
+    ensures { result ≡ asks_to_write call.now }
+{
+    matches!(call, Call::TryWrite | Call::WriteLock | Call::ToWrite(_))
+}
+
+/// How many of these calls that acquire write mode, if anything, had begun by this position.
+pub(crate) fn writes_by(calls: &[Observation], last: u64) -> u64
+    ensures { result ≡ writes_by last calls.now }
+{
+    let mut writes: u64 = 0;
+    for call in calls {
+        if call.first <= last && asks_to_write(&call.call) {
+            writes += 1;
+        }
+    }
+    writes
+}
+
+/// Whether the reply is 0 only where it was, with so many versions left out.
+fn stays_answered(layout: Layout, versions: u64, reply: &Reply) -> bool
+    ensures { IsTrue result → StaysAnswered (units_of layout) versions reply.now }
+{
+    match *reply {
+        Reply::Stamp(stamp) => stamp == 0 || renumbered_stamp(layout, versions, stamp) != 0,
+        _ => true,
+    }
+}
+
+/// Whether these calls issue the stamp, if there is one, before this position, with so many versions left out.
+fn is_stamp_shown(
+    layout: Layout,
+    versions: u64,
+    calls: &[Observation],
+    position: u64,
+    stamp: Option<u64>,
+) -> bool
+    ensures { IsTrue result → IsStampShown (units_of layout) versions calls.now position stamp }
+{
+    match stamp {
+        None => true,
+        Some(stamp) => {
+            let renumbered = renumbered_stamp(layout, versions, stamp);
+            renumbered != 0 && is_issued(calls, position, renumbered)
+        }
+    }
+}
+
+/// Whether these calls show of the fault what they have to, with so many versions left out.
+pub(crate) fn is_shown_by(
+    layout: Layout,
+    versions: u64,
+    calls: &[Observation],
+    position: u64,
+    fault: &Fault,
+) -> bool
+    ensures { IsTrue result → IsShownBy (units_of layout) versions calls.now position fault.now }
+{
+    versions <= fault.writes
+        && stays_answered(layout, versions, &fault.returned.reply)
+        && is_stamp_shown(layout, versions, calls, position, fault.stamp)
+}
