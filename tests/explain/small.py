@@ -7,8 +7,9 @@ not said) with each planted bug, and runs of `stamped run` with as many calls of
 near the end is changed. The same again where each call has a lane of its own, as calls of many short-lived threads
 have. A small history has under 60 entries and is stuck at its last one: at the same call, with the same reply and the same
 possible ones, but for the versions of stamps, of which each has as many less. Where the call takes a stamp that a call
-before it was answered, so it does in the small history; and it isn't answered 0 where it was answered a stamp. No other
-entry can be left out, and no two, so that it is still stuck so, by a stamp of the past."""
+before it was answered, so it does in the small history, one of its own thread if one of this was; and it isn't answered
+0 where it was answered a stamp. No other entry can be left out, and no two, so that it is still stuck so, by a stamp of
+the past."""
 import itertools
 import json
 import os
@@ -132,29 +133,37 @@ def version_of(call):
     return max(0, stamp // VERSION - (stamp % VERSION != VERSION // 2))
 
 
-def is_issued(entries, entry):
-    """Whether the entry takes a stamp that one of these was answered, which had returned before it."""
+def issuers(entries, entry):
+    """The threads of the calls that had returned before this one, and were answered the stamp that it takes."""
     stamp = entry["call"][1] if len(entry["call"]) > 1 else 0
-    return type(stamp) is int and stamp != 0 and any(
-        type(other.get("reply")) is int and other["reply"] == stamp and other["last"] < entry["first"]
-        for other in entries)
+    if type(stamp) is not int or stamp == 0:
+        return set()
+    return {other["thread"] for other in entries
+            if type(other.get("reply")) is int and other["reply"] == stamp and other["last"] < entry["first"]}
+
+
+def shows_issuer(entries, entry, shown, last):
+    """Whether the stamp of the last call is issued among those shown, if that of the entry is: to its own thread, if it
+    was so."""
+    known, seen = issuers(entries, entry), issuers(shown, last)
+    return last["thread"] in seen if entry["thread"] in known else bool(seen) or not known
 
 
 def must_show_stamps(run, told, small, name):
-    """The stamp that the call takes is issued in the small history, if it is in the run, and a stamp that it was answered
-    isn't 0."""
+    """The stamp that the call takes is issued in the small history, if it is in the run, and a stamp that it was
+    answered isn't 0."""
     entries, small_entries = json.loads(run)["entries"], json.loads(small)["entries"]
     stuck, last = entries[int(re.search(r"entry (\d+)", told)[1])], small_entries[-1]
-    if is_issued(entries, stuck) and not is_issued(small_entries, last):
+    if not shows_issuer(entries, stuck, small_entries, last):
         sys.exit(f"{name}: the call that issued the stamp of {stuck['call']} is left out: {small[:2000]}")
     if last["reply"] == 0 and stuck["reply"] != 0:
         sys.exit(f"{name}: the answer {stuck['reply']} is left out: {small[:2000]}")
 
 
 def is_still_stuck(explain, history, left_out, told):
-    """Whether the last entry is stuck as before without these, by a stamp of no later version that is issued as before."""
+    """Whether the last entry is stuck as before without these, by a stamp of no later version, issued as before."""
     entries = [entry for place, entry in enumerate(history["entries"]) if place not in left_out]
-    if is_issued(history["entries"], entries[-1]) and not is_issued(entries, entries[-1]):
+    if not shows_issuer(history["entries"], entries[-1], entries, entries[-1]):
         return False
     wanted = min(version_of(entries[-1]["call"]), last_version(history["entries"][:-1]))
     if last_version(entries[:-1]) < wanted:

@@ -1,7 +1,8 @@
 -- A candidate whose history is stuck at its last call, where it ends, with the same possible replies, is stuck as the
 -- run is.
 use Rattle.std.proofs.Common.{◌≡◌, ◌≤◌, ◌+◌, ◌++◌, ◌∷◌, [], ℕ, List, Some, length, length-append, arith, refl, ap, ◌∙◌}
-use Rattle.std.specs.Prelude.{slice_get}
+use Rattle.std.proofs.Common.{Option, subst}
+use Rattle.std.specs.Prelude.{slice_get, Any}
 use Rattle.std.specs.List.{All}
 use Rattle.std.proofs.lemmas.Option.{slice_get-get_or, MatchOption-at_some}
 use Rattle.std.proofs.Math.Seq.{get_or-append_seam}
@@ -12,8 +13,9 @@ use Rattle.stamp_explain.specs.Observed.{ObservedHistory, IsObserved}
 use Rattle.stamp_observed.specs.declared.fault.Fault.{Fault}
 use Rattle.stamp_observed.specs.declared.candidate.Candidate.{Candidate}
 use Rattle.stamp_observed.specs.Small.{ArePossibleToo, IsStuckAs, renumbered_possible}
-use Rattle.stamp_observed.specs.Issued.{IsStillIssued}
-use Rattle.stamp_observed.specs.inner.Fault.{IsFaultOf, IsShownBy, replies_in}
+use Rattle.stamp_observed.specs.declared.issued.IssuedStamp.{IssuedStamp}
+use Rattle.stamp_observed.specs.Issued.{Issues, IsStillIssued}
+use Rattle.stamp_observed.specs.inner.Fault.{IsFaultOf, IsShownBy, IsStampBy, replies_in}
 use Rattle.stamp_observed.specs.inner.Candidate.{history_of, return_in, stand_in}
 use Rattle.stamp_observed.specs.inner.Over.{IsOverBy}
 use Rattle.stamp_observed.proofs.CutAgain.{all_over}
@@ -22,6 +24,22 @@ pub last_of : (es : List Observation) (e : Observation) → slice_get (es ++ e �
 last_of es e =
     slice_get-get_or (es ++ e ∷ []) (length es) e (omega (arith, length-append es (e ∷ []))) ∙
     ap Some (get_or-append_seam es e [] e)
+
+-- the stamp is issued by those by whom it has to be
+shown_by : (h : ObservedHistory) (fault : Fault) (c : Candidate) (small : ObservedHistory) (stamp : ℕ)
+    (by : Option ℕ) → IsStampBy fault.stamp stamp by →
+    IsShownBy (units h.limits) c.versions small.entries c.first fault →
+    IsStillIssued (units h.limits) c.versions small.entries by c.first stamp
+shown_by h fault c small stamp by has shown =
+    let still : IsStillIssued (units h.limits) c.versions small.entries has.issued.by c.first has.issued.stamp =
+    MatchOption-at_some (Unit {0}) (λ (issued : IssuedStamp). IsStillIssued (units h.limits) c.versions small.entries
+    issued.by c.first issued.stamp) has.issued has.is shown.issued in
+    let same : IsStillIssued (units h.limits) c.versions small.entries has.issued.by c.first stamp =
+    subst (IsStillIssued (units h.limits) c.versions small.entries has.issued.by c.first) has.stamp_is still in
+    record { some = same.some; issued = all_by same.issued }
+  where
+    all_by : {s : ℕ} → Any (Issues has.issued.by c.first s) small.entries → Any (Issues by c.first s) small.entries
+    all_by (k, x, lt, at, is) = (k, x, lt, at, (has.whose x is.0, is.1))
 
 pub stuck_as : (h : ObservedHistory) (most : ℕ) (fault : Fault) (c : Candidate) (small : ObservedHistory)
     (place : ℕ) →
@@ -50,9 +68,8 @@ stuck_as h most fault c small place is observed same here over stuck too shown =
   kept = record {
     few = omega (arith, shown.few, is.writes);
     answer = shown.answer;
-    issued = λ stamp taken some before. MatchOption-at_some (Unit {0})
-        (IsStillIssued (units h.limits) c.versions small.entries c.first) stamp (is.stamp stamp taken some before)
-        shown.issued;
+    issued = λ stamp taken some by is_by before. shown_by h fault c small stamp by
+        (is.stamp stamp taken some by is_by before) shown;
   };
   replies = replies_in fault.possible;
   possible = is.possible;

@@ -39,9 +39,9 @@ begun_by_then : (first end last : ℕ) → first ≤ end → end < last → not 
 begun_by_then first end last le lt = grind (arith, nat_tests)
 
 -- a call that issues a stamp before a position had returned by then
-issuer_return : (position stamp : ℕ) (x : Observation) → Issues position stamp x →
+issuer_return : (whose : Option ℕ) (position stamp : ℕ) (x : Observation) → Issues whose position stamp x →
     (q : Returned) × ((x.returned ≡ Some q) × (q.last < position))
-issuer_return position stamp x is = by x.returned refl is
+issuer_return whose position stamp x is = by x.returned refl is.1
   where
     by : (o : Option Returned) → x.returned ≡ o →
         MatchOption o ⊥ (λ (r : Returned). (r.last < position) × (r.reply ≡ Stamp stamp)) →
@@ -138,9 +138,10 @@ module _ (h : ObservedHistory) (i : ℕ) (e : Observation) (r : Returned) (is : 
   possible_too u most (Some replies) are = (replies, (all_there replies are, same_replies u replies))
 
   -- a call that had returned before it stands there, too
-  issued_there : (stamp : ℕ) → Any (Issues e.first stamp) h.entries → Any (Issues e.first stamp) seen.entries
-  issued_there stamp (k, x, lt, at, is_issuer) =
-      let back = issuer_return e.first stamp x is_issuer in
+  issued_there : (by : Option ℕ) (stamp : ℕ) → Any (Issues by e.first stamp) h.entries →
+      Any (Issues by e.first stamp) seen.entries
+  issued_there by stamp (k, x, lt, at, is_issuer) =
+      let back = issuer_return by e.first stamp x is_issuer in
       let there : slice_get h.entries k ≡ Some x = slice_get-get_or h.entries k x lt ∙ ap Some at in
       let within : x.first ≤ back.0.last = ended h k x back.0 is.observed there back.1.0 in
       let now = seen_index r.last (i + 1) 0 h.entries k x there
@@ -157,10 +158,10 @@ module _ (h : ObservedHistory) (i : ℕ) (e : Observation) (r : Returned) (is : 
   kept_there = record {
     few = omega arith;
     answer = λ none. reply_stays (units h.limits) r.reply ∙ none;
-    issued = λ stamp taken some before. record {
+    issued = λ stamp taken some by is_by before. record {
       some = subst (λ (s : ℕ). s ≢ 0) (stamp_stays (units h.limits) stamp) some;
-      issued = subst (λ (s : ℕ). Any (Issues e.first s) seen.entries) (stamp_stays (units h.limits) stamp)
-          (issued_there stamp before);
+      issued = subst (λ (s : ℕ). Any (Issues by e.first s) seen.entries) (stamp_stays (units h.limits) stamp)
+          (issued_there by stamp before);
     };
   }
 

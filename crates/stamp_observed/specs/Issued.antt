@@ -25,10 +25,15 @@ stamp_taken (ToRead s) = Some s
 stamp_taken (ToOptimistic s) = Some s
 stamp_taken call = None
 
--- the call had returned before this position, and was answered this stamp
-abbrev pub Issues : ℕ → ℕ → Observation → Type 0
-Issues position stamp e =
-    MatchOption e.returned ⊥ (λ (r : Returned). (r.last < position) × (r.reply ≡ Stamp stamp))
+-- the call is one of this thread; or, with none, of any
+abbrev pub IsBy : Option ℕ → Observation → Type 0
+IsBy None e = Unit {0}
+IsBy (Some thread) e = e.thread ≡ thread
+
+-- the call, of this thread or of any, had returned before this position, and was answered this stamp
+abbrev pub Issues : Option ℕ → ℕ → ℕ → Observation → Type 0
+Issues by position stamp e =
+    IsBy by e × MatchOption e.returned ⊥ (λ (r : Returned). (r.last < position) × (r.reply ≡ Stamp stamp))
 
 -- the call acquires write mode, if anything
 abbrev pub asks_to_write : Call → Bool
@@ -45,18 +50,19 @@ writes_by last es = length (filter (λ (e : Observation). asks_to_write e.call) 
 abbrev pub StaysAnswered : Units → ℕ → Reply → Type 0
 StaysAnswered u k reply = renumbered_reply u k reply ≡ Stamp 0 → reply ≡ Stamp 0
 
--- with so many versions left out the stamp isn't 0, and one of these calls, which had returned before this position,
--- was answered it
-pub record IsStillIssued (u : Units) (k : ℕ) (es : List Observation) (position stamp : ℕ) : Type 0 where
+-- with so many versions left out the stamp isn't 0, and one of these calls, of this thread or of any, which had returned
+-- before this position, was answered it
+pub record IsStillIssued (u : Units) (k : ℕ) (es : List Observation) (by : Option ℕ) (position stamp : ℕ) : Type 0 where
   pub some : renumbered_stamp u k stamp ≢ 0
-  pub issued : Any (Issues position (renumbered_stamp u k stamp)) es
+  pub issued : Any (Issues by position (renumbered_stamp u k stamp)) es
 
 -- what a call shows isn't lost with the versions that are left out. These are no more than the calls that had begun
 -- by its return and acquire write mode, if anything. A stamp that it was answered stays one. Where it takes a stamp
--- that a call before it was answered, so it does among the calls of a small history, at this position there
+-- that a call before it was answered, so it does among the calls of a small history, at this position there; and where
+-- one of its own thread was, so it is there
 pub record AreStampsKept (h : ObservedHistory) (e : Observation) (r : Returned) (k : ℕ) (small : List Observation)
     (position : ℕ) : Type 0 where
   pub few : k ≤ writes_by r.last h.entries
   pub answer : StaysAnswered (units h.limits) k r.reply
-  pub issued : (stamp : ℕ) → stamp_taken e.call ≡ Some stamp → stamp ≢ 0 → Any (Issues e.first stamp) h.entries →
-      IsStillIssued (units h.limits) k small position stamp
+  pub issued : (stamp : ℕ) → stamp_taken e.call ≡ Some stamp → stamp ≢ 0 → (by : Option ℕ) → IsBy by e →
+      Any (Issues by e.first stamp) h.entries → IsStillIssued (units h.limits) k small by position stamp

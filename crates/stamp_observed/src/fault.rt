@@ -4,7 +4,7 @@ ghost use Rattle.stamp_explain.specs.Observed.{IsObserved, IsReturnAt};
 ghost use Rattle.stamp_observed.specs.Small.{ArePossibleAt};
 ghost use Rattle.stamp_observed.specs.inner.Fault.{IsFaultOf, replies_in};
 
-use crate::issued::{issued_stamp, writes_by};
+use crate::issued::{IssuedStamp, issued_stamp, writes_by};
 use stamp_core::Reply;
 use stamp_explain::{Observation, Observed, PossibleError, Returned, possible_at};
 use std::alloc::{AllocError, Global};
@@ -21,7 +21,7 @@ pub(crate) struct Fault {
     /// What it could have answered; none where that is undecided.
     pub(crate) possible: Option<Vec<Reply>>,
     /// The stamp that it takes, if a call that had returned before it was answered it; 0 isn't one.
-    pub(crate) stamp: Option<u64>,
+    pub(crate) stamp: Option<IssuedStamp>,
     /// How many calls that acquire write mode, if anything, had begun by its return.
     pub(crate) writes: u64,
 }

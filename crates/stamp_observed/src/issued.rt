@@ -1,7 +1,7 @@
 //! Which stamps were issued, and which stay where versions are left out.
 ghost use Rattle.std.specs.Prelude.{◌≡◌, ◌↔◌, IsTrue, Any};
 ghost use Rattle.stamp_core.specs.Layout.{units_of};
-ghost use Rattle.stamp_observed.specs.Issued.{Issues, StaysAnswered, asks_to_write, writes_by};
+ghost use Rattle.stamp_observed.specs.Issued.{IsBy, Issues, StaysAnswered, asks_to_write, writes_by};
 ghost use Rattle.stamp_observed.specs.inner.Fault.{HasStamp, IsShownBy, IsStampShown};
 
 use crate::fault::Fault;
@@ -9,10 +9,32 @@ use crate::renumbering::{renumbered_stamp, stamp_of};
 use stamp_core::{Call, Layout, Reply};
 use stamp_explain::Observation;
 
-/// Whether the call had returned before this position, and was answered this stamp.
-fn issues(call: &Observation, position: u64, stamp: u64) -> bool
-    ensures { IsTrue result ↔ Issues position stamp call.now }
+/// A stamp that a call takes, and which was issued before.
+#[derive(Clone, Copy)]
+pub(crate) struct IssuedStamp {
+    /// The stamp.
+    pub(crate) stamp: u64,
+    /// The thread to which it was issued, if that is the one of the call.
+    pub(crate) by: Option<u64>,
+}
+
+/// Whether the call is one of this thread; or, with none, of any.
+pub(crate) fn is_by(by: Option<u64>, thread: u64) -> bool
+    ensures { (e : Observation) → e.thread ≡ thread → IsTrue result ↔ IsBy by e }
 {
+    match by {
+        None => true,
+        Some(own) => thread == own,
+    }
+}
+
+/// Whether the call, of this thread or of any, had returned before this position, and was answered this stamp.
+fn issues(call: &Observation, by: Option<u64>, position: u64, stamp: u64) -> bool
+    ensures { IsTrue result ↔ Issues by position stamp call.now }
+{
+    if !is_by(by, call.thread) {
+        return false;
+    }
     match &call.returned {
         None => false,
         Some(returned) => match returned.reply {
@@ -22,29 +44,36 @@ fn issues(call: &Observation, position: u64, stamp: u64) -> bool
     }
 }
 
-/// Whether one of these calls, which had returned before this position, was answered this stamp.
-fn is_issued(calls: &[Observation], position: u64, stamp: u64) -> bool
-    ensures { IsTrue result ↔ Any (Issues position stamp) calls.now }
+/// Whether one of these calls, of this thread or of any, which had returned before this position, was answered this
+/// stamp.
+fn is_issued(calls: &[Observation], by: Option<u64>, position: u64, stamp: u64) -> bool
+    ensures { IsTrue result ↔ Any (Issues by position stamp) calls.now }
 {
     for call in calls {
-        if issues(call, position, stamp) {
+        if issues(call, by, position, stamp) {
             return true;
         }
     }
     false
 }
 
-/// The stamp that the call takes, if one of these calls, which had returned before it, was answered it. That it was
-/// answered 0 isn't asked.
-pub(crate) fn issued_stamp(calls: &[Observation], call: &Observation) -> Option<u64>
+/// The stamp that the call takes, if one of these calls, which had returned before it, was answered it: by its own
+/// thread, if one of this was. 0 is none.
+pub(crate) fn issued_stamp(calls: &[Observation], call: &Observation) -> Option<IssuedStamp>
     ensures { HasStamp calls.now call.now result }
 {
     let stamp = stamp_of(&call.call)?;
-    if stamp != 0 && is_issued(calls, call.first, stamp) {
-        Some(stamp)
-    } else {
-        None
+    if stamp == 0 {
+        return None;
     }
+    let own = Some(call.thread);
+    if is_issued(calls, own, call.first, stamp) {
+        return Some(IssuedStamp { stamp, by: own });
+    }
+    if is_issued(calls, None, call.first, stamp) {
+        return Some(IssuedStamp { stamp, by: None });
+    }
+    None
 }
 
 /// Whether the call acquires write mode, if anything.
@@ -83,15 +112,15 @@ fn is_stamp_shown(
     versions: u64,
     calls: &[Observation],
     position: u64,
-    stamp: Option<u64>,
+    found: Option<IssuedStamp>,
 ) -> bool
-    ensures { IsTrue result → IsStampShown (units_of layout) versions calls.now position stamp }
+    ensures { IsTrue result → IsStampShown (units_of layout) versions calls.now position found }
 {
-    match stamp {
+    match found {
         None => true,
-        Some(stamp) => {
-            let renumbered = renumbered_stamp(layout, versions, stamp);
-            renumbered != 0 && is_issued(calls, position, renumbered)
+        Some(issued) => {
+            let renumbered = renumbered_stamp(layout, versions, issued.stamp);
+            renumbered != 0 && is_issued(calls, issued.by, position, renumbered)
         }
     }
 }

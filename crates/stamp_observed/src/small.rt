@@ -8,6 +8,7 @@ ghost use Rattle.stamp_observed.specs.inner.Fault.{IsFaultOf};
 use crate::candidate::Candidate;
 use crate::cut::{cut_at, order_of};
 use crate::fault::{Fault, fault_at};
+use crate::issued::is_by;
 use crate::judging_again::{Found, found_of};
 use crate::leaving::without_more;
 use crate::window::{OlderStamps, window_behind};
@@ -16,7 +17,7 @@ use stamp_explain::{Observed, seen_until};
 use std::alloc::{AllocError, Global};
 
 /// How many calls of an order a window has, one window after the other.
-const WINDOWS: [usize; 10] = [2, 4, 8, 16, 32, 64, 128, 256, 512, 1024];
+const WINDOWS: [usize; 11] = [1, 2, 4, 8, 16, 32, 64, 128, 256, 512, 1024];
 
 /// The first window that is stuck as the run is. The windows begin so many calls before the end of this part of an
 /// order, and go to the end of the order.
@@ -47,11 +48,13 @@ fn window_found(
     Ok(None)
 }
 
-/// Whether the call of an order had returned before that of the fault, and was answered the stamp that this takes.
+/// Whether the call of an order had returned before that of the fault, and issued the stamp that this takes.
 fn is_issuer(entry: &Entry, fault: &Fault) -> bool {
     match (entry.reply, fault.stamp) {
-        (Reply::Stamp(answered), Some(stamp)) => {
-            answered == stamp && entry.last / 64 < fault.call.first
+        (Reply::Stamp(answered), Some(issued)) => {
+            answered == issued.stamp
+                && is_by(issued.by, entry.thread)
+                && entry.last / 64 < fault.call.first
         }
         _ => false,
     }
@@ -71,9 +74,9 @@ fn calls_to_issuer(order: &[Entry], fault: &Fault) -> Option<usize>
     None
 }
 
-/// The first window that is stuck as the run is. It begins near the end of the order, where the stamps of the fault's
-/// call aren't much older; or else near the call that issued its stamp; or, if none did, near the end and without these
-/// stamps; or else it has them all the same.
+/// The first window that is stuck as the run is. It begins at the call that issued the stamp of the fault's call, or
+/// before; or, if none did, near the end of the order. The stamps of the fault's call keep their versions where these
+/// aren't much older, or else where nothing else will do.
 fn any_window_found(
     alloc: Global,
     observed: &Observed,
@@ -88,14 +91,14 @@ fn any_window_found(
         return Ok(None);
     };
     let calls = order.entries();
-    let (part, second) = match calls_to_issuer(calls, fault) {
-        Some(count) => (&calls[..count], OlderStamps::Kept),
-        None => (calls, OlderStamps::Dropped),
+    let part = match calls_to_issuer(calls, fault) {
+        Some(count) => &calls[..count],
+        None => calls,
     };
-    for (part, older) in [
-        (calls, OlderStamps::Kept),
-        (part, second),
-        (part, OlderStamps::AllKept),
+    for older in [
+        OlderStamps::Kept,
+        OlderStamps::Dropped,
+        OlderStamps::AllKept,
     ] {
         let found = window_found(alloc, observed, fault, cut, part, older, most)?;
         if found.is_some() {

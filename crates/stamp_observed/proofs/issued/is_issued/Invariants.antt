@@ -5,4 +5,4 @@ use Rattle.stamp_observed.specs.Issued.{Issues}
 use Rattle.stamp_observed.proofs.issued.is_issued.Given as goal
 
 abbrev pub invariant-loop-call : goal.invariant-loop-call
-invariant-loop-call l = All (λ (e : Observation). ¬ Issues l.position l.stamp e) (take l.call-index l.calls)
+invariant-loop-call l = All (λ (e : Observation). ¬ Issues l.by l.position l.stamp e) (take l.call-index l.calls)
