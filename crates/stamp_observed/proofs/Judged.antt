@@ -28,7 +28,7 @@ last_of es e =
 -- the stamp is issued by those by whom it has to be
 shown_by : (h : ObservedHistory) (fault : Fault) (c : Candidate) (small : ObservedHistory) (stamp : ℕ)
     (by : Option ℕ) → IsStampBy fault.stamp stamp by →
-    IsShownBy (units h.limits) c.versions small.entries c.first fault →
+    IsShownBy (units h.limits) c small.entries fault →
     IsStillIssued (units h.limits) c.versions small.entries by c.first stamp
 shown_by h fault c small stamp by has shown =
     let still : IsStillIssued (units h.limits) c.versions small.entries has.issued.by c.first has.issued.stamp =
@@ -46,7 +46,7 @@ pub stuck_as : (h : ObservedHistory) (most : ℕ) (fault : Fault) (c : Candidate
     IsFaultOf h most fault → IsObserved small → small ≡ history_of h fault c → place ≡ length c.others.items →
     All (IsOverBy c.last) small.entries → IsStuck small place →
     ArePossibleToo small place (renumbered_possible (units h.limits) c.versions (replies_in fault.possible)) →
-    IsShownBy (units h.limits) c.versions small.entries c.first fault → IsStuckAs h most fault.entry small
+    IsShownBy (units h.limits) c small.entries fault → IsStuckAs h most fault.entry small
 stuck_as h most fault c small place is observed same here over stuck too shown = record {
   observed = observed;
   limits = ap (λ (g : ObservedHistory). g.limits) same;

@@ -50,16 +50,17 @@ writes_by last es = length (filter (λ (e : Observation). asks_to_write e.call) 
 abbrev pub StaysAnswered : Units → ℕ → Reply → Type 0
 StaysAnswered u k reply = renumbered_reply u k reply ≡ Stamp 0 → reply ≡ Stamp 0
 
--- with so many versions left out the stamp isn't 0, and one of these calls, of this thread or of any, which had returned
--- before this position, was answered it
-pub record IsStillIssued (u : Units) (k : ℕ) (es : List Observation) (by : Option ℕ) (position stamp : ℕ) : Type 0 where
-  pub some : renumbered_stamp u k stamp ≢ 0
-  pub issued : Any (Issues by position (renumbered_stamp u k stamp)) es
+-- with so many versions left out the stamp isn't 0, and one of these calls, of this thread or of any, which had
+-- returned before this position, was answered it
+pub record IsStillIssued (u : Units) (k : ℕ) (es : List Observation) (by : Option ℕ) (position stamp : ℕ) : Type 0
+  where
+    pub some : renumbered_stamp u k stamp ≢ 0
+    pub issued : Any (Issues by position (renumbered_stamp u k stamp)) es
 
 -- what a call shows isn't lost with the versions that are left out. These are no more than the calls that had begun
 -- by its return and acquire write mode, if anything. A stamp that it was answered stays one. Where it takes a stamp
--- that a call before it was answered, so it does among the calls of a small history, at this position there; and where
--- one of its own thread was, so it is there
+-- that a call before it was answered, one of a small history was, before this position there; and one of its own
+-- thread, if one of this was
 pub record AreStampsKept (h : ObservedHistory) (e : Observation) (r : Returned) (k : ℕ) (small : List Observation)
     (position : ℕ) : Type 0 where
   pub few : k ≤ writes_by r.last h.entries

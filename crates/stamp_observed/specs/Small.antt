@@ -45,8 +45,8 @@ abbrev pub IsCutThere : ObservedHistory → ℕ → Returned → Type 0
 IsCutThere h i r = seen_at r.last (i + 1) h ≡ h
 
 -- a history under the same limits is stuck, at the return of a call that is the one of this entry with stamps
--- renumbered, and nothing in it is later; the same replies were possible, renumbered; and the stamp that the call takes
--- was issued there too, if it was
+-- renumbered, and nothing in it is later; the same replies were possible, renumbered; and the stamp that the call
+-- takes was issued there too, if it was
 pub record IsStuckAs (h : ObservedHistory) (most i : ℕ) (small : ObservedHistory) : Type 0 where
   pub observed : IsObserved small
   pub limits : small.limits ≡ h.limits

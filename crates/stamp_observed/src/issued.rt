@@ -4,10 +4,11 @@ ghost use Rattle.stamp_core.specs.Layout.{units_of};
 ghost use Rattle.stamp_observed.specs.Issued.{IsBy, Issues, StaysAnswered, asks_to_write, writes_by};
 ghost use Rattle.stamp_observed.specs.inner.Fault.{HasStamp, IsShownBy, IsStampShown};
 
+use crate::candidate::Candidate;
 use crate::fault::Fault;
 use crate::renumbering::{renumbered_stamp, stamp_of};
 use stamp_core::{Call, Layout, Reply};
-use stamp_explain::Observation;
+use stamp_explain::{Observation, Observed};
 
 /// A stamp that a call takes, and which was issued before.
 #[derive(Clone, Copy)]
@@ -125,17 +126,22 @@ fn is_stamp_shown(
     }
 }
 
-/// Whether these calls show of the fault what they have to, with so many versions left out.
+/// Whether the history of a candidate shows of the fault what it has to.
 pub(crate) fn is_shown_by(
     layout: Layout,
-    versions: u64,
-    calls: &[Observation],
-    position: u64,
+    candidate: &Candidate,
+    small: &Observed,
     fault: &Fault,
 ) -> bool
-    ensures { IsTrue result → IsShownBy (units_of layout) versions calls.now position fault.now }
+    ensures { IsTrue result → IsShownBy (units_of layout) candidate.now small.now.entries fault.now }
 {
-    versions <= fault.writes
-        && stays_answered(layout, versions, &fault.returned.reply)
-        && is_stamp_shown(layout, versions, calls, position, fault.stamp)
+    candidate.versions <= fault.writes
+        && stays_answered(layout, candidate.versions, &fault.returned.reply)
+        && is_stamp_shown(
+            layout,
+            candidate.versions,
+            small.entries(),
+            candidate.first,
+            fault.stamp,
+        )
 }

@@ -162,13 +162,7 @@ pub(crate) fn found_of(
         return Ok(None);
     }
     let layout = observed.limits().layout();
-    if !is_shown_by(
-        layout,
-        candidate.versions,
-        small.entries(),
-        candidate.first,
-        fault,
-    ) {
+    if !is_shown_by(layout, &candidate, &small, fault) {
         return Ok(None);
     }
     let place = candidate.others.len();

@@ -130,8 +130,10 @@ fn first_found(
 ///
 /// The versions of its stamps are counted from a later one on; a stamp of an earlier version is 0 there. No more
 /// versions are left out than calls that acquire write mode, if anything, had begun by the return. A stamp that the
-/// call is answered isn't left out. Where a call that had returned before it was answered the stamp that it takes, so
-/// it is there: the small history has a call that had returned before it and was answered this stamp, and it isn't 0.
+/// call is answered isn't left out.
+///
+/// Where the call takes a stamp that a call before it was answered, so it does there: the small history has a call that
+/// had returned before it, and was answered this stamp, which isn't 0. It is one of its own thread, if one of this was.
 ///
 /// Where it is undecided which replies were possible, they aren't compared. It refuses only for want of memory.
 ///
@@ -139,8 +141,8 @@ fn first_found(
 /// that issued the stamp, behind calls that bring a new lock and record to where they begin; or, where that isn't stuck
 /// so, of the whole run up to the return. Calls that don't matter are left out. Each search of it gives up once it has
 /// looked at more than `most` configurations. Where none is found so, it is what was seen of the run when the entry
-/// returned. Where the call is answered a stamp of a later version than it takes, that stamp may be one to come in the
-/// small history.
+/// returned. Where the call is answered a stamp of a version that is over 8 later than that of the one it takes, a
+/// write acquisition comes between, and the small history needn't come to the later version.
 pub fn small_of(
     alloc: Global,
     observed: &Observed,

@@ -59,12 +59,12 @@ fn version_asked(layout: Layout, fault: &Fault, versions: u64) -> u64 {
     }
 }
 
-/// So much later a version may be than that of the stamp which the fault's call takes, for a small history to come to it.
+/// So much later than that of the stamp which the fault's call takes a version may be, to which a history has to come.
 const MOST_LATER: u64 = 8;
 
 /// The version to which a small history has to come where so many versions are left out: that of the stamp that the
-/// fault's call takes. Where this was issued, and the call is answered a stamp of a later version, it is that version, or
-/// at least the next one.
+/// fault's call takes. Where this was issued, and the call is answered a stamp of a later version, it is that version;
+/// or the next one, where it is much later.
 pub(crate) fn version_wanted(layout: Layout, fault: &Fault, versions: u64) -> u64 {
     let asked = version_asked(layout, fault, versions);
     let answered = versions_before_reply(layout, &fault.returned.reply);

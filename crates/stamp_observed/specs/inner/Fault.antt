@@ -5,6 +5,7 @@ use Rattle.stamp_core.specs.Layout.{Units}
 use Rattle.stamp_core.specs.declared.reply.Reply.{Reply}
 use Rattle.stamp_explain.specs.declared.observed.Observation.{Observation}
 use Rattle.stamp_explain.specs.Observed.{ObservedHistory}
+use Rattle.stamp_observed.specs.declared.candidate.Candidate.{Candidate}
 use Rattle.stamp_observed.specs.declared.fault.Fault.{Fault}
 use Rattle.stamp_observed.specs.declared.issued.IssuedStamp.{IssuedStamp}
 use Rattle.stamp_observed.specs.Issued.{IsBy, Issues, IsStillIssued, StaysAnswered, stamp_taken, writes_by}
@@ -22,8 +23,8 @@ pub record IsStampBy (found : Option IssuedStamp) (stamp : ℕ) (by : Option ℕ
   pub stamp_is : issued.stamp ≡ stamp
   pub whose : (e : Observation) → IsBy issued.by e → IsBy by e
 
--- it is the stamp that the call takes, if a call before it was answered it and it isn't 0; by its own thread, if one of
--- this was
+-- it is the stamp that the call takes, if a call before it was answered it and it isn't 0: by its own thread, if one
+-- of this was
 abbrev pub HasStamp : List Observation → Observation → Option IssuedStamp → Type 0
 HasStamp es e found = (stamp : ℕ) → stamp_taken e.call ≡ Some stamp → stamp ≢ 0 → (by : Option ℕ) → IsBy by e →
     Any (Issues by e.first stamp) es → IsStampBy found stamp by
@@ -41,8 +42,8 @@ abbrev pub IsStampShown : Units → ℕ → List Observation → ℕ → Option 
 IsStampShown u k es position found = MatchOption found (Unit {0})
     (λ (issued : IssuedStamp). IsStillIssued u k es issued.by position issued.stamp)
 
--- with so many versions left out these calls show of the fault what they have to
-pub record IsShownBy (u : Units) (k : ℕ) (es : List Observation) (position : ℕ) (fault : Fault) : Type 0 where
-  pub few : k ≤ fault.writes
-  pub answer : StaysAnswered u k fault.returned.reply
-  pub issued : IsStampShown u k es position fault.stamp
+-- these calls of a candidate show of the fault what they have to
+pub record IsShownBy (u : Units) (c : Candidate) (es : List Observation) (fault : Fault) : Type 0 where
+  pub few : c.versions ≤ fault.writes
+  pub answer : StaysAnswered u c.versions fault.returned.reply
+  pub issued : IsStampShown u c.versions es c.first fault.stamp
