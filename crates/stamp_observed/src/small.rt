@@ -11,6 +11,7 @@ use crate::fault::{Fault, fault_at};
 use crate::issued::is_by;
 use crate::judging_again::{Found, found_of};
 use crate::leaving::without_more;
+use crate::versions::{last_version, version_wanted};
 use crate::window::{OlderStamps, window_behind};
 use stamp_core::{Entry, Reply};
 use stamp_explain::{Observed, seen_until};
@@ -35,7 +36,7 @@ fn window_found(
 {
     for calls in WINDOWS {
         let gone = &part[..part.len().saturating_sub(calls)];
-        if let Some(window) = window_behind(alloc, observed, fault, cut, gone, older)? {
+        if let Some(window) = window_behind(alloc, observed, fault, cut, gone, &[], older)? {
             let found = found_of(alloc, observed, fault, window, most)?;
             if found.is_some() {
                 return Ok(found);
@@ -74,6 +75,45 @@ fn calls_to_issuer(order: &[Entry], fault: &Fault) -> Option<usize>
     None
 }
 
+/// Whether the calls of a candidate come to the version to which a small history has to come.
+fn comes_to_version(observed: &Observed, fault: &Fault, candidate: &Candidate) -> bool {
+    let layout = observed.limits().layout();
+    let wanted = version_wanted(layout, fault, candidate.versions);
+    last_version(layout, candidate.others.as_slice()) >= wanted
+}
+
+/// The first window that is stuck as the run is, of those that begin at the last one of so many calls of an order, and
+/// end so many calls behind it.
+fn short_window_found(
+    alloc: Global,
+    observed: &Observed,
+    fault: &Fault,
+    cut: &Candidate,
+    order: &[Entry],
+    count: usize,
+    most: u64,
+) -> Result<Option<Found>, AllocError>
+    requires fault { IsFaultOf observed.now most fault.now }
+    requires count { count ≤ length order.now }
+    ensures { IfOk result (λ found. IfSome found (λ f. IsStuckAs observed.now most fault.now.entry f.small)) }
+{
+    let gone = &order[..count.saturating_sub(1)];
+    for calls in WINDOWS {
+        let late = &order[count.saturating_add(calls).min(order.len())..];
+        let kept = OlderStamps::Kept;
+        let Some(window) = window_behind(alloc, observed, fault, cut, gone, late, kept)? else {
+            return Ok(None);
+        };
+        if comes_to_version(observed, fault, &window) {
+            let found = found_of(alloc, observed, fault, window, most)?;
+            if found.is_some() {
+                return Ok(found);
+            }
+        }
+    }
+    Ok(None)
+}
+
 /// The first window that is stuck as the run is. It begins at the call that issued the stamp of the fault's call, or
 /// before; or, if none did, near the end of the order. The stamps of the fault's call keep their versions where these
 /// aren't much older, or else where nothing else will do.
@@ -91,10 +131,14 @@ fn any_window_found(
         return Ok(None);
     };
     let calls = order.entries();
-    let part = match calls_to_issuer(calls, fault) {
-        Some(count) => &calls[..count],
-        None => calls,
-    };
+    let mut part = calls;
+    if let Some(count) = calls_to_issuer(calls, fault) {
+        let found = short_window_found(alloc, observed, fault, cut, calls, count, most)?;
+        if found.is_some() {
+            return Ok(found);
+        }
+        part = &calls[..count];
+    }
     for older in [
         OlderStamps::Kept,
         OlderStamps::Dropped,
