@@ -6,8 +6,10 @@ Run at the top of the repository; it wants cc. Runs of planted.c with 4 threads 
 not said) with each planted bug, and runs of `stamped run` with as many calls of a lock and a record, of which a reply
 near the end is changed. The same again where each call has a lane of its own, as calls of many short-lived threads
 have. A small history has under 60 entries and is stuck at its last one: at the same call, with the same reply and the same
-possible ones, but for the versions of stamps, of which each has as many less. No other entry of it can be left out, and
-no two, so that it is still stuck so, by a stamp of the past."""
+possible ones, but for the versions of stamps, of which each has as many less. Where the call takes a stamp that a call
+before it was answered, so it does in the small history, one of its own thread if one of this was; and it isn't answered
+0 where it was answered a stamp. No other entry can be left out, and no two, so that it is still stuck so, by a stamp of
+the past."""
 import itertools
 import json
 import os
@@ -70,6 +72,18 @@ def broken(history, name, reply_of, longer=0):
     return json.dumps({**history, "entries": entries}).encode()
 
 
+def with_old_stamp(history, name, issuer):
+    """The history where the last call of this name that was answered no refusal, among the first nine tenths, takes the
+    first stamp that a call of the other name was answered."""
+    entries = json.loads(json.dumps(history["entries"]))
+    old = min((entry for entry in entries if entry["call"][0] == issuer and entry["reply"] != 0),
+              key=lambda entry: entry["last"])
+    wrong = next(entry for entry in reversed(entries[: len(entries) * 9 // 10])
+                 if entry["call"][0] == name and entry["reply"] not in (0, "no", "mismatch"))
+    wrong["call"][1] = old["reply"]
+    return json.dumps({**history, "entries": entries}).encode()
+
+
 def answer_of(line):
     """What the line on standard error says of a call: what it answered, and what was possible."""
     answer, possible = re.fullmatch(r"stamped_explain: entry \d+ of thread (\d+: .* answered .*?); (.*)\n", line).groups()
@@ -119,11 +133,50 @@ def version_of(call):
     return max(0, stamp // VERSION - (stamp % VERSION != VERSION // 2))
 
 
+def issuers(entries, entry):
+    """The threads of the calls that had returned before this one, and were answered the stamp that it takes."""
+    stamp = entry["call"][1] if len(entry["call"]) > 1 else 0
+    if type(stamp) is not int or stamp == 0:
+        return set()
+    return {other["thread"] for other in entries
+            if type(other.get("reply")) is int and other["reply"] == stamp and other["last"] < entry["first"]}
+
+
+def shows_issuer(entries, entry, shown, last):
+    """Whether the stamp of the last call is issued among those shown, if that of the entry is: to its own thread, if it
+    was so."""
+    known, seen = issuers(entries, entry), issuers(shown, last)
+    return last["thread"] in seen if entry["thread"] in known else bool(seen) or not known
+
+
+def must_show_stamps(run, told, small, name):
+    """The stamp that the call takes is issued in the small history, if it is in the run, and a stamp that it was
+    answered isn't 0."""
+    entries, small_entries = json.loads(run)["entries"], json.loads(small)["entries"]
+    stuck, last = entries[int(re.search(r"entry (\d+)", told)[1])], small_entries[-1]
+    if not shows_issuer(entries, stuck, small_entries, last):
+        sys.exit(f"{name}: the call that issued the stamp of {stuck['call']} is left out: {small[:2000]}")
+    if last["reply"] == 0 and stuck["reply"] != 0:
+        sys.exit(f"{name}: the answer {stuck['reply']} is left out: {small[:2000]}")
+
+
+def version_wanted(entries):
+    """The version to which a small history has to come: that of the stamp that its last call takes; where this was issued,
+    and the call is answered a stamp of a later version, that one, or the next where it is over 8 later."""
+    last = entries[-1]
+    asked, reply = version_of(last["call"]), last["reply"]
+    if not issuers(entries, last) or type(reply) is not int or reply < VERSION:
+        return asked
+    later = max(0, reply // VERSION - 1 - asked)
+    return asked + (later if later <= 8 else 1)
+
+
 def is_still_stuck(explain, history, left_out, told):
-    """Whether the last entry is stuck as before without these, by a stamp of no later version."""
+    """Whether the last entry is stuck as before without these, by a stamp as old, issued as before."""
     entries = [entry for place, entry in enumerate(history["entries"]) if place not in left_out]
-    wanted = min(version_of(entries[-1]["call"]), last_version(history["entries"][:-1]))
-    if last_version(entries[:-1]) < wanted:
+    if not shows_issuer(history["entries"], entries[-1], entries, entries[-1]):
+        return False
+    if last_version(entries[:-1]) < min(version_wanted(history["entries"]), last_version(history["entries"][:-1])):
         return False
     status, line, note = output_of([explain], json.dumps({**history, "entries": entries}).encode())
     return line == b"stuck %d\n" % (len(entries) - 1) and answer_of(note) == answer_of(told)
@@ -148,6 +201,7 @@ def made_small(explain, run, name):
         sys.exit(f"{name}: status {status}, {len(entries)} entries, {line}: {small[:2000]}")
     if not are_alike(answer_of(told), answer_of(told_again)):
         sys.exit(f"{name}: {told} and {told_again}")
+    must_show_stamps(run, told, small, name)
     must_need_all(explain, small, told_again, name)
     return f"{len(json.loads(run)['entries'])} calls become {len(entries)}"
 
@@ -168,6 +222,9 @@ def changed_runs(stamped, calls, seed):
         "an older stamp": [broken(history, "optimistic", lambda stamp: stamp - VERSION)],
         "a failed release": [broken(history, "unlock_write", lambda _: "mismatch")],
         "a wrong validation": [broken(history, "validate", lambda _: "no")],
+        "an old stamp is valid": [with_old_stamp(history, "validate", "optimistic")],
+        "an old stamp is released": [with_old_stamp(history, "unlock_read", "try_read")],
+        "an old stamp acquires": [with_old_stamp(history, "to_write", "optimistic")],
         "a wrong count": [broken(history, "read_count", lambda _: {"count": 9})],
         "a wrong word": [broken(history, "get", lambda words: [words[0] + 1])],
         "a wrong word of a long get": [broken(history, "get", lambda words: [words[0] + 9], longer)

@@ -12,7 +12,7 @@ use Rattle.stamp_core.specs.declared.reply.Reply.TheVariants.{Stamp}
 use Rattle.stamp_observed.specs.Renumbering.{renumbered_stamp, renumbered_call, renumbered_reply}
 use Rattle.stamp_observed.specs.Small.{HaveSame}
 
-stamp_stays : (u : Units) (s : ℕ) → s ≡ renumbered_stamp u 0 s
+pub stamp_stays : (u : Units) (s : ℕ) → s ≡ renumbered_stamp u 0 s
 stamp_stays u s = by u.version
   where
     less : (v n : ℕ) → n ≡ 0 → s ≡ (if nat_lt s v then s else if nat_lt (s - v) n then 0 else s - n)

@@ -1,28 +1,53 @@
 -- What was seen of a stuck history when the call returned at whose return it is stuck: it is stuck as the history is.
-use Rattle.std.proofs.Common.{◌≡◌, ℕ, ◌+◌, ◌≤◌, List, length, get_or, set, refl, sym, ◌∙◌, ap, subst, arith}
+use Rattle.std.proofs.Common.{◌≡◌, ◌≢◌, ℕ, ◌+◌, ◌≤◌, ◌<◌, List, length, get_or, set, refl, sym, ◌∙◌, ap, subst, arith}
 use Rattle.std.proofs.Common.{Option, None, Some, Result, Ok, Err, IfOk}
-use Rattle.std.specs.Prelude.{slice_get, not, nat_lt, true}
+use Rattle.std.specs.Prelude.{slice_get, not, nat_lt, Bool, true, if◌then◌else◌, ◌==◌, ◌&&◌, ◌||◌, MatchOption, Any}
 use Rattle.std.proofs.lemmas.Bool.Decides.{nat_tests}
 use Rattle.std.proofs.lemmas.List.{set-get_or}
-use Rattle.std.proofs.lemmas.Option.{get_or_from_slice_get, same_Some, slice_get_within}
+use Rattle.std.proofs.lemmas.Option.{get_or_from_slice_get, same_Some, slice_get-get_or, slice_get_within}
 use Rattle.stamp_core.specs.Limits.{units}
 use Rattle.stamp_core.specs.Layout.{Units}
 use Rattle.stamp_core.specs.declared.reply.Reply.{Reply}
+use Rattle.stamp_core.specs.declared.reply.Reply.TheVariants.{Stamp}
 use Rattle.stamp_explain.specs.declared.observed.Observation.{Observation}
 use Rattle.stamp_explain.specs.declared.observed.Returned.{Returned}
 use Rattle.stamp_explain.specs.Observed.{ObservedHistory, IsObserved}
 use Rattle.stamp_explain.specs.Explained.{IsExplained}
-use Rattle.stamp_explain.specs.Cut.{IsStuck, cut, seen_at, index_then}
+use Rattle.stamp_explain.specs.Cut.{IsStuck, cut, cut_entry, returned_by, seen_at, index_then}
 use Rattle.stamp_explain.specs.Possible.{AreAllPossible, IsPossible, IsSeenUntil, with_reply}
-use Rattle.stamp_explain.proofs.Answered.{asked_there, ended, seen_answered}
+use Rattle.stamp_explain.proofs.Answered.{asked_there, ended, seen_answered, seen_index}
 use Rattle.stamp_explain.proofs.Beside.{is_begun}
 use Rattle.stamp_explain.proofs.Replying.{possible_is_seen, seen_is_possible}
 use Rattle.stamp_explain.proofs.Seeing.{seen_explains_as_much}
 use Rattle.stamp_observed.specs.declared.fault.Fault.{Fault}
+use Rattle.stamp_observed.specs.Issued.{AreStampsKept, Issues}
 use Rattle.stamp_observed.specs.Small.{ArePossibleAt, ArePossibleToo, IsStuckAs, renumbered_possible}
 use Rattle.stamp_observed.specs.inner.Fault.{IsFaultOf, replies_in}
 use Rattle.stamp_observed.proofs.CutAgain.{index_next, index_same, seen_cut, seen_twice}
-use Rattle.stamp_observed.proofs.NoneLeftOut.{call_stays, reply_stays, same_replies}
+use Rattle.stamp_observed.proofs.NoneLeftOut.{call_stays, reply_stays, same_replies, stamp_stays}
+
+-- a call that returned earlier is known so
+known_before : (last b m : ℕ) (e : Observation) (q : Returned) → e.returned ≡ Some q → q.last < last →
+    cut_entry last b m e ≡ e
+known_before last b m e q at lt = ap (λ (t : Bool). if t then e else record e { returned = None })
+    (ap (returned_by last b m) at ∙ back)
+  where
+    back : (nat_lt q.last last || ((q.last == last) && nat_lt m b)) ≡ true
+    back = grind (arith, nat_tests)
+
+begun_by_then : (first end last : ℕ) → first ≤ end → end < last → not (nat_lt last first) ≡ true
+begun_by_then first end last le lt = grind (arith, nat_tests)
+
+-- a call that issues a stamp before a position had returned by then
+issuer_return : (whose : Option ℕ) (position stamp : ℕ) (x : Observation) → Issues whose position stamp x →
+    (q : Returned) × ((x.returned ≡ Some q) × (q.last < position))
+issuer_return whose position stamp x is = by x.returned refl is.1
+  where
+    by : (o : Option Returned) → x.returned ≡ o →
+        MatchOption o ⊥ (λ (r : Returned). (r.last < position) × (r.reply ≡ Stamp stamp)) →
+        (q : Returned) × ((x.returned ≡ Some q) × (q.last < position))
+    by None same none = absurd none
+    by (Some q) same issues = (q, (same, issues.0))
 
 -- an observed history, and one of its calls that has returned
 record HasReturn (h : ObservedHistory) (i : ℕ) (e : Observation) (r : Returned) : Type 0 where
@@ -112,6 +137,34 @@ module _ (h : ObservedHistory) (i : ℕ) (e : Observation) (r : Returned) (is : 
   possible_too u most None are = tt
   possible_too u most (Some replies) are = (replies, (all_there replies are, same_replies u replies))
 
+  -- a call that had returned before it stands there, too
+  issued_there : (by : Option ℕ) (stamp : ℕ) → Any (Issues by e.first stamp) h.entries →
+      Any (Issues by e.first stamp) seen.entries
+  issued_there by stamp (k, x, lt, at, is_issuer) =
+      let back = issuer_return by e.first stamp x is_issuer in
+      let there : slice_get h.entries k ≡ Some x = slice_get-get_or h.entries k x lt ∙ ap Some at in
+      let within : x.first ≤ back.0.last = ended h k x back.0 is.observed there back.1.0 in
+      let now = seen_index r.last (i + 1) 0 h.entries k x there
+      (begun_by_then x.first back.0.last r.last within (omega (arith, back.1.1, le)))
+      (λ m _. known_before r.last (i + 1) m x back.0 back.1.0 (omega (arith, back.1.1, le))) in (
+        index_then r.last k h.entries,
+        x,
+        slice_get_within seen.entries (index_then r.last k h.entries) x now,
+        get_or_from_slice_get seen.entries (index_then r.last k h.entries) x x now,
+        is_issuer,
+      )
+
+  kept_there : AreStampsKept h e r 0 seen.entries e.first
+  kept_there = record {
+    few = omega arith;
+    answer = λ none. reply_stays (units h.limits) r.reply ∙ none;
+    issued = λ stamp taken some by is_by before. record {
+      some = subst (λ (s : ℕ). s ≢ 0) (stamp_stays (units h.limits) stamp) some;
+      issued = subst (λ (s : ℕ). Any (Issues by e.first s) seen.entries) (stamp_stays (units h.limits) stamp)
+          (issued_there by stamp before);
+    };
+  }
+
   seen_as : (most : ℕ) (replies : Option (List Reply)) → IsStuck h i → ArePossibleAt h most i replies →
       IsStuckAs h most i seen
   seen_as most replies stuck possible = record {
@@ -129,6 +182,7 @@ module _ (h : ObservedHistory) (i : ℕ) (e : Observation) (r : Returned) (is : 
       call = call_stays (units h.limits) e.call;
       reply = reply_stays (units h.limits) r.reply;
     };
+    kept = kept_there;
     replies = replies;
     possible = possible;
     too = possible_too (units h.limits) most replies possible;

@@ -1,6 +1,6 @@
 -- A history that is stuck behind an opening, and one made small of it, are stuck at the same call.
 use Rattle.std.proofs.Common.{◌≡◌, [], ℕ, List, length, arith, refl, ap, ◌∙◌}
-use Rattle.std.proofs.Common.{◌+◌}
+use Rattle.std.proofs.Common.{◌+◌, ◌≤◌}
 use Rattle.std.specs.Prelude.{slice_get}
 use Rattle.std.proofs.lemmas.Bool.Decides.{nat_tests}
 use Rattle.stamp_core.specs.Layout.{Units, narrow, wide, units_of}
@@ -18,10 +18,11 @@ use Rattle.stamp_explain.specs.Observed.{ObservedHistory, IsObserved, IsReturnAt
 use Rattle.stamp_observed.specs.declared.behind.StuckHistory.{StuckHistory}
 use Rattle.stamp_observed.specs.declared.fault.Fault.{Fault}
 use Rattle.stamp_observed.specs.declared.candidate.Candidate.{Candidate}
-use Rattle.stamp_observed.specs.Behind.{IsStuckWith}
+use Rattle.stamp_observed.specs.Behind.{IsStuckWith, IsStuckWithFew}
+use Rattle.stamp_observed.specs.Issued.{writes_by}
 use Rattle.stamp_observed.specs.Renumbering.{renumbered_stamp, renumbered_call, renumbered_reply}
 use Rattle.stamp_observed.specs.Small.{IsRenumbered, IsStuckAs}
-use Rattle.stamp_observed.specs.inner.Behind.{IsFaultWith, IsStuckBehind}
+use Rattle.stamp_observed.specs.inner.Behind.{IsFaultWith, IsStuckBehind, LeavesOutFew}
 use Rattle.stamp_observed.specs.inner.Candidate.{history_of, return_in, stand_in}
 use Rattle.stamp_observed.proofs.Judged.{last_of}
 
@@ -29,7 +30,7 @@ use Rattle.stamp_observed.proofs.Judged.{last_of}
 pub found_behind : (limits : Bounds) (none history : ObservedHistory) (fault : Fault) (c : Candidate) (place : ℕ)
     (e : Observation) → none ≡ observed_as limits 0 [] → history ≡ history_of none fault c → IsObserved history →
     place ≡ length c.others.items → IsStuck history place → IsFaultWith e fault →
-    IsStuckBehind limits e (record { history = history; place = place })
+    IsStuckBehind limits e (record { history = history; place = place; last = c.last; versions = c.versions })
 found_behind limits none history fault c place e empty made observed here stuck is =
     let same = made ∙ ap (λ (g : ObservedHistory). history_of g fault c) empty in record {
       fault = fault;
@@ -46,7 +47,7 @@ found_behind limits none history fault c place e empty made observed here stuck 
         returned = refl;
       };
       stuck = stuck;
-      versions = c.versions;
+      last_is = refl;
       renumbered = record {
         thread = ap (λ (f : Observation). f.thread) is.call_is;
         call = ap (λ (f : Observation). renumbered_call (units limits) c.versions f.call) is.call_is;
@@ -132,7 +133,24 @@ stuck_with limits e most found small is so =
       there = so.there;
       stuck = so.stuck;
       whole = so.whole;
-      versions = is.versions + so.versions;
-      renumbered = renumbered_twice limits.layout is.versions so.versions e is.there.entry so.there.entry
+      versions = found.versions + so.versions;
+      renumbered = renumbered_twice limits.layout found.versions so.versions e is.there.entry so.there.entry
           is.fault.returned is.there.return so.there.return is.renumbered second;
     }
+
+-- and no more versions are left out, if that is so where no more can be
+pub stuck_with_few : (limits : Bounds) (e : Observation) (most : ℕ) (found : StuckHistory) (small : ObservedHistory)
+    (few : ℕ) → IsStuckBehind limits e found → IsStuckAs found.history most found.place small →
+    LeavesOutFew few found → IsStuckWithFew limits few e small
+unfolding stuck_with
+stuck_with_few limits e most found small few is so leaves =
+    let last : so.at.return.last ≡ found.last =
+    ap (λ (r : Returned). r.last) (same_return found.history.entries found.place so.at is.there) ∙ is.last_is in
+    let writes = ap (λ (n : ℕ). writes_by n found.history.entries) last in
+    let within : found.versions + so.versions ≤ few = omega (arith, leaves, so.kept.few, writes) in
+    record { stuck = stuck_with limits e most found small is so; few = within }
+
+-- a larger number of versions
+pub few_more : {limits : Bounds} {e : Observation} {small : ObservedHistory} {few more : ℕ} → few ≤ more →
+    IsStuckWithFew limits few e small → IsStuckWithFew limits more e small
+few_more le is = record { stuck = is.stuck; few = omega (arith, is.few, le) }

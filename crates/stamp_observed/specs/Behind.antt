@@ -1,5 +1,5 @@
 -- When an observed history is stuck at a given call.
-use Rattle.std.specs.Prelude.{ℕ, ◌≡◌, Some}
+use Rattle.std.specs.Prelude.{ℕ, ◌≡◌, ◌≤◌, Some}
 use Rattle.stamp_core.specs.Limits.{Bounds, units}
 use Rattle.stamp_explain.specs.declared.observed.Observation.{Observation}
 use Rattle.stamp_explain.specs.declared.observed.Returned.{Returned}
@@ -21,3 +21,8 @@ pub record IsStuckWith (limits : Bounds) (e : Observation) (small : ObservedHist
   pub whole : IsCutThere small place there.return
   pub versions : ℕ
   pub renumbered : IsRenumbered (units limits) versions e return there.entry there.return
+
+-- it is stuck so, and no more versions than this are left out
+pub record IsStuckWithFew (limits : Bounds) (most : ℕ) (e : Observation) (small : ObservedHistory) : Type 0 where
+  pub stuck : IsStuckWith limits e small
+  pub few : stuck.versions ≤ most

@@ -6,6 +6,7 @@ pub mod ObservedFault
 pub mod ObservedLaws
 pub mod ObservedText
 pub mod Renumbering
+pub mod Issued
 pub mod Small
 pub mod Behind
 pub mod inner

@@ -9,6 +9,7 @@ use Rattle.stamp_explain.specs.declared.observed.Returned.{Returned}
 use Rattle.stamp_explain.specs.Cut.{IsStuck, seen_at}
 use Rattle.stamp_explain.specs.Observed.{ObservedHistory, IsObserved, IsReturnAt}
 use Rattle.stamp_explain.specs.Possible.{AreAllPossible, IsUndecidedAtAny}
+use Rattle.stamp_observed.specs.Issued.{AreStampsKept}
 use Rattle.stamp_observed.specs.Renumbering.{renumbered_call, renumbered_reply}
 
 -- all the replies that the call of this entry could have had; or that is undecided
@@ -44,7 +45,8 @@ abbrev pub IsCutThere : ObservedHistory → ℕ → Returned → Type 0
 IsCutThere h i r = seen_at r.last (i + 1) h ≡ h
 
 -- a history under the same limits is stuck, at the return of a call that is the one of this entry with stamps
--- renumbered, and nothing in it is later; and the same replies were possible, renumbered
+-- renumbered, and nothing in it is later; the same replies were possible, renumbered; and the stamp that the call
+-- takes was issued there too, if it was
 pub record IsStuckAs (h : ObservedHistory) (most i : ℕ) (small : ObservedHistory) : Type 0 where
   pub observed : IsObserved small
   pub limits : small.limits ≡ h.limits
@@ -56,6 +58,7 @@ pub record IsStuckAs (h : ObservedHistory) (most i : ℕ) (small : ObservedHisto
   pub whole : IsCutThere small place there.return
   pub versions : ℕ
   pub renumbered : IsRenumbered (units h.limits) versions at.entry at.return there.entry there.return
+  pub kept : AreStampsKept h at.entry at.return versions small.entries there.entry.first
   pub replies : Option (List Reply)
   pub possible : ArePossibleAt h most i replies
   pub too : ArePossibleToo small place (renumbered_possible (units h.limits) versions replies)

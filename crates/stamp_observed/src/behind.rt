@@ -1,10 +1,13 @@
 //! A small history that begins where a lock has a word, and is stuck at the return of a call.
-ghost use Rattle.std.specs.Prelude.{IfOk, IfSome};
-ghost use Rattle.stamp_observed.specs.Behind.{IsStuckWith};
-ghost use Rattle.stamp_observed.specs.inner.Behind.{IsFaultWith, IsStuckBehind};
+ghost use Rattle.std.specs.Prelude.{◌+◌, IfOk, IfSome, IsTrue, length};
+ghost use Rattle.stamp_core.specs.LockEvent.{write_count};
+ghost use Rattle.stamp_core.specs.Word.{HoldsForEvents};
+ghost use Rattle.stamp_observed.specs.Behind.{IsStuckWith, IsStuckWithFew};
+ghost use Rattle.stamp_observed.specs.inner.Behind.{IsFaultWith, IsStuckBehind, LeavesOutFew};
 
 use crate::candidate::{Candidate, history_of};
 use crate::fault::Fault;
+use crate::issued::writes_by;
 use crate::judging_again::is_stuck_at;
 use crate::opening::{State, opening_of};
 use crate::small::small_of;
@@ -18,6 +21,18 @@ use std::alloc::{AllocError, Global};
 struct StuckHistory {
     history: Observed,
     place: usize,
+    /// Where that is.
+    last: u64,
+    /// How many versions are left out.
+    versions: u64,
+}
+
+/// Whether those that are left out, and those that can be left out once more, are no more versions than this.
+fn leaves_out_few(found: &StuckHistory, most: u64) -> bool
+    ensures { IsTrue result → LeavesOutFew most found.now }
+{
+    let writes = writes_by(found.history.entries(), found.last);
+    writes <= most && found.versions <= most - writes
 }
 
 /// The fault of a call that has returned. Which replies were possible isn't asked.
@@ -31,6 +46,8 @@ fn fault_with(ended: &Observation) -> Option<Fault>
             call: *ended,
             returned,
             possible: None,
+            stamp: None,
+            writes: 0,
         }),
     }
 }
@@ -75,7 +92,12 @@ fn stuck_as_told(
     };
     let place = candidate.others.len();
     if is_stuck_at(alloc, &history, place, most)? {
-        Ok(Some(StuckHistory { history, place }))
+        Ok(Some(StuckHistory {
+            history,
+            place,
+            last: candidate.last,
+            versions: candidate.versions,
+        }))
     } else {
         Ok(None)
     }
@@ -141,11 +163,12 @@ fn any_stuck_behind(
 
 /// A small history, without a record, that begins where the lock has this word, and is stuck at the return of a call:
 /// it is by the same thread, with the same call and reply, stamps count versions from a later one on, and nothing is
-/// later, as `small_of` says. It is made of this call and others, which needn't be over by then, at positions from
-/// there on; calls that bring a new lock to the word come before them. It is judged by `explain`, and made small. There
-/// is none where the call hasn't returned, where the lock can't be brought to the word, where the calls are none that an
-/// observer may tell, or too many, and where they are explained behind the word, stuck at another return, or a search
-/// gives up on them once it has looked at more than `most` configurations. It refuses only for want of memory.
+/// later, as `small_of` says. No more versions are left out than the word has write acquisitions, and one for each
+/// call here. It is made of this call and others, which needn't be over by then, at positions from there on; calls that
+/// bring a new lock to the word come before them. It is judged by `explain`, and made small. There is none where the
+/// call hasn't returned, where the lock can't be brought to the word, where the calls are none that an observer may
+/// tell, or too many, and where they are explained behind the word, stuck at another return, or a search gives up on
+/// them once it has looked at more than `most` configurations. It refuses only for want of memory.
 pub fn small_behind(
     alloc: Global,
     limits: Limits,
@@ -154,7 +177,9 @@ pub fn small_behind(
     ended: &Observation,
     most: u64,
 ) -> Result<Option<Observed>, AllocError>
-    ensures { IfOk result (λ found. IfSome found (λ small. IsStuckWith limits ended.now small)) }
+    ensures stuck { IfOk result (λ found. IfSome found (λ small. IsStuckWith limits ended.now small)) }
+    ensures few { IfOk result (λ found. IfSome found (λ small. HoldsForEvents word (λ events.
+        IsStuckWithFew limits (write_count events + length others.now + 1) ended.now small))) }
 {
     let Some(fault) = fault_with(ended) else {
         return Ok(None);
@@ -162,5 +187,9 @@ pub fn small_behind(
     let Some(stuck) = any_stuck_behind(alloc, limits, word, others, &fault, most)? else {
         return Ok(None);
     };
+    let versions = word.writes().saturating_add(others.len() as u64);
+    if !leaves_out_few(&stuck, versions.saturating_add(1)) {
+        return Ok(None);
+    }
     Ok(Some(small_of(alloc, &stuck.history, stuck.place, most)?))
 }

@@ -4,6 +4,7 @@ ghost use Rattle.stamp_explain.specs.Observed.{IsObserved, IsReturnAt};
 ghost use Rattle.stamp_observed.specs.Small.{ArePossibleAt};
 ghost use Rattle.stamp_observed.specs.inner.Fault.{IsFaultOf, replies_in};
 
+use crate::issued::{IssuedStamp, issued_stamp, writes_by};
 use stamp_core::Reply;
 use stamp_explain::{Observation, Observed, PossibleError, Returned, possible_at};
 use std::alloc::{AllocError, Global};
@@ -19,6 +20,10 @@ pub(crate) struct Fault {
     pub(crate) returned: Returned,
     /// What it could have answered; none where that is undecided.
     pub(crate) possible: Option<Vec<Reply>>,
+    /// The stamp that it takes, if a call that had returned before it was answered it; 0 isn't one.
+    pub(crate) stamp: Option<IssuedStamp>,
+    /// How many calls that acquire write mode, if anything, had begun by its return.
+    pub(crate) writes: u64,
 }
 
 /// What the call of this entry could have answered; none where that is undecided.
@@ -51,7 +56,8 @@ pub(crate) fn fault_at(
     ensures fault { IfOk result (λ fault. IsFaultOf observed.now most fault) }
     ensures entry { IfOk result (λ fault. fault.entry ≡ entry) }
 {
-    let call = &observed.entries()[entry];
+    let entries = observed.entries();
+    let call = &entries[entry];
     let Some(returned) = &call.returned else {
         unreachable!();
     };
@@ -61,5 +67,7 @@ pub(crate) fn fault_at(
         call: *call,
         returned: *returned,
         possible,
+        stamp: issued_stamp(entries, call),
+        writes: writes_by(entries, returned.last),
     })
 }

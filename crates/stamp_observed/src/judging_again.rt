@@ -11,6 +11,7 @@ ghost use Rattle.stamp_observed.specs.inner.Over.{IsOverBy};
 
 use crate::candidate::{Candidate, history_of};
 use crate::fault::Fault;
+use crate::issued::is_shown_by;
 use crate::renumbering::renumbered_replies;
 use stamp_core::{Layout, Reply};
 use stamp_explain::{ExplainError, Observation, Observed, PossibleError, explain, possible_at};
@@ -160,11 +161,14 @@ pub(crate) fn found_of(
     if !are_over_by(&small, candidate.last) {
         return Ok(None);
     }
+    let layout = observed.limits().layout();
+    if !is_shown_by(layout, &candidate, &small, fault) {
+        return Ok(None);
+    }
     let place = candidate.others.len();
     if !is_stuck_at(alloc, &small, place, most)? {
         return Ok(None);
     }
-    let layout = observed.limits().layout();
     if has_same_possible(
         alloc,
         layout,

@@ -8,7 +8,7 @@ use crate::fault::Fault;
 use crate::gaps::{Gap, Holder, Sweep};
 use crate::judging_again::{Found, found_of};
 use crate::renumbering::stamp_of;
-use crate::versions::{last_version, version_asked};
+use crate::versions::{last_version, version_wanted};
 use stamp_core::{Call, Reply};
 use stamp_explain::{Observation, Observed};
 use std::alloc::{AllocError, Global};
@@ -151,17 +151,17 @@ fn without_gap(
     }
 }
 
-/// The version that the fault's call asks for by its stamp, if what was found comes to it.
+/// The version to which a small history has to come, if what was found comes to it.
 fn version_kept(observed: &Observed, fault: &Fault, found: &Found) -> u64 {
     let layout = observed.limits().layout();
-    version_asked(layout, fault, found.candidate.versions).min(last_version(
+    version_wanted(layout, fault, found.candidate.versions).min(last_version(
         layout,
         found.candidate.others.as_slice(),
     ))
 }
 
 /// The candidate with its history, if that is found to be stuck as the run is, and comes to this version: so the
-/// stamp of the fault's call is one of the past, and not of what is to come.
+/// stamp that the fault's call takes is one of the past, and not of what is to come, and a stale one is stale there.
 fn fewer_found(
     alloc: Global,
     observed: &Observed,

@@ -1,6 +1,7 @@
 //! Stamps renumbered, as the lock issues them where its first write acquisitions are left out.
 ghost use Rattle.std.specs.Prelude.{◌≡◌, IfOk, map};
 ghost use Rattle.stamp_core.specs.Layout.{units_of};
+ghost use Rattle.stamp_observed.specs.Issued.{stamp_taken};
 ghost use Rattle.stamp_observed.specs.Renumbering.{renumbered_stamp, renumbered_call, renumbered_reply};
 
 use stamp_core::{Call, Layout, Reply};
@@ -18,7 +19,7 @@ fn version_unit(layout: Layout) -> u64
 }
 
 /// The stamp with so many versions less.
-fn renumbered_stamp(layout: Layout, versions: u64, stamp: u64) -> u64
+pub(crate) fn renumbered_stamp(layout: Layout, versions: u64, stamp: u64) -> u64
     ensures { result ≡ renumbered_stamp (units_of layout) versions stamp }
 {
     let unit = version_unit(layout);
@@ -32,7 +33,9 @@ fn renumbered_stamp(layout: Layout, versions: u64, stamp: u64) -> u64
 }
 
 /// The stamp that the call takes, if it takes one.
-pub(crate) fn stamp_of(call: &Call) -> Option<u64> {
+pub(crate) fn stamp_of(call: &Call) -> Option<u64>
+    ensures { result ≡ stamp_taken call.now }
+{
     match *call {
         Call::Validate(stamp)
         | Call::UnlockWrite(stamp)

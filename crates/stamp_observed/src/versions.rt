@@ -47,7 +47,7 @@ pub(crate) fn versions_before_fault(layout: Layout, fault: &Fault) -> u64 {
 }
 
 /// The version of the stamp that the fault's call takes, if so many versions are left out; 0 where it takes none.
-pub(crate) fn version_asked(layout: Layout, fault: &Fault, versions: u64) -> u64 {
+fn version_asked(layout: Layout, fault: &Fault, versions: u64) -> u64 {
     let Some(stamp) = stamp_of(&fault.call.call) else {
         return 0;
     };
@@ -56,6 +56,26 @@ pub(crate) fn version_asked(layout: Layout, fault: &Fault, versions: u64) -> u64
         StampKind::Read(version, _) => version.saturating_sub(versions),
         StampKind::Optimistic(version) => version.saturating_sub(versions),
         StampKind::Neither => 0,
+    }
+}
+
+/// So much later than that of the stamp which the fault's call takes a version may be, to which a history has to come.
+const MOST_LATER: u64 = 8;
+
+/// The version to which a small history has to come where so many versions are left out: that of the stamp that the
+/// fault's call takes. Where this was issued, and the call is answered a stamp of a later version, it is that version;
+/// or the next one, where it is much later.
+pub(crate) fn version_wanted(layout: Layout, fault: &Fault, versions: u64) -> u64 {
+    let asked = version_asked(layout, fault, versions);
+    let answered = versions_before_reply(layout, &fault.returned.reply);
+    if fault.stamp.is_none() || answered == u64::MAX {
+        return asked;
+    }
+    let later = answered.saturating_sub(versions).saturating_sub(asked);
+    if later <= MOST_LATER {
+        asked.saturating_add(later)
+    } else {
+        asked.saturating_add(1)
     }
 }
 

@@ -71,15 +71,16 @@ fn has_call(beginnings: &[(u64, u64)], call: &Observation) -> bool {
     beginnings.binary_search(&(call.thread, call.first)).is_ok()
 }
 
-/// The calls that didn't take effect before the window.
+/// The calls that didn't take effect before the window, nor behind it.
 fn calls_from(
     alloc: Global,
     calls: &[Observation],
     gone: &[(u64, u64)],
+    late: &[(u64, u64)],
 ) -> Result<Vec<Observation>, AllocError> {
     let mut left = Vec::new(alloc);
     for call in calls {
-        if !has_call(gone, call) {
+        if !has_call(gone, call) && !has_call(late, call) {
             left.push(*call)?;
         }
     }
@@ -159,14 +160,15 @@ pub(crate) fn behind(
     })
 }
 
-/// The calls of a cut that take effect behind these, which begin an order, with an opening. Nothing where the
-/// call of the fault is one of these, or there is no such opening.
+/// The calls of a cut that take effect behind those that begin an order, and not behind these late ones, with an
+/// opening. Nothing where the call of the fault is one of those before, or there is no such opening.
 pub(crate) fn window_behind(
     alloc: Global,
     observed: &Observed,
     fault: &Fault,
     cut: &Candidate,
     gone: &[Entry],
+    late: &[Entry],
     older: OlderStamps,
 ) -> Result<Option<Candidate>, AllocError> {
     let limits = observed.limits();
@@ -183,6 +185,7 @@ pub(crate) fn window_behind(
     let Some(opening) = opening_of(alloc, limits, state, versions)? else {
         return Ok(None);
     };
-    let calls = calls_from(alloc, &cut.others, &gone_calls)?;
+    let late_calls = beginnings(alloc, late)?;
+    let calls = calls_from(alloc, &cut.others, &gone_calls, &late_calls)?;
     Ok(Some(behind(opening, &calls, cut, limits.layout(), versions)?))
 }

@@ -1,11 +1,12 @@
 -- A history that was found to be stuck at a call.
-use Rattle.std.specs.Prelude.{ℕ, ◌≡◌, Some}
+use Rattle.std.specs.Prelude.{ℕ, ◌≡◌, ◌≤◌, ◌+◌, Some}
 use Rattle.stamp_core.specs.Limits.{Bounds, units}
 use Rattle.stamp_explain.specs.declared.observed.Observation.{Observation}
 use Rattle.stamp_explain.specs.Cut.{IsStuck}
 use Rattle.stamp_explain.specs.Observed.{IsObserved, IsReturnAt}
 use Rattle.stamp_observed.specs.declared.behind.StuckHistory.{StuckHistory}
 use Rattle.stamp_observed.specs.declared.fault.Fault.{Fault}
+use Rattle.stamp_observed.specs.Issued.{writes_by}
 use Rattle.stamp_observed.specs.Small.{IsRenumbered}
 
 -- the fault is of this call, which has returned
@@ -22,5 +23,9 @@ pub record IsStuckBehind (limits : Bounds) (e : Observation) (found : StuckHisto
   pub width : found.history.width ≡ 0
   pub there : IsReturnAt found.history.entries found.place
   pub stuck : IsStuck found.history found.place
-  pub versions : ℕ
-  pub renumbered : IsRenumbered (units limits) versions e fault.returned there.entry there.return
+  pub last_is : there.return.last ≡ found.last
+  pub renumbered : IsRenumbered (units limits) found.versions e fault.returned there.entry there.return
+
+-- what is left out of it, and what can be left out once more, are no more versions than this
+abbrev pub LeavesOutFew : ℕ → StuckHistory → Type 0
+LeavesOutFew most found = found.versions + writes_by found.last found.history.entries ≤ most

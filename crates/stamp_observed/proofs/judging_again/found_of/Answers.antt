@@ -10,3 +10,5 @@ returns-then-branch c =
     (c.are_over_by.ensures c.if-not-are_over_by.false)
     (c.in_ok-is_stuck_at.ensures c.if-not-branch.false)
     (rw (c.layout-layout.ensures.layout, c.limits.ensures) at (c.in_ok-has_same_possible.ensures c.if-branch.true))
+    (rw (c.layout-layout.ensures.layout, c.limits.ensures) at
+    (c.is_shown_by.ensures c.if-not-is_shown_by.false))
