@@ -16,7 +16,7 @@ use Rattle.stamp_watch.proofs.Closeness.{few_aside, near_open}
 use Rattle.stamp_watch.proofs.HandingOn.{given_length}
 use Rattle.stamp_watch.proofs.JudgingLate.{late_way, run_long}
 use Rattle.stamp_watch.proofs.LongCalls.{later_of_long}
-use Rattle.stamp_watch.proofs.SoFar.{below}
+use Rattle.stamp_watch.proofs.SoFar.{below, explained_is, waits_is}
 
 module _ (limits : Bounds) (most ahead : ℕ) (run : List Event) (judge : LateJudge)
     (is : IsLateJudge limits most ahead run judge) (none : judge.found ≡ None) where
@@ -63,3 +63,12 @@ module _ (limits : Bounds) (most ahead : ℕ) (run : List Event) (judge : LateJu
         let all : length way.delayed.given + length judge.delay.aside.items +
         length judge.delay.waiting.events.items ≡ length run = long in omega (arith, near, few, all);
   }
+
+  -- so it is of some event
+  pub late_near : (k : ℕ) × IsExplainedUpTo limits run (2 * ahead + 64) k
+  late_near = (
+    judge.delay.judge.course.first + judge.delay.judge.course.seen,
+    late_explained_is (judge.delay.judge.course.first + judge.delay.judge.course.seen)
+        (explained_is limits most (reach_of ahead) way.delayed.given judge.delay.judge way.delayed.judge_of way.going)
+        (waits_is limits most (reach_of ahead) way.delayed.given judge.delay.judge way.delayed.judge_of way.going),
+  )

@@ -10,6 +10,7 @@ use Rattle.stamp_watch.specs.LateJudge.{HasFoundNothingLater, IsLateJudge}
 use Rattle.stamp_watch.specs.SoFar.{IsExplainedUpTo, open_calls}
 use Rattle.stamp_watch.specs.Verdict.{AreOfLock}
 use Rattle.stamp_watch.proofs.JudgingLate.{late_way}
+use Rattle.stamp_watch.proofs.SoFarLate.{late_near}
 use Rattle.stamped_watch.specs.declared.event_bytes.BadEvent.{BadEvent}
 use Rattle.stamped_watch.specs.declared.event_bytes.BadEvent.TheVariants as bad
 use Rattle.stamped_watch.specs.declared.finding.Finding.{Finding}
@@ -182,18 +183,22 @@ module _ (most ahead : ℕ) (fed : List ℕ) (judge : StreamJudge) (is : IsFed m
           under_way_are = under_way under.limits most ahead under.events under.judge_of;
         }
 
-    pub in_form : (length fed < 16) ⊎ IsInForm fed
+    pub in_form : (length fed < 16) ⊎ IsInForm ahead fed
     in_form = by judge.judge way
       where
-        by : (o : Option LateJudge) → IsKnown o → (length fed < 16) ⊎ IsInForm fed
+        by : (o : Option LateJudge) → IsKnown o → (length fed < 16) ⊎ IsInForm ahead fed
         by None fresh = inl (fresh_short fresh)
-        by (Some inner) under_way = inr (record {
+        by (Some inner) under_way =
+          let near = late_near under_way.limits most ahead under_way.events inner under_way.judge_of under_way.none in
+          inr (record {
           limits = under_way.limits;
           events = under_way.events;
           rest = is.later;
           stream = stream_here inner under_way;
           whole = judge_whole under_way.limits most ahead under_way.events inner under_way.judge_of under_way.none;
           short = short;
+          place = near.0;
+          explained = near.1;
         })
 
   -- what is found so far

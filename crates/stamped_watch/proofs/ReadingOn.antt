@@ -1,5 +1,5 @@
 -- One read more of a stream.
-use Rattle.std.proofs.Common.{ℕ, ◌≡◌, ◌↔◌, ◌-◌, true, false, List, [], ◌∷◌, ◌++◌, length, Option, Result, Ok}
+use Rattle.std.proofs.Common.{ℕ, ◌≡◌, ◌↔◌, ◌-◌, true, false, List, [], ◌∷◌, ◌++◌, length, Option, None, Result, Ok}
 use Rattle.std.proofs.Common.{Err, refl, sym, ◌∙◌, ap, subst, arith, inl, inr, append-nil, append_assoc, IsErrAnd}
 use Rattle.std.specs.Prelude.{drop, is_err, take}
 use Rattle.std.specs.Io.KnownBytes.{Consumes, IsAtEnd}
@@ -16,8 +16,8 @@ use Rattle.stamp_cli.specs.declared.faults.ServeFault.TheVariants.{Memory, ReadF
 use Rattle.stamp_cli.proofs.MadeSoFar.{all_taken, fails_of_none, last_tells, none_passes, taken_with_last}
 use Rattle.stamped_watch.specs.declared.finding.Finding.{Finding}
 use Rattle.stamped_watch.specs.declared.orders.Watching.{Watching}
-use Rattle.stamped_watch.specs.Finding.{IsFindingOf, IsFoundOf}
-use Rattle.stamped_watch.specs.Served.{HasReadOn, IsFoundOfSource}
+use Rattle.stamped_watch.specs.Finding.{IsFindingOf, IsFoundOf, IsSoFar}
+use Rattle.stamped_watch.specs.Served.{HasReadOn, IsFoundOfSource, IsReadInNeed}
 
 module _ (left mid left' : Option (List ℕ)) (old before new : Results) (bytes more : List ℕ) (one : Result ℕ Error)
     (so_far : Makes old before (length bytes)) (took : Consumes left mid bytes) (added : new ≡ before ++ one ∷ [])
@@ -48,23 +48,38 @@ module _ (left mid left' : Option (List ℕ)) (old before new : Results) (bytes 
       front : take (length (so_far.made ++ one ∷ []) - 1) (so_far.made ++ one ∷ []) ≡ so_far.made
       front = ap (λ (n : ℕ). take n (so_far.made ++ one ∷ [])) low ∙ take-append_seam so_far.made (one ∷ [])
 
+  in_need : (asked : Watching) → IsSoFar asked.most asked.ahead bytes None → IsReadInNeed asked old new (bytes ++ more)
+  in_need asked going = record {
+    earlier = before;
+    last = one;
+    reads_are = added;
+    before = bytes;
+    after = more;
+    bytes_are = refl;
+    count = sym (all_taken old before (length bytes) so_far);
+    so_far = going;
+  }
+
   -- something is found of all bytes
-  pub found_of_all : (asked : Watching) (finding : Finding) → IsFoundOf asked.most asked.ahead (bytes ++ more) finding →
-      IsFoundOfSource asked left left' old new finding
-  found_of_all asked finding found = record {
+  pub found_of_all : (asked : Watching) (finding : Finding) → IsSoFar asked.most asked.ahead bytes None →
+      IsFoundOf asked.most asked.ahead (bytes ++ more) finding → IsFoundOfSource asked left left' old new finding
+  found_of_all asked finding going found = record {
     bytes = bytes ++ more;
     took = all_took;
     count = all_counted;
+    needed = in_need asked going;
     found = inl found;
   }
 
   -- or at the end
-  pub found_at_end : (asked : Watching) (finding : Finding) → one ≡ Ok 0 → IsAtEnd left' →
-      IsFindingOf asked.most asked.ahead (bytes ++ more) finding → IsFoundOfSource asked left left' old new finding
-  found_at_end asked finding none at_end found = record {
+  pub found_at_end : (asked : Watching) (finding : Finding) → IsSoFar asked.most asked.ahead bytes None → one ≡ Ok 0 →
+      IsAtEnd left' → IsFindingOf asked.most asked.ahead (bytes ++ more) finding →
+      IsFoundOfSource asked left left' old new finding
+  found_at_end asked finding going none at_end found = record {
     bytes = bytes ++ more;
     took = all_took;
     count = all_counted;
+    needed = in_need asked going;
     found = inr (record { last = (so_far.made, last); at_end = at_end; found = found });
   }
     where

@@ -1,5 +1,5 @@
 -- What is found of a stream.
-use Rattle.std.specs.Prelude.{ℕ, ◌≡◌, ◌≢◌, ◌-◌, ◌^◌, ◌<◌, ◌≤◌, ◌⊎◌, ◌++◌, Bool, true, false, List, [], length, take}
+use Rattle.std.specs.Prelude.{ℕ, ◌≡◌, ◌≢◌, ◌+◌, ◌-◌, ◌*◌, ◌^◌, ◌<◌, ◌≤◌, ◌⊎◌, ◌++◌, Bool, true, false, List, [], length, take}
 use Rattle.std.specs.Prelude.{Option, Some, None}
 use Rattle.std.specs.List.{count_by}
 use Rattle.stamp_core.specs.Limits.{Bounds}
@@ -13,6 +13,7 @@ use Rattle.stamp_watch.specs.declared.verdict.Verdict.TheVariants as verdict
 use Rattle.stamp_watch.specs.Form.{is_busy_after}
 use Rattle.stamp_watch.specs.Late.{IsLateFound, IsLateVerdict}
 use Rattle.stamp_watch.specs.Run.{AreExplained}
+use Rattle.stamp_watch.specs.SoFar.{IsExplainedUpTo}
 use Rattle.stamp_watch.specs.Verdict.{AreOfLock}
 use Rattle.stamped_watch.specs.declared.event_bytes.BadEvent.{BadEvent}
 use Rattle.stamped_watch.specs.declared.finding.Finding.{Finding}
@@ -121,19 +122,22 @@ IsFindingOf most ahead bytes found.Full = AreTooMany bytes
 abbrev pub IsFoundOf : ℕ → ℕ → List ℕ → Finding → Type 0
 IsFoundOf most ahead bytes finding = (more : List ℕ) → IsFindingOf most ahead (bytes ++ more) finding
 
--- as far as it came the stream is a header and events in form, and a rest of fewer than 16 bytes
-pub record IsInForm (bytes : List ℕ) : Type 0 where
+-- as far as it came the stream is a header and events in form, and a rest of fewer than 16 bytes; all but the last
+-- events are explained: no more than twice those that are looked at, and 64
+pub record IsInForm (ahead : ℕ) (bytes : List ℕ) : Type 0 where
   pub limits : Bounds
   pub events : List Event
   pub rest : List ℕ
   pub stream : IsStream bytes limits events rest
   pub whole : AreOfLock events
   pub short : length rest < 16
+  pub place : ℕ
+  pub explained : IsExplainedUpTo limits events (2 * ahead + 64) place
 
--- what is found once these bytes came; or the stream is in form so far
+-- what is found once these bytes came; or the stream is in form so far, and all but its last events are explained
 abbrev pub IsSoFar : ℕ → ℕ → List ℕ → Option Finding → Type 0
 IsSoFar most ahead bytes (Some finding) = IsFoundOf most ahead bytes finding
-IsSoFar most ahead bytes None = (length bytes < 16) ⊎ IsInForm bytes
+IsSoFar most ahead bytes None = (length bytes < 16) ⊎ IsInForm ahead bytes
 
 -- the verdict says that events in form are not all explained
 abbrev pub IsOfForm : Verdict → Type 0

@@ -1,5 +1,6 @@
 -- How the program serves an order.
-use Rattle.std.specs.Prelude.{ℕ, ◌≡◌, ◌-◌, ◌++◌, ◌⊎◌, List, [], ◌∷◌, length, take, Option, Result, Ok, Err}
+use Rattle.std.specs.Prelude.{ℕ, ◌≡◌, ◌-◌, ◌++◌, ◌⊎◌, List, [], ◌∷◌, length, take, Option, None, Result, Ok, Err}
+use Rattle.std.specs.declared.io.Error.{Error}
 use Rattle.std.specs.Io.KnownBytes.{Consumes, IsAtEnd}
 use Rattle.stamp_cli.specs.Results.{Results, EachTakes, FailsWithARead, LastTakesNone, taken_since}
 use Rattle.stamp_cli.specs.Serving.{HasWritten, WritesAnswer, RefusesAsDue, WritesFront}
@@ -13,7 +14,7 @@ use Rattle.stamped_watch.specs.declared.finding.Finding.{Finding}
 use Rattle.stamped_watch.specs.declared.orders.Watching.{Watching}
 use Rattle.stamped_watch.specs.declared.orders.WatchOrder.{WatchOrder}
 use Rattle.stamped_watch.specs.declared.orders.WatchOrder.TheVariants.{Help, Watch}
-use Rattle.stamped_watch.specs.Finding.{IsFindingOf, IsFoundOf}
+use Rattle.stamped_watch.specs.Finding.{IsFindingOf, IsFoundOf, IsSoFar}
 use Rattle.stamped_watch.specs.FindingText.{finding_text, finding_verdict}
 use Rattle.stamped_watch.specs.Note.{IsCallTold, IsNote, text_in}
 use Rattle.stamped_watch.specs.Possible.{ArePossibleFor}
@@ -37,12 +38,25 @@ pub record IsFoundAtEnd (asked : Watching) (left : Option (List ℕ)) (old new :
   pub at_end : IsAtEnd left
   pub found : IsFindingOf asked.most asked.ahead bytes finding
 
--- this is found of the bytes that the reads took, whatever comes later, or at the end
+-- before the last read nothing was found of the bytes: they were fewer than 16, or all but their last events were
+-- explained
+pub record IsReadInNeed (asked : Watching) (old new : Results) (bytes : List ℕ) : Type 0 where
+  pub earlier : Results
+  pub last : Result ℕ Error
+  pub reads_are : new ≡ earlier ++ last ∷ []
+  pub before : List ℕ
+  pub after : List ℕ
+  pub bytes_are : bytes ≡ before ++ after
+  pub count : length before ≡ taken_since old earlier
+  pub so_far : IsSoFar asked.most asked.ahead before None
+
+-- this is found of the bytes that the reads took, whatever comes later, or at the end; each read was made in need
 pub record IsFoundOfSource (asked : Watching) (left left' : Option (List ℕ)) (old new : Results)
     (finding : Finding) : Type 0 where
   pub bytes : List ℕ
   pub took : Consumes left left' bytes
   pub count : length bytes ≡ taken_since old new
+  pub needed : IsReadInNeed asked old new bytes
   pub found : IsFoundOf asked.most asked.ahead bytes finding ⊎ IsFoundAtEnd asked left' old new bytes finding
 
 -- so it is answered, and nothing is refused but for memory and the ends

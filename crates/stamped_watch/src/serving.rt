@@ -199,10 +199,14 @@ pub(crate) fn serve_asked<S: Source, K: Sink, T: Sink, W: Sink>(
     told: &mut T,
     witness: &mut W,
 ) -> Result<Answered, ServeFault>
-    ensures { HasWatched asked
+    ensures watched { HasWatched asked
         (record { left = S.left source.old; reads = S.reads source.old; sent = K.sent sink.old; writes = K.writes sink.old })
         (record { left = S.left source.new; reads = S.reads source.new; sent = K.sent sink.new; writes = K.writes sink.new })
         result }
+    ensures told { HasTold asked (S.left source.old) (S.left source.new) (S.reads source.old) (S.reads source.new)
+        (T.sent told.old) (T.sent told.new) (T.writes told.old) (T.writes told.new) result }
+    ensures shown { HasShown asked (S.left source.old) (S.left source.new) (S.reads source.old) (S.reads source.new)
+        (W.sent witness.old) (W.sent witness.new) (W.writes witness.old) (W.writes witness.new) }
 {
     serve_stream(alloc, asked, source, sink, told, witness)
 }

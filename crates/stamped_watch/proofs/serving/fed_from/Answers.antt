@@ -12,6 +12,7 @@ use Rattle.stamped_watch.specs.Finding.{IsFindingOf, IsSoFar}
 use Rattle.stamped_watch.specs.StreamJudge.{KeepsFed}
 use Rattle.stamped_watch.proofs.ReadingOn.{all_counted, all_took, found_at_end, found_of_all, has_read_on, makes_none}
 use Rattle.stamped_watch.proofs.ReadingOn.{not_of_reading}
+use Rattle.stamped_watch.proofs.Ending.{in_form}
 use Rattle.stamped_watch.proofs.Streaming.{fed_short}
 use Rattle.stamped_watch.proofs.Taking.{keeps_fed}
 use Rattle.stamped_watch.proofs.LinesTold.{all_of_err, has_told, tells_more, told_at_first, told_to_end}
@@ -80,7 +81,7 @@ returns-then-taken-eq0-clause-found g c =
     found_at_end _ (g.S.Source.left c.source.source) _ _ (g.S.Source.reads c.source.source) _ inv.bytes
     (take c.in-Ok.taken c.read.new.buffer) _ inv.reads inv.took c.in-Ok.ensures.kept c.in-Ok.ensures.bytes.0
     (sym c.in-Ok.ensures.bound.1) c.args.asked c.in_ok-end.field-0
-    (ap Ok c.if-taken-eq0.true) (c.in-Ok.ensures.bytes.1 c.if-taken-eq0.true (grind (arith, common_steps)))
+    (in_form c.args.asked.most c.args.asked.ahead inv.bytes c.source.judge inv.fed inv.none) (ap Ok c.if-taken-eq0.true) (c.in-Ok.ensures.bytes.1 c.if-taken-eq0.true (grind (arith, common_steps)))
     (subst (λ (xs : List ℕ). IsFindingOf c.args.asked.most c.args.asked.ahead xs c.in_ok-end.field-0)
     (sym (append-nil inv.bytes) ∙ ap (λ (xs : List ℕ). inv.bytes ++ xs) (sym none))
     (c.in_ok-end.ensures.found c.args.asked.most c.args.asked.ahead inv.bytes inv.fed))
@@ -121,6 +122,7 @@ returns-in-Some-clause-found g c =
     found_of_all _ (g.S.Source.left c.source.source) _ _ (g.S.Source.reads c.source.source) _ inv.bytes
     (take c.in-Ok.taken c.read.new.buffer) _ inv.reads inv.took c.in-Ok.ensures.kept c.in-Ok.ensures.bytes.0
     (sym c.in-Ok.ensures.bound.1) c.args.asked c.in-Some.finding
+    (in_form c.args.asked.most c.args.asked.ahead inv.bytes c.source.judge inv.fed inv.none)
     (subst (λ (o : Option Finding). IsSoFar c.args.asked.most c.args.asked.ahead
     (inv.bytes ++ take c.in-Ok.taken c.read.new.buffer) o) c.in-Some.is
     (c.in_ok-finding.ensures.found c.args.asked.most c.args.asked.ahead inv.bytes inv.fed))
