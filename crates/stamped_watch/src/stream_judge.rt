@@ -27,7 +27,8 @@ use stamp_watch::{EndedCall, Event, LateJudge, StreamEvent};
 use std::alloc::{AllocError, Global};
 
 /// Judges a stream of a lock's events while its bytes come, in pieces of any length. It judges as a `LateJudge` does:
-/// an event is looked at once it is known how each call ends that began before it, or that a call is open for long.
+/// an event waits as long as a call before it hasn't ended, unless that is open for long, and is looked at once it is
+/// known how each call ends that began before it.
 /// Once something is found of the stream it looks no further. It keeps few events, and fewer than 16 bytes. After an
 /// `Err` it is of no more use.
 #[derive(Drop)]
