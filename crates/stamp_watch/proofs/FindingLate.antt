@@ -100,6 +100,7 @@ module _ (limits : Bounds) (run handed : List Event) (most ahead first : ℕ) (w
     cut = has.cut;
     after = has.after;
     within = has.within;
+    half = has.half;
     place = has.place;
     before = has.before;
     too_many = subst (λ (xs : List Event). AreTooMany limits has.place xs (drop has.place (take has.cut (run ++ more)))
