@@ -16,10 +16,10 @@ use Rattle.stamp_watch.specs.declared.verdict.Verdict.TheVariants as verdict
 use Rattle.stamp_watch.specs.declared.verdict.Why.TheVariants as cause
 use Rattle.stamp_watch.specs.Delay.{AreLate, IsFirstIfAny, IsHandedOn, IsShown, IsShownIfAny}
 use Rattle.stamp_watch.specs.Judging.{IsFound}
-use Rattle.stamp_watch.specs.Late.{BeginsLater, HasGivenUp, IsLateFound, LongCallsBeginLater, OneIsUnshown, RestsOn}
-use Rattle.stamp_watch.specs.Late.{TellsOf}
+use Rattle.stamp_watch.specs.Late.{BeginsLater, HasGivenUp, IsLate, IsLateFound, LongCallsBeginLater, OneIsUnshown}
+use Rattle.stamp_watch.specs.Late.{RestsOn, TellsOf}
 use Rattle.stamp_watch.specs.Run.{AreExplained}
-use Rattle.stamp_watch.specs.Verdict.{AreOfLock, AreTooMany, IsOpenFor, IsVerdict}
+use Rattle.stamp_watch.specs.Verdict.{AreOfLock, AreTooMany, IsOpenFor, IsVerdict, NoMoreAreOfLock}
 use Rattle.stamp_watch.specs.inner.Delay.{IsFindingOf, IsLateRest, IsSettled, IsSettledFor, RestsBefore}
 use Rattle.stamp_watch.proofs.BeginningLater.{later_as_long, later_explains_no_more}
 use Rattle.stamp_watch.proofs.Forming.{next_of_lock, of_lock_up_to}
@@ -100,6 +100,7 @@ module _ (limits : Bounds) (run handed : List Event) (most ahead first : ℕ) (w
     cut = has.cut;
     after = has.after;
     within = has.within;
+    half = has.half;
     place = has.place;
     before = has.before;
     too_many = subst (λ (xs : List Event). AreTooMany limits has.place xs (drop has.place (take has.cut (run ++ more)))
@@ -120,28 +121,29 @@ module _ (limits : Bounds) (run handed : List Event) (most ahead first : ℕ) (w
   rests_before (verdict.Broken k) not rests has more = absurd rests
 
 -- the judge was not given the run as it stands
-late_found : (limits : Bounds) (run handed : List Event) (most ahead first k : ℕ) (v : Verdict) → AreOfLock run →
-    LongCallsBeginLater run (ahead - 64) run handed → IsVerdict limits handed most None v → IsPlace limits run k →
-    TellsOf v k →
-    RestsOn v first → IsOpenFor run first (ahead - 64) → first < length run →
-    ((more : List Event) → HasGivenUp v ⊎ OneIsUnshown limits (run ++ more) (ahead - 64) (k + 1)) →
-    IsLateFound limits run most ahead (finding.Late k)
-late_found limits run handed most ahead first k v whole later has place tells rests opened less why more = record {
-  whole = subst AreOfLock (sym (take-append-le k run more place.within)) (of_lock_up_to k run whole);
-  explained = subst (AreExplained limits) (sym (take-append-le k run more place.within)) place.explained;
-  late = first;
-  open_for = open_still run more first (ahead - 64) less opened;
-  place = length run;
-  before = less;
-  handed = handed;
-  later = subst (λ (xs : List Event). LongCallsBeginLater (run ++ more) (ahead - 64) xs handed)
-      (sym (take-append_seam run more)) (longs_still run more (ahead - 64) run handed later);
-  verdict = v;
-  has = has;
-  tells = tells;
-  rests = rests;
-  why = why more;
-}
+late_with : (limits : Bounds) (run more handed : List Event) (most ahead first k end : ℕ) (v : Verdict) →
+    AreOfLock run → length run ≤ end → NoMoreAreOfLock (run ++ more) end →
+    LongCallsBeginLater (run ++ more) (ahead - 64) (take end (run ++ more)) handed →
+    IsVerdict limits handed most None v → IsPlace limits run k → TellsOf v k → RestsOn v first →
+    IsOpenFor run first (ahead - 64) → first < length run →
+    HasGivenUp v ⊎ OneIsUnshown limits (run ++ more) (ahead - 64) (k + 1) → IsLate limits (run ++ more) most ahead k
+late_with limits run more handed most ahead first k end v whole far over later has place tells rests opened less
+    why = record {
+      whole = subst AreOfLock (sym (take-append-le k run more place.within)) (of_lock_up_to k run whole);
+      explained = subst (AreExplained limits) (sym (take-append-le k run more place.within)) place.explained;
+      late = first;
+      open_for = open_still run more first (ahead - 64) less opened;
+      place = end;
+      before = omega (arith, less, far);
+      up_to = over;
+      handed = handed;
+      later = later;
+      verdict = v;
+      has = has;
+      tells = tells;
+      rests = rests;
+      why = why;
+    }
 
 module _ (limits : Bounds) (most ahead : ℕ) (run given aside waiting : List Event) (first : Option ℕ) (passed : ℕ)
     (whole : AreOfLock run) (is : IsHandedOn (ahead - 64) run given aside waiting first passed) (shown : Option ℕ)
@@ -150,6 +152,24 @@ module _ (limits : Bounds) (most ahead : ℕ) (run given aside waiting : List Ev
   longs_here : LongCallsBeginLater run (ahead - 64) run (given ++ (aside ++ waiting))
   longs_here = subst (λ (xs : List Event). LongCallsBeginLater run (ahead - 64) xs (given ++ (aside ++ waiting)))
       (sym is.run_is) (is.later waiting)
+
+  -- more events may come behind those that wait
+  longs_on : (more : List Event) → LongCallsBeginLater (run ++ more) (ahead - 64)
+      (take (length (run ++ more)) (run ++ more)) (given ++ (aside ++ (waiting ++ more)))
+  longs_on more = subst
+      (λ (xs : List Event). LongCallsBeginLater (run ++ more) (ahead - 64) xs (given ++ (aside ++ (waiting ++ more))))
+      (sym (append_assoc is.past waiting more) ∙ ap (λ (xs : List Event). xs ++ more) (sym is.run_is) ∙
+      sym (take-length (run ++ more)))
+      (longs_still run more (ahead - 64) (is.past ++ (waiting ++ more)) (given ++ (aside ++ (waiting ++ more)))
+      (is.later (waiting ++ more)))
+
+  -- or the run is looked at up to there
+  longs_up_to : (more : List Event) → LongCallsBeginLater (run ++ more) (ahead - 64)
+      (take (length run) (run ++ more)) (given ++ (aside ++ waiting))
+  longs_up_to more = subst
+      (λ (xs : List Event). LongCallsBeginLater (run ++ more) (ahead - 64) xs (given ++ (aside ++ waiting)))
+      (sym (take-append_seam run more))
+      (longs_still run more (ahead - 64) run (given ++ (aside ++ waiting)) longs_here)
 
   later_here : BeginsLater run (given ++ (aside ++ waiting))
   later_here = later_of_long run (ahead - 64) run (given ++ (aside ++ waiting)) longs_here
@@ -252,8 +272,10 @@ module _ (limits : Bounds) (most ahead : ℕ) (run given aside waiting : List Ev
                 (let less : n < length run = some.before in omega (arith, less)) some.same v not_explained rests
                 (found_now limits given most None v found)
             either (inr is_settled) = settled_found v found is_settled
-        by (Some n) some (finding.Late k) both = late_found limits run (given ++ (aside ++ waiting)) most ahead n k v
-            whole longs_here (found (aside ++ waiting))
+        by (Some n) some (finding.Late k) both = λ more. late_with limits run more
+            (given ++ (aside ++ (waiting ++ more))) most ahead n k (length (run ++ more)) v whole
+            (let long : length (run ++ more) ≡ length run + length more = length-append run more in
+            omega (arith, long)) (λ less. absurd (omega (arith, less))) (longs_on more) (found (aside ++ (waiting ++ more)))
             (place_here k (place_given k (place_of limits given most ahead k v (found (stray ∷ [])) both.0))) both.0
             both.1 some.open_for some.before (why_late v k both.0 both.2 (λ same.
             let within : k + 1 ≤ length given = cut_within given (k + 1) (subst (λ (w : Verdict).
@@ -261,7 +283,7 @@ module _ (limits : Bounds) (most ahead : ℕ) (run given aside waiting : List Ev
             let long : length (given ++ (aside ++ waiting)) ≡ length given + length (aside ++ waiting) =
             length-append given (aside ++ waiting) in
             let all : length (given ++ (aside ++ waiting)) ≡ length run = long_here in
-            omega (arith, within, long, all)))
+            omega (arith, within, long, all)) more)
 
   -- what is found where all was given
   module _ (v : Verdict) (rest : IsRest limits (given ++ (aside ++ waiting)) most None v) where
@@ -319,14 +341,16 @@ module _ (limits : Bounds) (most ahead : ℕ) (run given aside waiting : List Ev
             either (inl rests) = rest_before n (let less : n < length run = some.before in omega (arith, less))
                 some.given_more some.same v has_rest rests
             either (inr is_settled) = settled_rest v rest is_settled
-        by (Some n) some (finding.Late k) both = late_found limits run (given ++ (aside ++ waiting)) most ahead n k v
-            whole longs_here has_rest (place_here k (place_of limits (given ++ (aside ++ waiting)) most ahead k v
+        by (Some n) some (finding.Late k) both = λ later over. late_with limits run later
+            (given ++ (aside ++ waiting)) most ahead n k (length run) v whole (omega arith) over (longs_up_to later)
+            has_rest (place_here k (place_of limits (given ++ (aside ++ waiting)) most ahead k v
             (with_stray v both.0 rest) both.0)) both.0 both.1 some.open_for some.before
             (why_late v k both.0 both.2 (λ same.
             let within : k + 1 ≤ length (given ++ (aside ++ waiting)) = cut_within (given ++ (aside ++ waiting)) (k + 1)
             (subst (λ (w : Verdict). IsVerdict limits ((given ++ (aside ++ waiting)) ++ stray ∷ []) most None w) same
             (with_stray v both.0 rest)).0 in
-            let all : length (given ++ (aside ++ waiting)) ≡ length run = long_here in omega (arith, within, all)))
+            let all : length (given ++ (aside ++ waiting)) ≡ length run = long_here in omega (arith, within, all))
+            later)
           where
             with_stray : (w : Verdict) → TellsOf w k → IsRest limits (given ++ (aside ++ waiting)) most None w →
                 IsVerdict limits ((given ++ (aside ++ waiting)) ++ stray ∷ []) most None w

@@ -1,6 +1,6 @@
 -- What is found of events that are in form, and of a run of which they are the first.
-use Rattle.std.proofs.Common.{ℕ, ◌≡◌, ◌≢◌, ◌+◌, ◌<◌, ◌≤◌, List, [], ◌∷◌, ◌++◌, length, get_or, Option, refl, sym, ◌∙◌}
-use Rattle.std.proofs.Common.{ap, inr, zero-add}
+use Rattle.std.proofs.Common.{ℕ, ◌≡◌, ◌≢◌, ◌+◌, ◌-◌, ◌/◌, ◌<◌, ◌≤◌, List, [], ◌∷◌, ◌++◌, length, get_or, Option}
+use Rattle.std.proofs.Common.{refl, sym, ◌∙◌, ap, inr, zero-add}
 use Rattle.std.proofs.Common.{subst, arith, add_assoc, add-zero, append_assoc, append-nil}
 use Rattle.std.specs.Prelude.{take, drop, IfOk, Result, Ok, Err}
 use Rattle.std.proofs.lemmas.List.{take_all, take-append-drop, take-append-le, take-take, drop-drop, drop_at}
@@ -158,11 +158,11 @@ module _ (limits : Bounds) (events : List Event) where
         cut : take (low + 1) (events ++ more) ≡ take (low + 1) events
         cut = take-append-le (low + 1) events more (omega (arith, next, within))
 
-    pub found_within : (low high cut place : ℕ) → low < cut → cut < high → place < cut →
-        IsBetween limits events low high →
+    pub found_within : (low high cut place : ℕ) → low < cut → cut < high → cut ≡ low + (high - low) / 2 →
+        place < cut → IsBetween limits events low high →
         AreTooMany limits place (take place events) (drop place (take cut events)) most →
         IsFound limits events most ahead (StuckWithin low high)
-    found_within low high cut place after less before between many more = record {
+    found_within low high cut place after less half before between many more = record {
       whole = subst AreOfLock (sym (take-append-le high events more between.within))
           (of_lock_up_to high events whole);
       explained = subst (AreExplained limits) (sym (take-append-le low events more (omega (arith, apart, within))))
@@ -172,6 +172,7 @@ module _ (limits : Bounds) (events : List Event) where
       cut = cut;
       after = after;
       within = less;
+      half = half;
       place = place;
       before = before;
       too_many = subst (λ (past : List Event).
@@ -259,15 +260,15 @@ module _ (n k : ℕ) (events : List Event) (base : Watch) where
     }
 
     pub search_too_many : (middle most place : ℕ) (ahead : Option ℕ) (start : Watch) (answer : Outcome) →
-        low < middle → middle < high →
+        low < middle → middle < high → middle ≡ low + (high - low) / 2 →
         answer ≡ TooMany place → IsCopy base start →
         ((limits : Bounds) (past : List Event) → IsJudging limits n past (take middle events) start →
         IsOutcome limits n past (take middle events) most answer) → (limits : Bounds) (past : List Event) →
         IsBase limits n k past events base → IsStuckBehind limits past events k →
         IsFound limits (past ++ events) most ahead (StuckWithin (n + low) (n + high))
-    search_too_many middle most place ahead start answer more less found same is limits past from stuck =
+    search_too_many middle most place ahead start answer more less half found same is limits past from stuck =
         found_within limits (past ++ events) most ahead (base_whole limits past from) (n + low) (n + high) (n + middle)
-        (n + place) (omega (arith, more)) (omega (arith, less)) (omega (arith, below))
+        (n + place) (omega (arith, more)) (omega (arith, less)) (omega (arith, half)) (omega (arith, below))
         (searching.between limits past from stuck)
         (subst (λ (before : List Event). AreTooMany limits (n + place) before
         (drop (n + place) (take (n + middle) (past ++ events))) most)

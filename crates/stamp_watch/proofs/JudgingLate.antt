@@ -11,7 +11,7 @@ use Rattle.stamp_watch.specs.declared.late_verdict.LateVerdict.TheVariants as fi
 use Rattle.stamp_watch.specs.declared.late.LateJudge.{LateJudge}
 use Rattle.stamp_watch.specs.Delay.{IsDelayed, IsSmallDelay}
 use Rattle.stamp_watch.specs.Judging.{AreBusyLanes}
-use Rattle.stamp_watch.specs.Late.{IsLateVerdict, IsLateFound}
+use Rattle.stamp_watch.specs.Late.{IsLate, IsLateVerdict, IsLateFound}
 use Rattle.stamp_watch.specs.LateJudge.{IsLateJudge, IsLateUnderWay}
 use Rattle.stamp_watch.specs.PossibleLate.{KeepsLater}
 use Rattle.stamp_watch.specs.Verdict.{AreOfLock}
@@ -22,7 +22,7 @@ use Rattle.stamp_watch.proofs.Closeness.{few_aside}
 use Rattle.stamp_watch.proofs.Forming.{busy_lanes_then, form_first, of_lock_on}
 use Rattle.stamp_watch.proofs.HandingOn.{passed_length}
 use Rattle.stamp_watch.proofs.PossibleLate.{keeps_beside, keeps_of}
-use Rattle.stamp_watch.proofs.Running.{broken_found, rest_now}
+use Rattle.stamp_watch.proofs.Running.{broken_found, over_broken, over_here, rest_now}
 
 small_of : (limits : Bounds) (most ahead : ℕ) (run : List Event) (delay : Delay) →
     IsDelayed limits most ahead run delay → length delay.waiting.events.items ≤ ahead + 1 → IsSmallDelay ahead delay
@@ -92,7 +92,8 @@ finding_now limits run most ahead f found =
 pub late_rest_now : (limits : Bounds) (run : List Event) (most ahead : ℕ) (f : LateVerdict) →
     IsLateRest limits run most ahead f → IsLateVerdict limits run most ahead f
 late_rest_now limits run most ahead (finding.Is v) rest = rest_now limits run most None v rest
-late_rest_now limits run most ahead (finding.Late k) rest = finding_now limits run most ahead (finding.Late k) rest
+late_rest_now limits run most ahead (finding.Late k) rest =
+    subst (λ (xs : List Event). IsLate limits xs most ahead k) (append-nil run) (rest [] (over_here run))
 
 module _ (limits : Bounds) (most ahead : ℕ) (run : List Event) (judge : LateJudge)
     (is : IsLateJudge limits most ahead run judge) where
@@ -160,5 +161,7 @@ module _ (limits : Bounds) (most ahead : ℕ) (run : List Event) (judge : LateJu
         IsLateFound limits (run ++ e ∷ []) most ahead (broken_off_there f number)
     late_broken e number at not_there (finding.Is v) rest = broken_found limits run most None judge.busy number e
         (at ∙ run_long) late_way.lanes not_there v rest
-    late_broken e number at not_there (finding.Late k) rest =
-        found_then limits run most ahead e (finding.Late k) rest
+    late_broken e number at not_there (finding.Late k) rest = λ more.
+        subst (λ (xs : List Event). IsLate limits xs most ahead k) (sym (append_assoc run (e ∷ []) more))
+        (rest (e ∷ more) (over_broken limits run most None judge.busy number e (at ∙ run_long) late_way.lanes not_there
+        more))

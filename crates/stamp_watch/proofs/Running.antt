@@ -441,7 +441,7 @@ rest_found limits run most ahead (verdict.Undecided k cause.TooFar) found = foun
 rest_found limits run most ahead (verdict.Broken k) found = found
 
 -- no event comes
-over_here : (run : List Event) → IsOver run []
+pub over_here : (run : List Event) → IsOver run []
 over_here run less whole =
     let same : length (run ++ []) ≡ length run = ap length (append-nil run) in omega (arith, less, same)
 
@@ -478,6 +478,9 @@ module _ (limits : Bounds) (run : List Event) (most : ℕ) (ahead : Option ℕ) 
   it_follows more = ap (λ (n : ℕ). take (n + 1) (run ++ e ∷ more)) (sym at) ∙
       ap (take (place + 1)) (sym (append_assoc run (e ∷ []) more)) ∙ cut_behind_it more
 
+  pub over_broken : (more : List Event) → IsOver run (e ∷ more)
+  over_broken more less whole = of_lock_not run busy e lanes not_there (subst AreOfLock (it_follows more) whole)
+
   pub broken_found : (v : Verdict) → IsRest limits run most ahead v →
       IsFound limits (run ++ e ∷ []) most ahead (broken_off v place)
   broken_found verdict.Explained rest more = (
@@ -492,8 +495,7 @@ module _ (limits : Bounds) (run : List Event) (most : ℕ) (ahead : Option ℕ) 
       rest more
   broken_found (verdict.Undecided k cause.TooMany) rest more =
       subst (λ (xs : List Event). IsVerdict limits xs most ahead (verdict.Undecided k cause.TooMany))
-      (sym (append_assoc run (e ∷ []) more)) (rest (e ∷ more)
-      (λ less whole. of_lock_not run busy e lanes not_there (subst AreOfLock (it_follows more) whole)))
+      (sym (append_assoc run (e ∷ []) more)) (rest (e ∷ more) (over_broken more))
   broken_found (verdict.Undecided k cause.TooFar) rest more = found_later limits run most ahead
       (verdict.Undecided k cause.TooFar) e rest more
   broken_found (verdict.Broken k) rest more = found_later limits run most ahead (verdict.Broken k) e rest more

@@ -12,7 +12,7 @@ use Rattle.stamp_watch.specs.Ahead.{IsSpared, lane_of}
 use Rattle.stamp_watch.specs.Form.{AreInForm}
 use Rattle.stamp_watch.specs.Issued.{LosesNothing}
 use Rattle.stamp_watch.specs.Run.{AreExplained}
-use Rattle.stamp_watch.specs.Verdict.{AreOfLock, IsOpenFor, IsVerdict}
+use Rattle.stamp_watch.specs.Verdict.{AreOfLock, IsOpenFor, IsVerdict, NoMoreAreOfLock}
 use Rattle.stamp_watch.specs.Waiting.{count_of}
 
 -- one call begins one event later; that is of another lane
@@ -99,9 +99,9 @@ pub record OneIsUnshown (limits : Bounds) (run : List Event) (window place : ℕ
   pub is : IsUnshown limits run late window place
 
 -- The run is explained before the event. A call that begins at an event before a place is open for all but 64 of the
--- events that are looked at. The run up to that place, with such calls begun later, has a verdict that rests on that
--- call and tells of the event. It was given up; or up to the event it is not shown of such a call that nothing is
--- lost.
+-- events that are looked at. The run up to that place, which is its end or where the next event may not come, with
+-- such calls begun later, has a verdict that rests on that call and tells of the event. It was given up; or up to the
+-- event it is not shown of such a call that nothing is lost.
 pub record IsLate (limits : Bounds) (run : List Event) (most ahead k : ℕ) : Type 0 where
   pub whole : AreOfLock (take k run)
   pub explained : AreExplained limits (take k run)
@@ -109,6 +109,7 @@ pub record IsLate (limits : Bounds) (run : List Event) (most ahead k : ℕ) : Ty
   pub open_for : IsOpenFor run late (ahead - 64)
   pub place : ℕ
   pub before : late < place
+  pub up_to : NoMoreAreOfLock run place
   pub handed : List Event
   pub later : LongCallsBeginLater run (ahead - 64) (take place run) handed
   pub verdict : Verdict

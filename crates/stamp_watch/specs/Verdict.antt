@@ -1,5 +1,5 @@
 -- What is found of a run that is judged from its events.
-use Rattle.std.specs.Prelude.{ℕ, ◌≡◌, ◌⊎◌, ◌+◌, ◌<◌, ◌≤◌, Bool, true, false, List, ◌∷◌, length, take, drop}
+use Rattle.std.specs.Prelude.{ℕ, ◌≡◌, ◌⊎◌, ◌+◌, ◌-◌, ◌/◌, ◌<◌, ◌≤◌, Bool, true, false, List, ◌∷◌, length, take, drop}
 use Rattle.std.specs.Prelude.{Option, Some, None}
 use Rattle.std.specs.List.{All}
 use Rattle.stamp_core.specs.Limits.{Bounds}
@@ -66,7 +66,7 @@ pub record IsTooManyAt (limits : Bounds) (events : List Event) (most k : ℕ) : 
   pub far : IsFarEnough events k known
   pub too_many : AreTooMany limits k (take k events) (drop k (take known events)) most
 
--- the run is stuck between two events. Of the run that ends at a place between them there are too many configurations
+-- the run is stuck between two events. Of the run that ends halfway between them there are too many configurations
 -- before some event
 pub record IsStuckWithin (limits : Bounds) (events : List Event) (most k m : ℕ) : Type 0 where
   pub whole : AreOfLock (take m events)
@@ -75,6 +75,7 @@ pub record IsStuckWithin (limits : Bounds) (events : List Event) (most k m : ℕ
   pub cut : ℕ
   pub after : k < cut
   pub within : cut < m
+  pub half : cut ≡ k + (m - k) / 2
   pub place : ℕ
   pub before : place < cut
   pub too_many : AreTooMany limits place (take place events) (drop place (take cut events)) most

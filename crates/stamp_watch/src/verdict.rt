@@ -8,8 +8,8 @@ pub enum Verdict {
     /// The run is explained before the event with this number, and not with it.
     Stuck(u64),
     /// The run is explained before the event with the first number, and is not explained before that with the second:
-    /// it is stuck at the first or between them. Just before some event more configurations than were allowed are
-    /// possible.
+    /// it is stuck at the first or between them. Of the run that ends halfway between them more configurations than
+    /// were allowed are possible just before some event.
     StuckWithin(u64, u64),
     /// The run is explained before the event with this number. For this cause it is not judged further.
     Undecided(u64, Why),

@@ -2,7 +2,7 @@
 use Rattle.std.specs.Prelude.{ℕ, ◌≡◌, ◌≢◌, ◌⊎◌, ◌↔◌, ◌+◌, ◌-◌, ◌^◌, ◌<◌, ◌≤◌, Bool, true, List, [], ◌∷◌, ◌++◌, length}
 use Rattle.std.specs.Prelude.{slice_index_or, take, Option, Some, None}
 use Rattle.stamp_core.specs.Limits.{Bounds}
-use Rattle.stamp_watch.specs.Course.{IsRest}
+use Rattle.stamp_watch.specs.Course.{IsOver, IsRest}
 use Rattle.stamp_watch.specs.Delay.{AreLate, AreNear, IsDelayed, IsHandedOn, IsShownIfAny, reach_of}
 use Rattle.stamp_watch.specs.Issued.{LosesNothing}
 use Rattle.stamp_watch.specs.Judge.{IsJudge}
@@ -20,7 +20,7 @@ use Rattle.stamp_watch.specs.declared.late_verdict.LateVerdict.TheVariants.{Is, 
 use Rattle.stamp_watch.specs.declared.online.Judge.{Judge}
 use Rattle.stamp_watch.specs.declared.verdict.Verdict.{Verdict}
 use Rattle.stamp_watch.specs.declared.verdict.Verdict.TheVariants as verdict
-use Rattle.stamp_watch.specs.Late.{IsLateFound, RestsOn, TellsOf}
+use Rattle.stamp_watch.specs.Late.{IsLate, RestsOn, TellsOf}
 
 -- so it is before this event waits, whose lane has no call aside
 pub record HasBegun (limits : Bounds) (most ahead : ℕ) (run : List Event) (e : Event) (delay : Delay) : Type 0 where
@@ -143,4 +143,5 @@ pub record HasRoomFor (n : ℕ) (judge : Judge) : Type 0 where
 -- what is found of a run that ends or breaks here
 abbrev pub IsLateRest : Bounds → List Event → ℕ → ℕ → LateVerdict → Type 0
 IsLateRest limits run most ahead (Is verdict) = IsRest limits run most None verdict
-IsLateRest limits run most ahead (Late k) = IsLateFound limits run most ahead (Late k)
+IsLateRest limits run most ahead (Late k) = (later : List Event) → IsOver run later →
+    IsLate limits (run ++ later) most ahead k

@@ -23,7 +23,7 @@ returns-in-TooMany c ahead = search_too_many c.args.first c.args.explained c.arg
     c.loop-low.low
     c.loop-low.high c.loop-low.invariant (c.loop-low.low + (c.loop-low.high - c.loop-low.low) / 2) c.args.most
     c.in-TooMany.field-0 ahead c.in_ok-start.start c.in_ok-outcome.outcome (omega (arith, c.loop-low.invariant.apart))
-    (omega (arith, c.loop-low.invariant.apart)) c.in-TooMany.is c.in_ok-start.ensures c.in_ok-outcome.ensures
+    (omega (arith, c.loop-low.invariant.apart)) refl c.in-TooMany.is c.in_ok-start.ensures c.in_ok-outcome.ensures
 
 pub returns : goal.returns
 returns c ahead = search_ends c.args.first c.args.explained c.args.events.now c.args.base.now c.loop-low.low
