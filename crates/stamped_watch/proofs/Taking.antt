@@ -14,7 +14,7 @@ use Rattle.stamp_watch.specs.declared.event.Event.TheVariants.{Begins, Returns, 
 use Rattle.stamp_watch.specs.declared.late.LateJudge.{LateJudge}
 use Rattle.stamp_watch.specs.LateJudge.{HasFoundNothingLater, IsLateJudge, IsLateJudgeOfSome}
 use Rattle.stamp_watch.specs.Possible.{plain_replies}
-use Rattle.stamp_watch.specs.PossibleLate.{IsToldLater, IsToldLaterOf, KeepsLater}
+use Rattle.stamp_watch.specs.PossibleLate.{IsToldLater, IsToldLaterOf}
 use Rattle.stamp_watch.specs.Possible.{items_in as replies_told}
 use Rattle.stamped_watch.specs.declared.event_bytes.BadEvent.{BadEvent}
 use Rattle.stamped_watch.specs.declared.finding.Finding.{Finding}
