@@ -175,10 +175,9 @@ fn a_judge_of_late_calls_tells_how_far_it_is(rt: HostRuntime) -> Result<(), Fail
     if judge.is_full() {
         return Err(Fail::from("full"));
     }
-    let found = judge.push(&StreamEvent::begins(1, LockCall::IsWriteLocked))?;
-    if found.is_some() {
+    let None = judge.push(&StreamEvent::begins(1, LockCall::IsWriteLocked))? else {
         return Err(Fail::from("found"));
-    }
+    };
     assert!(rt; judge.count() == 1);
     assert!(rt; judge.explained() == 0);
     assert!(rt; judge.open_calls() == 1);
