@@ -189,17 +189,17 @@ module _ (most ahead : ℕ) (fed : List ℕ) (judge : StreamJudge) (is : IsFed m
         by : (o : Option LateJudge) → IsKnown o → (length fed < 16) ⊎ IsInForm ahead fed
         by None fresh = inl (fresh_short fresh)
         by (Some inner) under_way =
-          let near = late_near under_way.limits most ahead under_way.events inner under_way.judge_of under_way.none in
-          inr (record {
-          limits = under_way.limits;
-          events = under_way.events;
-          rest = is.later;
-          stream = stream_here inner under_way;
-          whole = judge_whole under_way.limits most ahead under_way.events inner under_way.judge_of under_way.none;
-          short = short;
-          place = near.0;
-          explained = near.1;
-        })
+            let near = late_near under_way.limits most ahead under_way.events inner under_way.judge_of under_way.none in
+            inr (record {
+              limits = under_way.limits;
+              events = under_way.events;
+              rest = is.later;
+              stream = stream_here inner under_way;
+              whole = judge_whole under_way.limits most ahead under_way.events inner under_way.judge_of under_way.none;
+              short = short;
+              place = near.0;
+              explained = near.1;
+            })
 
   -- what is found so far
   pub so_far : IsSoFar most ahead fed judge.found
