@@ -1,6 +1,6 @@
 """Tries wrong bodies, many over one load of the libraries: the prover must refuse each.
 
-    refused.py [--libraries FOLDER] [--count FILE] [--all] [CRATE | CRATE/NAME.edit | CRATE/more/NAME.edit ..]
+    refused.py [--libraries FOLDER] [--proved] [--count FILE] [--all] [CRATE | CRATE/NAME.edit | CRATE/more/NAME.edit ..]
 
 Without --all, or an edit's own name, those of the folders `more` are left out: `./test` tries one for each public
 function that a wrong body can be made of, but for most of those that only hand a call on, and those of the faults that
@@ -16,8 +16,10 @@ functions is tried alone, and so is one with a line `by: FUNCTION`, which names 
 it: what it changes is no body.
 
 Before that, the same functions are tried without an edit, in the same form, and what was proved is begun with: one that
-isn't proved then, for its own sake, fails the crate. So does another function that isn't proved for its own sake beside
-an edit.
+isn't proved then, for its own sake, fails the crate. With --proved that is left out, for crates that a gate has just
+proved as they are: of all that a proof may name, a copy lacks no more than the contracts' proofs of other functions, and
+an edit whose proof lacks a name shows nothing. Another function that isn't proved for its own sake beside an edit fails
+the crate, too.
 
 An edit is refused if the prover doesn't prove the edited function for its own sake, and names a goal of its contract,
 or a fault in the function's proof by hand. One that is tried alone is refused if one of its functions isn't proved so.
@@ -43,7 +45,7 @@ import time
 FOLDER = os.path.dirname(os.path.abspath(__file__))
 TOP = os.path.dirname(os.path.dirname(FOLDER))
 PARTS = ("src", "specs", "proofs")
-# About how many of a crate's edits one process tries: those of larger crates are the end of the gate.
+# So many edits of a crate one process tries at most: those of larger crates are the end of the gate.
 MOST = 48
 FUNCTION = re.compile(r'^( *)(?:pub(?:\([a-z]+\))? )?(?:extern "C" )?fn (\w+)', re.M)
 IMPL = re.compile(r"^impl(?:<((?:[^<>{]|<[^<>{]*>)*)>)? (?:([\w:]+)(?:<(\w*)[^{]*>)? for )?([^{]+?) *(?:where [^{]*)?\{", re.M)
@@ -427,41 +429,39 @@ def take_kept(begun_with, kept):
         os.mkdir(kept)
 
 
-def parts_of(edits):
-    """Parts of a crate's edits that are tried side by side: each has all those of every so many functions."""
-    functions, count = sorted({it.functions[0] for it in edits}), -(-len(edits) // MOST)
-    return [[it for it in edits if functions.index(it.functions[0]) % count == part] for part in range(count)]
+def rounds_of(edits):
+    """The edits in rounds that don't depend on each other: an edit of each function, and no more than `MOST`."""
+    rounds, left = [], edits
+    while left:
+        now = round_of(left, {})
+        rounds += [now[at : at + MOST] for at in range(0, len(now), MOST)]
+        left = [it for it in left if it not in now]
+    return rounds
 
 
-def begin(crate, names, kept):
-    """Tries the functions of these edits of the crate as they are, which each part of the edits is begun with."""
-    begun = time.monotonic()
-    take_kept(f"{crate.folder}/out/incremental", kept)
-    edits = [Edit(crate, name) for name in names]
+def begin(crate, edits, kept):
+    """Tries the functions of these edits as they are, and keeps what was proved for the rounds to begin with."""
     alone = {function for it in edits if it.is_alone for function in it.functions}
     with tempfile.TemporaryDirectory() as room:
         try_without_edits(crate, room, kept, {it.functions[0] for it in edits if not it.is_alone}, is_bare=True)
         try_without_edits(crate, room, kept, alone, is_bare=False)
-    print(f"{crate.name}: proved without edits, in {round(time.monotonic() - begun)} seconds", flush=True)
-    return edits
+    return {}
 
 
-def tried(crate, edits, begun_with):
-    """Tries these edits of the crate, round by round, and gives what came of each, by its name."""
-    begun = time.monotonic()
-    lines, rounds = {}, 0
+def try_round(crate, edits, begun_with):
+    """Tries the edits of a round, over the contracts of all other functions, and gives what came of those judged."""
+    with tempfile.TemporaryDirectory() as room:
+        take_kept(begun_with, f"{room}/kept")
+        return judged(crate, edits, crate.tried(room, f"{room}/kept", edits, is_bare=True), {}, is_bare=True)
+
+
+def try_whole(crate, several, alone, begun_with):
+    """Tries edits with the bodies and proofs of all that their functions call, and gives what came of each."""
+    lines, calls = {}, {}
     with tempfile.TemporaryDirectory() as room:
         kept = f"{room}/kept"
         take_kept(begun_with, kept)
-        several, alone = [it for it in edits if not it.is_alone], [it for it in edits if it.is_alone]
         while several:
-            rounds += 1
-            now = round_of(several, {})
-            lines |= judged(crate, now, crate.tried(room, kept, now, is_bare=True), {}, is_bare=True)
-            several = [it for it in several if it not in now]
-        several, calls = [it for it in edits if not it.is_alone and it.name not in lines], {}
-        while several:
-            rounds += 1
             now = round_of(several, calls)
             told = judged(crate, now, crate.tried(room, kept, now), calls, is_bare=False) if now else {}
             if not told:
@@ -470,34 +470,46 @@ def tried(crate, edits, begun_with):
             lines |= told
             several = [it for it in several if it.name not in told]
         for edit in alone:
-            rounds += 1
             lines |= judged_alone(crate, edit, crate.tried(room, kept, [edit]))
-    seconds = round(time.monotonic() - begun)
-    print(f"{crate.name}: {len(lines)} edits tried, in {rounds} rounds and {seconds} seconds", flush=True)
-    return [(f"{crate.name}/{name}", what) for name, what in lines.items()]
+    return lines
 
 
-def lines_of(pool, crate, names, kept):
-    """What came of these edits of the crate. What is wrong with one is told by each part, and said once."""
-    lines = set()
+def lines_of(pool, crate, names, options, kept):
+    """What came of these edits of the crate. What is wrong with one is told by each round, and said once."""
+    begun, lines, faults = time.monotonic(), {}, set()
+
+    def gather(*tasks):
+        for task in tasks:
+            try:
+                lines.update(task.result())
+            except Failed as fault:
+                faults.add((crate.name, f"FAILED: {fault}"))
+
+    take_kept(f"{crate.folder}/out/incremental", kept)
     try:
-        edits = pool.submit(begin, crate, names, kept).result()
-        parts = [pool.submit(tried, crate, part, kept) for part in parts_of(edits)]
+        edits = [Edit(crate, name) for name in names]
     except Failed as fault:
         return [(crate.name, f"FAILED: {fault}")]
-    for part in parts:
-        try:
-            lines |= {*part.result()}
-        except Failed as fault:
-            lines.add((crate.name, f"FAILED: {fault}"))
-    return sorted(lines)
+    if not options.proved:
+        gather(pool.submit(begin, crate, edits, kept))
+    if faults:
+        return [*faults]
+    several, alone = [it for it in edits if not it.is_alone], [it for it in edits if it.is_alone]
+    rounds = rounds_of(several)
+    gather(*[pool.submit(try_round, crate, now, kept) for now in rounds], pool.submit(try_whole, crate, [], alone, kept))
+    left = [it for it in several if it.name not in lines] if not faults else []
+    gather(pool.submit(try_whole, crate, left, [], kept))
+    seconds = round(time.monotonic() - begun)
+    print(f"{crate.name}: {len(lines)} edits tried, in {len(rounds)} rounds and {seconds} seconds", flush=True)
+    return sorted({*faults, *((f"{crate.name}/{name}", what) for name, what in lines.items())})
 
 
 def options_of(words):
-    """What the words ask for: where the libraries are, where the count goes, whether all edits are tried, and of what."""
+    """What the words ask for: where the libraries are, where the count goes, what needn't be tried, and what is."""
     parser = argparse.ArgumentParser()
     parser.add_argument("--libraries")
     parser.add_argument("--count")
+    parser.add_argument("--proved", action="store_true")
     parser.add_argument("--all", action="store_true")
     parser.add_argument("names", nargs="*")
     return parser.parse_args(words)
@@ -515,12 +527,13 @@ def wanted_by(options):
     return {name: edits for name, edits in wanted.items() if edits}
 
 
-def try_all(crates, wanted):
+def try_all(crates, wanted, options):
     """Tries the edits of these crates side by side, tells what came of each, and gives how many were refused and failed."""
     lines, most_first = [], sorted(wanted, key=lambda name: -len(wanted[name]))
     workers, crews = (concurrent.futures.ThreadPoolExecutor(it) for it in (len(os.sched_getaffinity(0)), len(wanted)))
     with tempfile.TemporaryDirectory() as room, crews, workers:
-        tries = {name: crews.submit(lines_of, workers, crates[name], wanted[name], f"{room}/{name}") for name in most_first}
+        tries = {name: crews.submit(lines_of, workers, crates[name], wanted[name], options, f"{room}/{name}")
+                 for name in most_first}
         try:
             for name in wanted:
                 told = tries[name].result()
@@ -542,7 +555,7 @@ def main():
         wanted = wanted_by(options)
         if not wanted:
             raise Failed("there is no edit")
-        refused, failed = try_all({name: Crate(name, uses, options.libraries) for name in wanted}, wanted)
+        refused, failed = try_all({name: Crate(name, uses, options.libraries) for name in wanted}, wanted, options)
     except Failed as fault:
         print(f"FAILED: {fault}")
         refused, failed = 0, 1

@@ -145,7 +145,8 @@ def gate(top, folder):
 
 def refused(top, folder):
     """Tries the wrong bodies over these libraries: how many were refused and how many failed, and what was told."""
-    words = ["python3", "-B", "tests/edits/refused.py", "--libraries", f"{folder}/libraries", "--count", f"{folder}/edits"]
+    words = ["python3", "-B", "tests/edits/refused.py", "--proved", "--libraries", f"{folder}/libraries"]
+    words += ["--count", f"{folder}/edits"]
     ran = subprocess.run(words, cwd=top, capture_output=True, text=True, timeout=TIMEOUT)
     with open(f"{folder}/edits") as file:
         count = tuple(map(int, file.read().split()))
