@@ -95,7 +95,7 @@ begins_last lane call busy events taken some = by (begun_last lane call busy Non
     by (inl none) = absurd (none-some call none.1)
     by (inr is) = is
 
-taken_by_end : (busy : ℕ → Bool) (lane : ℕ) (reply : Option Reply) → MayCome busy (end_in lane reply) →
+pub taken_by_end : (busy : ℕ → Bool) (lane : ℕ) (reply : Option Reply) → MayCome busy (end_in lane reply) →
     busy lane ≡ true
 taken_by_end busy lane None may = may
 taken_by_end busy lane (Some reply) may = may

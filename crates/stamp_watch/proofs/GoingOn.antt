@@ -2,7 +2,7 @@
 use Rattle.std.proofs.Common.{ℕ, ◌≡◌, ◌+◌, ◌*◌, ◌^◌, ◌<◌, ◌≤◌, List, [], ◌∷◌, ◌++◌, length, Option, Some, None, sym}
 use Rattle.std.proofs.Common.{◌∙◌}
 use Rattle.std.proofs.Common.{ap, subst, arith}
-use Rattle.std.specs.Prelude.{MatchOption}
+use Rattle.std.specs.Prelude.{⊤, MatchOption}
 use Rattle.std.proofs.lemmas.List.{drop_all, length-append}
 use Rattle.stamp_core.specs.Limits.{Bounds}
 use Rattle.stamp_watch.specs.declared.event.Event.{Event}
@@ -14,7 +14,7 @@ use Rattle.stamp_watch.specs.Judge.{HasRoomForOne, IsJudge, IsJudgeOfSome, IsUnd
 use Rattle.stamp_watch.specs.Verdict.{AreOfLock}
 use Rattle.stamp_watch.specs.Judging.{AreBusyLanes, IsFound}
 use Rattle.stamp_watch.specs.inner.Judging.{MayComeIn, SetsBusy}
-use Rattle.stamp_watch.specs.Course.{HasRoom, IsCourse, IsNear, IsRest, IsRunOn, IsSmall}
+use Rattle.stamp_watch.specs.Course.{HasRoom, IsCourse, IsNear, IsRest, IsRunOn, IsSmall, KeepsEndOf}
 use Rattle.stamp_watch.specs.SoFar.{BeginWithOpenCall}
 use Rattle.stamp_watch.specs.inner.Course.{HasGoneOn, IsOneLonger, IsOnCourse, broken_off}
 use Rattle.stamp_watch.proofs.Forming.{busy_lanes_then, form_first, of_lock_on}
@@ -62,6 +62,7 @@ judge_first limits most ahead judge same far free none course_of small = record 
   most_is = same;
   ahead_is = far;
   small = small;
+  tells = subst (λ (o : Option Verdict). MatchOption o ⊤ (KeepsEndOf judge.course)) (sym none) tt;
   state = subst (λ (o : Option Verdict). IsState limits most ahead [] judge o) (sym none) (record {
     course_of = course_of;
     lanes = subst (AreBusyLanes []) (sym free) form_first.1;
@@ -105,6 +106,7 @@ module _ (limits : Bounds) (most ahead : ℕ) (run : List Event) (e : Event) (ol
     most_is = is.most_is;
     ahead_is = is.ahead_is;
     small = is.small;
+    tells = is.tells;
     state = subst (λ (o : Option Verdict). IsState limits most ahead (run ++ e ∷ []) old o) (sym some)
         (found_later limits run most (Some ahead) v e (found_of limits most ahead run old is v some));
   }
@@ -144,13 +146,14 @@ module _ (limits : Bounds) (most ahead : ℕ) (run : List Event) (e : Event) (ol
             new.course ≡ new_course → HasRoom then_course → IsOneLonger old.course then_course →
             (IsSmall old.ahead then_course → IsSmall old.ahead new_course) →
             HasGoneOn old.most old.ahead then_course new_course new.found →
-            IsJudge limits most ahead (run ++ e ∷ []) new
-        judge_then new same far busy_is course_is space longer stays gone = record {
+            MatchOption new.found ⊤ (KeepsEndOf new_course) → IsJudge limits most ahead (run ++ e ∷ []) new
+        judge_then new same far busy_is course_is space longer stays gone tells = record {
           most_is = same ∙ is.most_is;
           ahead_is = far ∙ is.ahead_is;
           small = subst (IsSmall ahead) (sym course_is)
               (subst (λ (n : ℕ). IsSmall n then_course → IsSmall n new_course)
               is.ahead_is stays (small_added ahead old.course then_course is.small under_way.near longer));
+          tells = subst (λ (c : Course). MatchOption new.found ⊤ (KeepsEndOf c)) (sym course_is) tells;
           state = by new.found gone;
         }
           where
@@ -180,11 +183,13 @@ module _ (limits : Bounds) (most ahead : ℕ) (run : List Event) (e : Event) (ol
 
     pub judge_broken : (new : Judge) (v : Verdict) → new.most ≡ old.most → new.ahead ≡ old.ahead →
         new.course ≡ old.course → new.found ≡ Some v → IsFound limits (run ++ e ∷ []) most (Some ahead) v →
-        IsJudge limits most ahead (run ++ e ∷ []) new
-    judge_broken new v same far course_is some found = record {
+        KeepsEndOf old.course v → IsJudge limits most ahead (run ++ e ∷ []) new
+    judge_broken new v same far course_is some found tells = record {
       most_is = same ∙ is.most_is;
       ahead_is = far ∙ is.ahead_is;
       small = subst (IsSmall ahead) (sym course_is) is.small;
+      tells = subst (λ (o : Option Verdict). MatchOption o ⊤ (KeepsEndOf new.course)) (sym some)
+          (subst (λ (c : Course). KeepsEndOf c v) (sym course_is) tells);
       state = subst (λ (o : Option Verdict). IsState limits most ahead (run ++ e ∷ []) new o) (sym some) found;
     }
 

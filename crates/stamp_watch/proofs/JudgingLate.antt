@@ -1,7 +1,7 @@
 -- A judge that puts calls aside which are open for long.
 use Rattle.std.proofs.Common.{◌-◌, ◌≡◌, ◌+◌, ◌^◌, ◌<◌, ◌≤◌, ℕ, List, [], ◌∷◌, ◌++◌, length, Option, Some, None}
 use Rattle.std.proofs.Common.{sym, ◌∙◌, ap, subst, arith, append_assoc, append-nil}
-use Rattle.std.specs.Prelude.{MatchOption}
+use Rattle.std.specs.Prelude.{⊤, MatchOption}
 use Rattle.std.proofs.lemmas.List.{length_push}
 use Rattle.stamp_core.specs.Limits.{Bounds}
 use Rattle.stamp_watch.specs.declared.delay.Delay.{Delay}
@@ -9,18 +9,21 @@ use Rattle.stamp_watch.specs.declared.event.Event.{Event}
 use Rattle.stamp_watch.specs.declared.late_verdict.LateVerdict.{LateVerdict}
 use Rattle.stamp_watch.specs.declared.late_verdict.LateVerdict.TheVariants as finding
 use Rattle.stamp_watch.specs.declared.late.LateJudge.{LateJudge}
+use Rattle.stamp_watch.specs.declared.verdict.Verdict.{Verdict}
+use Rattle.stamp_watch.specs.Course.{KeepsEndOf}
 use Rattle.stamp_watch.specs.Delay.{IsDelayed, IsSmallDelay}
 use Rattle.stamp_watch.specs.Judging.{AreBusyLanes}
 use Rattle.stamp_watch.specs.Late.{IsLate, IsLateVerdict, IsLateFound}
-use Rattle.stamp_watch.specs.LateJudge.{IsLateJudge, IsLateUnderWay}
+use Rattle.stamp_watch.specs.LateJudge.{IsLateJudge, IsLateUnderWay, KeepsEndLate}
 use Rattle.stamp_watch.specs.PossibleLate.{KeepsLater}
 use Rattle.stamp_watch.specs.Verdict.{AreOfLock}
-use Rattle.stamp_watch.specs.inner.Delay.{IsLateRest, IsReady, IsReadyFor}
+use Rattle.stamp_watch.specs.inner.Delay.{IsFindingOf, IsLateRest, IsReady, IsReadyFor}
 use Rattle.stamp_watch.specs.inner.Judging.{MayComeIn, SetsBusy}
 use Rattle.stamp_watch.specs.inner.Late.{broken_off_there}
 use Rattle.stamp_watch.proofs.Closeness.{few_aside}
 use Rattle.stamp_watch.proofs.Forming.{busy_lanes_then, form_first, of_lock_on}
 use Rattle.stamp_watch.proofs.HandingOn.{passed_length}
+use Rattle.stamp_watch.proofs.KeepingEnds.{keeps_broken}
 use Rattle.stamp_watch.proofs.PossibleLate.{keeps_beside, keeps_of}
 use Rattle.stamp_watch.proofs.Running.{broken_found, over_broken, over_here, rest_now}
 
@@ -48,6 +51,7 @@ goes_on limits most ahead run judge delayed going lanes few room none = record {
   window = delayed.ahead_is;
   small = small_of limits most ahead run judge.delay delayed (omega (arith, few));
   keeps = keeps_of limits most ahead run judge.delay delayed;
+  tells = subst (λ (o : Option LateVerdict). MatchOption o ⊤ (KeepsEndLate judge.delay)) (sym none) tt;
   state = subst (λ (o : Option LateVerdict). IsStateThen limits most ahead run judge o) (sym none)
       (record {
         delayed = delayed;
@@ -61,12 +65,14 @@ goes_on limits most ahead run judge delayed going lanes few room none = record {
 }
 
 pub has_found : (limits : Bounds) (most ahead : ℕ) (run : List Event) (judge : LateJudge) (f : LateVerdict) →
-    judge.delay.ahead ≡ ahead - 64 → IsSmallDelay ahead judge.delay → KeepsLater limits run judge → judge.found ≡ Some f →
-    IsLateFound limits run most ahead f → IsLateJudge limits most ahead run judge
-has_found limits most ahead run judge f window small keeps some found = record {
+    judge.delay.ahead ≡ ahead - 64 → IsSmallDelay ahead judge.delay → KeepsLater limits run judge →
+    KeepsEndLate judge.delay f → judge.found ≡ Some f → IsLateFound limits run most ahead f →
+    IsLateJudge limits most ahead run judge
+has_found limits most ahead run judge f window small keeps tells some found = record {
   window = window;
   small = small;
   keeps = keeps;
+  tells = subst (λ (o : Option LateVerdict). MatchOption o ⊤ (KeepsEndLate judge.delay)) (sym some) tells;
   state = subst (λ (o : Option LateVerdict). IsStateThen limits most ahead run judge o) (sym some) found;
 }
 
@@ -100,9 +106,12 @@ module _ (limits : Bounds) (most ahead : ℕ) (run : List Event) (judge : LateJu
   pub late_found_of : (f : LateVerdict) → judge.found ≡ Some f → IsLateFound limits run most ahead f
   late_found_of f some = subst (λ (o : Option LateVerdict). IsStateThen limits most ahead run judge o) some is.state
 
+  pub tells_of : (f : LateVerdict) → judge.found ≡ Some f → KeepsEndLate judge.delay f
+  tells_of f some = subst (λ (o : Option LateVerdict). MatchOption o ⊤ (KeepsEndLate judge.delay)) some is.tells
+
   pub late_stays : (e : Event) (f : LateVerdict) → judge.found ≡ Some f → IsLateJudge limits most ahead (run ++ e ∷ []) judge
   late_stays e f some = has_found limits most ahead (run ++ e ∷ []) judge f is.window is.small
-      (keeps_beside limits run judge.delay e is.keeps) some
+      (keeps_beside limits run judge.delay e is.keeps) (tells_of f some) some
       (found_then limits run most ahead e f (late_found_of f some))
 
   module _ (none : judge.found ≡ None) where
@@ -148,12 +157,13 @@ module _ (limits : Bounds) (most ahead : ℕ) (run : List Event) (judge : LateJu
           omega (arith, long, all, room)) unfound
 
       pub late_finds : (new : LateJudge) (f : LateVerdict) → IsDelayed limits most ahead (run ++ e ∷ []) new.delay →
-          length new.delay.waiting.events.items ≤ judge.delay.ahead + 1 → new.found ≡ Some f →
-          IsLateFound limits (run ++ e ∷ []) most ahead f → IsLateJudge limits most ahead (run ++ e ∷ []) new
-      late_finds new f delayed few some found = has_found limits most ahead (run ++ e ∷ []) new f delayed.ahead_is
+          length new.delay.waiting.events.items ≤ judge.delay.ahead + 1 → KeepsEndLate new.delay f →
+          new.found ≡ Some f → IsLateFound limits (run ++ e ∷ []) most ahead f →
+          IsLateJudge limits most ahead (run ++ e ∷ []) new
+      late_finds new f delayed few tells some found = has_found limits most ahead (run ++ e ∷ []) new f delayed.ahead_is
           (small_of limits most ahead (run ++ e ∷ []) new.delay delayed
           (let same : judge.delay.ahead ≡ ahead - 64 = late_way.delayed.ahead_is in omega (arith, few, same)))
-          (keeps_of limits most ahead (run ++ e ∷ []) new.delay delayed) some found
+          (keeps_of limits most ahead (run ++ e ∷ []) new.delay delayed) tells some found
 
     -- an event that may not come there
     pub late_broken : (e : Event) (number : ℕ) → number ≡ judge.delay.passed + length judge.delay.waiting.events.items →
@@ -165,3 +175,16 @@ module _ (limits : Bounds) (most ahead : ℕ) (run : List Event) (judge : LateJu
         subst (λ (xs : List Event). IsLate limits xs most ahead k) (sym (append_assoc run (e ∷ []) more))
         (rest (e ∷ more) (over_broken limits run most None judge.busy number e (at ∙ run_long) late_way.lanes not_there
         more))
+
+-- what is found of a run in which calls begin later is told of as the verdict on which it rests
+pub late_told : (aside : List Event) (shown first : Option ℕ) (v : Verdict) (f : LateVerdict) (delay : Delay) →
+    IsFindingOf aside shown first v f → KeepsEndOf delay.judge.course v → KeepsEndLate delay f
+late_told aside shown None v f delay is tells = subst (KeepsEndLate delay) (sym is) tells
+late_told aside shown (Some first) v (finding.Is found) delay is tells =
+    subst (KeepsEndOf delay.judge.course) (sym is.0) tells
+late_told aside shown (Some first) v (finding.Late k) delay is tells = tt
+
+pub broken_told : (delay : Delay) (f : LateVerdict) (place : ℕ) → KeepsEndLate delay f →
+    KeepsEndLate delay (broken_off_there f place)
+broken_told delay (finding.Is v) place tells = keeps_broken delay.judge.course v place tells
+broken_told delay (finding.Late k) place tells = tt

@@ -1,15 +1,17 @@
 -- What is kept of a run while it is judged, event by event.
-use Rattle.std.specs.Prelude.{ℕ, ◌≡◌, ◌+◌, ◌^◌, ◌<◌, ◌≤◌, ◌++◌, List, [], ◌∷◌, length, take, drop, Option}
+use Rattle.std.specs.Prelude.{ℕ, ◌≡◌, ◌+◌, ◌^◌, ◌<◌, ◌≤◌, ◌++◌, List, [], ◌∷◌, length, take, drop, Option, Some}
 use Rattle.stamp_core.specs.Limits.{Bounds}
 use Rattle.stamp_watch.specs.declared.event.Event.{Event}
 use Rattle.stamp_watch.specs.declared.event.Event.TheVariants.{Begins, Returns, Withdraws}
 use Rattle.stamp_watch.specs.declared.course.Course.{Course}
+use Rattle.stamp_watch.specs.declared.ended_call.EndedCall.{EndedCall}
 use Rattle.stamp_watch.specs.declared.verdict.Verdict.{Verdict}
 use Rattle.stamp_watch.specs.declared.verdict.Verdict.TheVariants as verdict
 use Rattle.stamp_watch.specs.declared.verdict.Why.TheVariants as cause
 use Rattle.stamp_watch.specs.declared.watch.Watch.{Watch}
 use Rattle.stamp_watch.specs.Ahead.{EndsNever}
 use Rattle.stamp_watch.specs.AsObserved.{AreEnded}
+use Rattle.stamp_watch.specs.EndedCall.{ended_from}
 use Rattle.stamp_watch.specs.Run.{AreExplained}
 use Rattle.stamp_watch.specs.SoFar.{BeginWithOpenCall}
 use Rattle.stamp_watch.specs.Verdict.{AreOfLock, IsVerdict, NoMoreAreOfLock}
@@ -57,6 +59,20 @@ pub record IsCourse (limits : Bounds) (run : List Event) (course : Course) : Typ
 -- its events can be numbered
 pub record HasRoom (course : Course) : Type 0 where
   pub room : course.first + length course.events.items < 2 ^ 64
+
+-- an event is kept that ends a call, with the beginning of that call, and comes behind the ends of the base's open calls
+pub record KeepsEnd (course : Course) (k : ℕ) : Type 0 where
+  pub behind : course.first + course.seen ≤ k
+  pub call : EndedCall
+  pub ends : ended_from course.first course.events.items k ≡ Some call
+
+-- so it is with the event at which the run was found stuck
+abbrev pub KeepsEndOf : Course → Verdict → Type 0
+KeepsEndOf course verdict.Explained = Unit {0}
+KeepsEndOf course (verdict.Stuck k) = KeepsEnd course k
+KeepsEndOf course (verdict.StuckWithin k m) = Unit {0}
+KeepsEndOf course (verdict.Undecided k why) = Unit {0}
+KeepsEndOf course (verdict.Broken k) = Unit {0}
 
 -- few events are kept, where so many are looked at for the end of a call
 pub record IsSmall (ahead : ℕ) (course : Course) : Type 0 where

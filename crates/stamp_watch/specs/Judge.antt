@@ -1,12 +1,12 @@
 -- What a judge knows of a run that goes on.
-use Rattle.std.specs.Prelude.{ℕ, ◌≡◌, ◌+◌, ◌^◌, ◌<◌, ◌++◌, List, [], ◌∷◌, length, Option, Some, None, MatchOption}
+use Rattle.std.specs.Prelude.{ℕ, ◌≡◌, ◌+◌, ◌^◌, ◌<◌, ◌++◌, List, [], ◌∷◌, length, ⊤, Option, Some, None, MatchOption}
 use Rattle.stamp_core.specs.Limits.{Bounds}
 use Rattle.stamp_watch.specs.declared.event.Event.{Event}
 use Rattle.stamp_watch.specs.declared.online.Judge.{Judge}
 use Rattle.stamp_watch.specs.declared.verdict.Verdict.{Verdict}
 use Rattle.stamp_watch.specs.Verdict.{AreOfLock}
 use Rattle.stamp_watch.specs.Judging.{AreBusyLanes, IsFound}
-use Rattle.stamp_watch.specs.Course.{HasRoom, IsCourse, IsNear, IsSmall}
+use Rattle.stamp_watch.specs.Course.{HasRoom, IsCourse, IsNear, IsSmall, KeepsEndOf}
 
 -- nothing was found of the run yet
 pub record IsUnderWay (limits : Bounds) (ahead : ℕ) (run : List Event) (judge : Judge) : Type 0 where
@@ -15,13 +15,15 @@ pub record IsUnderWay (limits : Bounds) (ahead : ℕ) (run : List Event) (judge 
   pub room : HasRoom judge.course
   pub near : IsNear ahead judge.course
 
--- the judge was given the events of this run so far, what it found holds whatever comes later, and it keeps few events
+-- the judge was given the events of this run so far, what it found holds whatever comes later, and it keeps few events,
+-- but what tells of the event at which the run was found stuck
 pub record IsJudge (limits : Bounds) (most ahead : ℕ) (run : List Event) (judge : Judge) : Type 0 where
   pub most_is : judge.most ≡ most
   pub ahead_is : judge.ahead ≡ ahead
   pub small : IsSmall ahead judge.course
   pub state : MatchOption judge.found (IsUnderWay limits ahead run judge)
       (λ verdict. IsFound limits run most (Some ahead) verdict)
+  pub tells : MatchOption judge.found ⊤ (KeepsEndOf judge.course)
 
 -- so it is of some run
 pub record IsJudgeOfSome (judge : Judge) : Type 0 where

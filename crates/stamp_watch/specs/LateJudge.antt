@@ -1,10 +1,13 @@
 -- What a judge knows that puts calls aside which are open for long.
 use Rattle.std.specs.Prelude.{ℕ, ◌-◌, ◌≡◌, ◌+◌, ◌^◌, ◌<◌, ◌≤◌, ◌++◌, List, [], ◌∷◌, length}
-use Rattle.std.specs.Prelude.{Option, None, MatchOption}
+use Rattle.std.specs.Prelude.{⊤, Option, None, MatchOption}
 use Rattle.stamp_core.specs.Limits.{Bounds}
+use Rattle.stamp_watch.specs.declared.delay.Delay.{Delay}
 use Rattle.stamp_watch.specs.declared.event.Event.{Event}
 use Rattle.stamp_watch.specs.declared.late_verdict.LateVerdict.{LateVerdict}
+use Rattle.stamp_watch.specs.declared.late_verdict.LateVerdict.TheVariants.{Is, Late}
 use Rattle.stamp_watch.specs.declared.late.LateJudge.{LateJudge}
+use Rattle.stamp_watch.specs.Course.{KeepsEndOf}
 use Rattle.stamp_watch.specs.Delay.{IsDelayed, IsSmallDelay}
 use Rattle.stamp_watch.specs.Judging.{AreBusyLanes}
 use Rattle.stamp_watch.specs.Late.{IsLateFound}
@@ -19,14 +22,20 @@ pub record IsLateUnderWay (limits : Bounds) (most ahead : ℕ) (run : List Event
   pub few : length judge.delay.waiting.events.items ≤ ahead - 64
   pub room : judge.delay.passed + length judge.delay.waiting.events.items < 2 ^ 64
 
+-- the judge inside keeps what tells of the event at which the run was found stuck
+abbrev pub KeepsEndLate : Delay → LateVerdict → Type 0
+KeepsEndLate delay (Is verdict) = KeepsEndOf delay.judge.course verdict
+KeepsEndLate delay (Late k) = Unit {0}
+
 -- the judge was given the events of this run so far, what it found holds whatever comes later, and it keeps few
--- events, by which it can judge again
+-- events, by which it can judge again, but what tells of the event at which the run was found stuck
 pub record IsLateJudge (limits : Bounds) (most ahead : ℕ) (run : List Event) (judge : LateJudge) : Type 0 where
   pub window : judge.delay.ahead ≡ ahead - 64
   pub small : IsSmallDelay ahead judge.delay
   pub keeps : KeepsLater limits run judge
   pub state : MatchOption judge.found (IsLateUnderWay limits most ahead run judge)
       (λ finding. IsLateFound limits run most ahead finding)
+  pub tells : MatchOption judge.found ⊤ (KeepsEndLate judge.delay)
 
 -- so it is of some run
 pub record IsLateJudgeOfSome (judge : LateJudge) : Type 0 where

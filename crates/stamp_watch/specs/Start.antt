@@ -1,5 +1,5 @@
 -- Where the events that a judge keeps begin: the words and open calls that are possible there.
-use Rattle.std.specs.Prelude.{ℕ, ◌≡◌, ◌≤◌, ◌&&◌, ◌==◌, Option, Some, None, MatchOption, option_map, option_and_then}
+use Rattle.std.specs.Prelude.{ℕ, ◌≡◌, ◌≤◌, ◌&&◌, ◌==◌, Option, None, MatchOption, option_map, option_and_then}
 use Rattle.std.specs.Prelude.{nat_lt, slice_get, if◌then◌else◌}
 use Rattle.std.specs.Int.{bit_at}
 use Rattle.stamp_core.specs.declared.call.Call.{Call}

@@ -1,10 +1,10 @@
 //! The part of a run that is kept while it is judged.
-ghost use Rattle.std.specs.Prelude.{◌≡◌, ◌+◌, ◌^◌, ◌<◌, ◌≤◌, ◌∷◌, ◌++◌, [], IfOk, OnOk, IsTrue, List, Option, ℕ, false, length};
+ghost use Rattle.std.specs.Prelude.{◌≡◌, ◌+◌, ◌^◌, ◌<◌, ◌≤◌, ◌∷◌, ◌++◌, [], ⊤, IfOk, OnOk, IsTrue, List, MatchOption, Option, ℕ, false, length};
 ghost use Rattle.stamp_core.specs.Limits.{Bounds};
 ghost use Rattle.stamp_watch.specs.declared.event.Event.{Event};
 ghost use Rattle.stamp_watch.specs.Verdict.{AreOfLock};
-ghost use Rattle.stamp_watch.specs.Course.{HasRoom, IsCourse, IsRest, IsSmall};
-ghost use Rattle.stamp_watch.specs.inner.Course.{HasGoneOn, HasLetGo, IsEndAtFront, IsFresh, IsFront, IsKnown, IsOneLonger, IsOnCourse, IsOnward, IsUnknown};
+ghost use Rattle.stamp_watch.specs.Course.{HasRoom, IsCourse, IsRest, IsSmall, KeepsEndOf};
+ghost use Rattle.stamp_watch.specs.inner.Course.{HasGoneOn, HasLetGo, IsEndAtFront, IsFresh, IsFront, IsKnown, IsOneLonger, IsOnCourse, IsOnward, IsToldBy, IsUnknown};
 ghost use Rattle.stamp_watch.specs.inner.Kept.{StaysKept};
 
 use crate::ending::Ending;
@@ -131,6 +131,7 @@ impl Course {
         ensures onward { IfOk result (λ onward. (ahead : ℕ) → IsOnward most ahead self.old self.new onward) }
         ensures small { IfOk result (λ _. (ahead : ℕ) → IsFresh ahead self.old → IsSmall ahead self.new) }
         ensures kept { IfOk result (λ _. StaysKept self.old self.new) }
+        ensures tells { IfOk result (IsToldBy self.new) }
     {
         let number = self.first + self.seen as u64;
         let progress = step(&mut self.watch, event, ends, most)?;
@@ -163,6 +164,7 @@ impl Course {
         ensures onward { IfOk result (λ onward. IsOnward most ahead self.old self.new onward) }
         ensures small { IfOk result (λ _. IsFresh ahead self.old → IsSmall ahead self.new) }
         ensures kept { IfOk result (λ _. StaysKept self.old self.new) }
+        ensures tells { IfOk result (IsToldBy self.new) }
     {
         let events = self.events.as_slice();
         let event = events[self.seen];
@@ -226,6 +228,7 @@ impl Course {
         ensures found { IfOk result (λ found. HasGoneOn most ahead self.old self.new found) }
         ensures small { IfOk result (λ _. IsSmall ahead self.old → IsSmall ahead self.new) }
         ensures kept { IfOk result (λ _. StaysKept self.old self.new) }
+        ensures tells { IfOk result (λ found. MatchOption found ⊤ (KeepsEndOf self.new)) }
     {
         'unseen: while self.seen < self.events.len() {
             self.let_go()?;
@@ -243,8 +246,9 @@ impl Course {
     pub(crate) fn rest(&self, most: u64) -> Result<Verdict, AllocError>
         requires on { IsOnCourse self.now }
         requires room { HasRoom self.now }
-        ensures { IfOk result (λ verdict. (ahead : Option ℕ) (limits : Bounds) (run : List Event)
+        ensures rest { IfOk result (λ verdict. (ahead : Option ℕ) (limits : Bounds) (run : List Event)
             → IsCourse limits run self.now → IsRest limits run most ahead verdict) }
+        ensures tells { IfOk result (KeepsEndOf self.now) }
     {
         let start = self.watch.copied()?;
         let number = self.first + self.seen as u64;

@@ -12,6 +12,7 @@ ghost use Rattle.stamp_watch.specs.declared.event.Event.{Event};
 ghost use Rattle.stamp_watch.specs.Delay.{IsDelayed, IsSmallDelay, kept_of};
 ghost use Rattle.stamp_watch.specs.Judge.{IsJudge, IsJudgeOfSome};
 ghost use Rattle.stamp_watch.specs.Late.{IsLateFound};
+ghost use Rattle.stamp_watch.specs.LateJudge.{KeepsEndLate};
 ghost use Rattle.stamp_watch.specs.Possible.{KeepsBase};
 ghost use Rattle.stamp_watch.specs.PossibleLate.{KeepsDelayed};
 ghost use Rattle.stamp_watch.specs.Verdict.{AreOfLock};
@@ -346,8 +347,10 @@ impl Delay {
     /// What the judge's verdict tells of the run, whatever comes later.
     pub(crate) fn finding(&self, verdict: Verdict) -> LateVerdict
         requires { self.now.judge.found ≡ Some verdict }
-        ensures { (limits : Bounds) (most ahead : ℕ) (run : List Event)
+        ensures found { (limits : Bounds) (most ahead : ℕ) (run : List Event)
             → IsDelayed limits most ahead run self.now → IsLateFound limits run most ahead result }
+        ensures tells { (limits : Bounds) (most ahead : ℕ) (run : List Event)
+            → IsDelayed limits most ahead run self.now → KeepsEndLate self.now result }
     {
         self.finding_of(verdict)
     }
@@ -383,6 +386,7 @@ impl Delay {
         ensures small { IfOk result (λ _. (ahead : ℕ) → IsSmallDelay ahead self.old → IsSmallDelay ahead self.new) }
         ensures keeps { IfOk result (λ _. (limits : Bounds) (most ahead : ℕ) (run : List Event)
             → IsDelayed limits most ahead run self.old → KeepsDelayed limits run self.new) }
+        ensures tells { IfOk result (KeepsEndLate self.new) }
         ensures window { IfOk result (λ _. self.new.ahead ≡ self.old.ahead) }
     {
         self.give_all()?;

@@ -6,7 +6,7 @@ ghost use Rattle.stamp_watch.specs.declared.event.Event.{Event};
 ghost use Rattle.stamp_watch.specs.Watch.{IsWatched};
 ghost use Rattle.stamp_watch.specs.Verdict.{IsOfLock, IsVerdict};
 ghost use Rattle.stamp_watch.specs.Judging.{IsFound, IsJudging};
-ghost use Rattle.stamp_watch.specs.inner.Judging.{IsBase, IsEndTold, IsJudgingOn, IsOutcome, IsStep, IsStuckBehind, IsStuckFrom};
+ghost use Rattle.stamp_watch.specs.inner.Judging.{IsBase, IsEndTold, IsJudgingOn, IsOutcome, IsStep, IsStuckAmong, IsStuckBehind, IsStuckFrom};
 
 use crate::ahead::end_ahead;
 use crate::ending::Ending;
@@ -103,10 +103,11 @@ pub(crate) fn find_stuck(
     requires within { explained < length events.now }
     requires room { first + length events.now < 2 ^ 64 }
     requires stuck { IsStuckFrom first explained events.now base.now }
-    ensures { IfOk result (λ verdict. (ahead : Option ℕ) (limits : Bounds) (past : List Event)
+    ensures found { IfOk result (λ verdict. (ahead : Option ℕ) (limits : Bounds) (past : List Event)
         → IsBase limits first explained past events.now base.now
         → IsStuckBehind limits past events.now explained
         → IsFound limits (past ++ events.now) most ahead verdict) }
+    ensures among { IfOk result (IsStuckAmong (first + explained) (first + length events.now)) }
 {
     let mut low = explained;
     let mut high = events.len();

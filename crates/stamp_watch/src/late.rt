@@ -14,7 +14,7 @@ ghost use Rattle.stamp_watch.specs.Late.{IsLateVerdict};
 ghost use Rattle.stamp_watch.specs.SoFar.{IsExplainedUpTo, open_calls};
 ghost use Rattle.stamp_watch.specs.Possible.{items_in};
 ghost use Rattle.stamp_watch.specs.PossibleLate.{IsToldLaterOf, KeepsLater, KeepsSomeLater};
-ghost use Rattle.stamp_watch.specs.LateJudge.{HasFoundNothingLater, HasRoomForOneLater, IsLateFoundThen, IsLateGiven, IsLateJudge, IsLateJudgeOfSome};
+ghost use Rattle.stamp_watch.specs.LateJudge.{HasFoundNothingLater, HasRoomForOneLater, IsLateFoundThen, IsLateGiven, IsLateJudge, IsLateJudgeOfSome, KeepsEndLate};
 ghost use Rattle.stamp_watch.specs.inner.Judging.{MayComeIn, SetsBusy};
 ghost use Rattle.stamp_watch.specs.inner.Late.{broken_off_there};
 
@@ -202,7 +202,7 @@ impl LateJudge {
     }
 
     /// Which replies the call could have had that returns at the event with this number, as `Judge::possible_at` tells.
-    /// Nothing, too, where a call before the event was put aside. It can be told also once the judge has finished.
+    /// Nothing, too, where a call before the event was put aside. It can be asked also once the judge has finished.
     pub fn possible_at(&self, number: u64, call: &Call) -> Result<Option<Vec<Reply>>, AllocError>
         requires { KeepsSomeLater self.now }
         ensures { IfOk result (λ told. IsToldLaterOf self.now number call.now (items_in told)) }
@@ -224,6 +224,7 @@ impl LateJudge {
             → IsLateJudge limits most ahead run self.old → IsLateVerdict limits run most ahead finding) }
         ensures keeps { IfOk result (λ _. (limits : Bounds) (most ahead : ℕ) (run : List Event)
             → IsLateJudge limits most ahead run self.old → KeepsLater limits run self.new) }
+        ensures tells { IfOk result (KeepsEndLate self.new.delay) }
         ensures window { IfOk result (λ _. self.new.delay.ahead ≡ self.old.delay.ahead) }
     {
         match self.found {

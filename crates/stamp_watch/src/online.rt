@@ -10,7 +10,7 @@
 //! of. A call that is open for more events than were allowed ends the judging, so few events are kept.
 ghost use Rattle.std.specs.Prelude.{◌≡◌, ◌+◌, ◌*◌, ◌≤◌, ◌↔◌, [], IfOk, IfSome, None, Some, List, ℕ, false, length};
 ghost use Rattle.stamp_core.specs.Limits.{Bounds};
-ghost use Rattle.stamp_watch.specs.Course.{IsRest};
+ghost use Rattle.stamp_watch.specs.Course.{IsRest, KeepsEndOf};
 ghost use Rattle.stamp_watch.specs.declared.event.Event.{Event};
 ghost use Rattle.stamp_watch.specs.EndedCall.{IsEndedAt, ended_from};
 ghost use Rattle.stamp_watch.specs.Judge.{HasFoundNothing, HasRoomForOne, IsFoundThen, IsGiven, IsJudge, IsJudgeOfSome};
@@ -200,6 +200,7 @@ impl Judge {
             → IsJudge limits most ahead run self.now → IsVerdict limits run most (Some ahead) verdict) }
         ensures rest { IfOk result (λ verdict. (limits : Bounds) (most ahead : ℕ) (run : List Event)
             → IsJudge limits most ahead run self.now → IsRest limits run most (Some ahead) verdict) }
+        ensures tells { IfOk result (KeepsEndOf self.now.course) }
     {
         match self.found {
             Some(verdict) => Ok(verdict),

@@ -1,19 +1,28 @@
 -- The call that is told where a stream is stuck.
-use Rattle.std.proofs.Common.{ℕ, ◌≡◌, List, Option, Some, None, Bool, true, false, refl, sym, subst, inl, inr}
+use Rattle.std.proofs.Common.{ℕ, ◌≡◌, List, Option, Some, None, Bool, true, false, refl, sym, ◌∙◌, subst, inl, inr}
 use Rattle.std.proofs.Common.{arith}
 use Rattle.std.specs.Prelude.{◌⊎◌, MatchOption, nat_le, ⊤}
 use Rattle.std.proofs.lemmas.Bool.Decides.{nat_tests}
+use Rattle.std.proofs.lemmas.Option.{none-some, same_Some}
 use Rattle.stamp_watch.specs.declared.ended_call.EndedCall.{EndedCall}
 use Rattle.stamp_watch.specs.declared.event.Event.{Event}
 use Rattle.stamp_watch.specs.declared.late.LateJudge.{LateJudge}
 use Rattle.stamp_watch.specs.EndedCall.{ended_at, ended_from}
 use Rattle.stamp_watch.specs.PossibleLate.{AreSameUntil}
 use Rattle.stamp_watch.specs.Verdict.{IsOpenFor}
+use Rattle.stamp_watch.specs.declared.late_verdict.LateVerdict.{LateVerdict}
+use Rattle.stamp_watch.specs.declared.late_verdict.LateVerdict.TheVariants.{Is}
+use Rattle.stamp_watch.specs.declared.verdict.Verdict.TheVariants as verdict
+use Rattle.stamp_watch.specs.Course.{KeepsEnd}
+use Rattle.stamp_watch.specs.LateJudge.{KeepsEndLate}
+use Rattle.stamped_watch.specs.declared.finding.Finding.{Finding}
+use Rattle.stamped_watch.specs.declared.finding.Finding.TheVariants as found
 use Rattle.stamped_watch.specs.declared.finding.Finding.TheVariants.{Stuck}
+use Rattle.stamped_watch.specs.Finding.{verdict_of}
 use Rattle.stamped_watch.specs.declared.stream_judge.StreamJudge.{StreamJudge}
 use Rattle.stamped_watch.specs.Note.{EndsThere, IsCallTold, IsLateBy}
 use Rattle.stamped_watch.specs.Possible.{KeepsOf}
-use Rattle.stamped_watch.specs.StreamJudge.{KeepsFed, ended_in}
+use Rattle.stamped_watch.specs.StreamJudge.{KeepsCall, KeepsFed, ended_in}
 use Rattle.stamped_watch.proofs.Witnessing.{ended_in_run, same_ended}
 
 -- a call of the run that judges as it came ends there; or one began late by then
@@ -47,11 +56,30 @@ ends_there ahead fed inner keeps k x is =
     }
 
 pub call_told : (ahead : ℕ) (fed : List ℕ) (judge : StreamJudge) → KeepsFed ahead fed judge → (k : ℕ)
-    (o : Option EndedCall) → o ≡ ended_in judge.judge k → IsCallTold ahead fed (Stuck k) o
-call_told ahead fed judge keeps k None is = tt
-call_told ahead fed judge keeps k (Some x) is = by judge.judge keeps is
+    (o : Option EndedCall) → o ≡ ended_in judge.judge k → KeepsCall judge.judge (Stuck k) →
+    IsCallTold ahead fed (Stuck k) o
+call_told ahead fed judge keeps k None is some = absurd (some (sym is))
+call_told ahead fed judge keeps k (Some x) is some = by judge.judge keeps is
   where
     by : (p : Option LateJudge) → MatchOption p ⊤ (λ i. KeepsOf ahead fed i) → Some x ≡ ended_in p k →
         EndsThere ahead fed k x
     by None none same = absurd (cc)
     by (Some inner) keeps same = ends_there ahead fed inner keeps k x (sym same)
+
+-- where a verdict is told as what is found, the call is kept that ends where the run is stuck
+pub call_kept : (f : Finding) (v : LateVerdict) (inner : LateJudge) → verdict_of f ≡ Some v →
+    KeepsEndLate inner.delay v → KeepsCall (Some inner) f
+call_kept (found.Explained calls) v inner is keeps = tt
+call_kept (found.Stuck k) v inner is keeps = λ none. none-some kept.call (sym none ∙ kept.ends)
+  where
+    kept : KeepsEnd inner.delay.judge.course k
+    kept = subst (KeepsEndLate inner.delay) (sym (same_Some (Is (verdict.Stuck k)) v is)) keeps
+call_kept (found.StuckWithin k m) v inner is keeps = tt
+call_kept (found.Undecided k why) v inner is keeps = tt
+call_kept (found.Late k) v inner is keeps = tt
+call_kept (found.Misplaced k why) v inner is keeps = tt
+call_kept (found.BadEvent k why) v inner is keeps = tt
+call_kept (found.Cut k) v inner is keeps = tt
+call_kept (found.BadHeader why) v inner is keeps = tt
+call_kept found.NoHeader v inner is keeps = tt
+call_kept found.Full v inner is keeps = tt

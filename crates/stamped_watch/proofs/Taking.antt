@@ -25,7 +25,7 @@ use Rattle.stamped_watch.specs.EventBytes.{HasBytes, IsNoEvent}
 use Rattle.stamped_watch.specs.Finding.{IsFoundOf}
 use Rattle.stamped_watch.specs.Header.{IsHeader, IsNoHeader}
 use Rattle.stamped_watch.specs.Possible.{ArePossibleAt, ArePossibleIn, KeepsOf, items_in}
-use Rattle.stamped_watch.specs.StreamJudge.{HasTaken, IsFed, IsFresh, IsUnderWay, KeepsFed}
+use Rattle.stamped_watch.specs.StreamJudge.{HasTaken, IsFed, IsFresh, IsUnderWay, KeepsCall, KeepsFed}
 use Rattle.stamped_watch.specs.inner.StreamJudge.{AreCounted, HasTakenFront, IsFoundUnless}
 use Rattle.stamped_watch.specs.inner.StreamJudge.{IsGivenOne, IsOneMore, KeepsRun, KeepsSoFar, KeepsStill}
 use Rattle.stamped_watch.proofs.Counting.{count_room, under_way_first, under_way_then}
@@ -70,6 +70,7 @@ on_with most ahead taken judge inner same far none some way = record {
   ahead_is = far;
   kept = subst (λ (o : Option LateJudge). MatchOption o ⊤ (λ i. KeepsOf ahead taken i)) (sym some)
       (keeps_under_way most ahead taken judge.begun judge.withdrawn inner way);
+  tells = subst (λ (o : Option Finding). MatchOption o ⊤ (KeepsCall judge.judge)) (sym none) tt;
   state = subst (λ (o : Option Finding). MatchOption o (MatchOption judge.judge
       (IsFresh taken judge.begun judge.withdrawn)
       (λ i. IsUnderWay most ahead taken judge.begun judge.withdrawn i))
@@ -104,6 +105,7 @@ module _ (most ahead : ℕ) (taken bytes : List ℕ) (old : StreamJudge) (has : 
       ahead_is = has.ahead_is;
       kept = subst (λ (o : Option LateJudge). MatchOption o ⊤ (λ i. KeepsOf ahead (taken ++ bytes) i))
           (sym no_judge) tt;
+      tells = tt;
       state = subst (λ (xs : List ℕ). IsFoundOf most ahead (xs ++ bytes) (found.BadHeader why)) (sym fresh.nothing)
           (no_header most ahead bytes why many wrong);
     }
@@ -149,19 +151,21 @@ module _ (most ahead : ℕ) (taken bytes : List ℕ) (old : StreamJudge) (has : 
       }
 
       -- something was found with it
-      pub found_taken : is_some o ≡ true →
+      pub found_taken : is_some o ≡ true → MatchOption o ⊤ (KeepsCall (Some next)) →
           HasTaken most ahead (taken ++ bytes) (record old { judge = Some next; found = o })
-      found_taken is = by o is given_one
+      found_taken is tells = by o is given_one tells
         where
           by : (p : Option Finding) → (is_some p ≡ true) → IsGivenOne way_on.limits most ahead way_on.events e next p →
+              MatchOption p ⊤ (KeepsCall (Some next)) →
               HasTaken most ahead (taken ++ bytes) (record old { judge = Some next; found = p })
-          by (Some f) is_one one = record {
+          by (Some f) is_one one tells = record {
             most_is = has.most_is;
             ahead_is = has.ahead_is;
             kept = keeps_of (keeps way_on.limits most ahead way_on.events way_on.judge_of);
+            tells = tells;
             state = found_with most ahead way_on.limits taken way_on.events e bytes way_on.stream has_bytes f one;
           }
-          by None is_one one = absurd (false≢true is_one)
+          by None is_one one tells = absurd (false≢true is_one)
 
       -- or nothing
       module _ (is : is_some o ≡ false) where
@@ -197,9 +201,9 @@ module _ (most ahead : ℕ) (taken bytes : List ℕ) (old : StreamJudge) (has : 
         IsNoEvent why bytes →
         ((limits : Bounds) (m a : ℕ) (run : List Event) → IsLateJudge limits m a run inner → k ≡ length run) →
         ((limits : Bounds) (m a : ℕ) (run : List Event) → IsLateJudge limits m a run inner →
-        IsFoundUnless limits m a run (found.BadEvent k why) f) → KeepsStill inner next →
+        IsFoundUnless limits m a run (found.BadEvent k why) f) → KeepsStill inner next → KeepsCall (Some next) f →
         HasTaken most ahead (taken ++ bytes) (record old { judge = Some next; found = Some f })
-    no_event_taken k why f next many wrong count unless keeps = record {
+    no_event_taken k why f next many wrong count unless keeps tells = record {
       most_is = has.most_is;
       ahead_is = has.ahead_is;
       kept = let kept = keeps way_on.limits most ahead way_on.events way_on.judge_of in record {
@@ -210,6 +214,7 @@ module _ (most ahead : ℕ) (taken bytes : List ℕ) (old : StreamJudge) (has : 
         keeps = kept.keeps;
         window = kept.window ∙ way_on.judge_of.window;
       };
+      tells = tells;
       state = no_event most ahead taken way_on.limits way_on.events bytes why k f way_on.stream many wrong
           (count way_on.limits most ahead way_on.events way_on.judge_of)
           (unless way_on.limits most ahead way_on.events way_on.judge_of);
@@ -241,6 +246,7 @@ part_aside most ahead taken judge part has = record {
   most_is = has.most_is;
   ahead_is = has.ahead_is;
   kept = has.kept;
+  tells = has.tells;
   state = has.state;
 }
 

@@ -62,6 +62,7 @@ pub record EndsThere (ahead : ℕ) (bytes : List ℕ) (k : ℕ) (ended : EndedCa
 
 -- so does the call that is told where the stream is stuck
 abbrev pub IsCallTold : ℕ → List ℕ → Finding → Option EndedCall → Type 0
+IsCallTold ahead bytes (Stuck k) None = ⊥
 IsCallTold ahead bytes (Stuck k) (Some ended) = EndsThere ahead bytes k ended
 IsCallTold ahead bytes finding ended = Unit {0}
 

@@ -1,5 +1,5 @@
 -- What a judge knows of a stream whose bytes come.
-use Rattle.std.specs.Prelude.{ℕ, ◌≡◌, ◌<◌, ◌++◌, List, [], length, Option, Some, None, MatchOption, ⊤}
+use Rattle.std.specs.Prelude.{ℕ, ◌≡◌, ◌≢◌, ◌<◌, ◌++◌, List, [], length, Option, Some, None, MatchOption, ⊤}
 use Rattle.std.specs.List.{count_by}
 use Rattle.stamp_core.specs.Limits.{Bounds}
 use Rattle.stamp_watch.specs.declared.ended_call.EndedCall.{EndedCall}
@@ -7,6 +7,8 @@ use Rattle.stamp_watch.specs.declared.event.Event.{Event}
 use Rattle.stamp_watch.specs.declared.late.LateJudge.{LateJudge}
 use Rattle.stamp_watch.specs.EndedCall.{ended_from}
 use Rattle.stamp_watch.specs.LateJudge.{HasFoundNothingLater, IsLateJudge}
+use Rattle.stamped_watch.specs.declared.finding.Finding.{Finding}
+use Rattle.stamped_watch.specs.declared.finding.Finding.TheVariants.{Stuck}
 use Rattle.stamped_watch.specs.declared.stream_judge.StreamJudge.{StreamJudge}
 use Rattle.stamped_watch.specs.Finding.{IsFoundOf, is_beginning, is_withdrawal}
 use Rattle.stamped_watch.specs.Possible.{KeepsOf}
@@ -29,6 +31,17 @@ pub record IsFresh (taken : List ℕ) (begun withdrawn : ℕ) : Type 0 where
   pub begun_is : begun ≡ 0
   pub withdrawn_is : withdrawn ≡ 0
 
+-- the call that the event with this number ends, if it begins among the events that are kept
+abbrev pub ended_in : Option LateJudge → ℕ → Option EndedCall
+ended_in None number = None
+ended_in (Some inner) number =
+    ended_from inner.delay.judge.course.first inner.delay.judge.course.events.items number
+
+-- the call is kept that ends where the stream is stuck
+abbrev pub KeepsCall : Option LateJudge → Finding → Type 0
+KeepsCall judge (Stuck k) = ended_in judge k ≢ None
+KeepsCall judge finding = Unit {0}
+
 -- it has taken these bytes, by 16: what it found holds whatever comes later
 pub record HasTaken (most ahead : ℕ) (taken : List ℕ) (judge : StreamJudge) : Type 0 where
   pub most_is : judge.most ≡ most
@@ -37,6 +50,7 @@ pub record HasTaken (most ahead : ℕ) (taken : List ℕ) (judge : StreamJudge) 
       (λ inner. IsUnderWay most ahead taken judge.begun judge.withdrawn inner))
       (λ finding. IsFoundOf most ahead taken finding)
   pub kept : MatchOption judge.judge ⊤ (λ inner. KeepsOf ahead taken inner)
+  pub tells : MatchOption judge.found ⊤ (KeepsCall judge.judge)
 
 -- it was fed these bytes: some of them it has taken, and it keeps those behind them, if nothing was found
 pub record IsFed (most ahead : ℕ) (fed : List ℕ) (judge : StreamJudge) : Type 0 where
@@ -62,9 +76,3 @@ pub record KeepsFedSome (judge : StreamJudge) : Type 0 where
   pub ahead : ℕ
   pub fed : List ℕ
   pub keeps : KeepsFed ahead fed judge
-
--- the call that the event with this number ends, if it begins among the events that are kept
-abbrev pub ended_in : Option LateJudge → ℕ → Option EndedCall
-ended_in None number = None
-ended_in (Some inner) number =
-    ended_from inner.delay.judge.course.first inner.delay.judge.course.events.items number

@@ -7,7 +7,7 @@ ghost use Rattle.stamp_cli.specs.declared.faults.ServeFault.TheVariants.{Memory,
 ghost use Rattle.stamped_watch.specs.Note.{IsCallTold};
 ghost use Rattle.stamped_watch.specs.Progress.{HasTold};
 ghost use Rattle.stamped_watch.specs.Possible.{ArePossibleFor, ArePossibleIn, items_in};
-ghost use Rattle.stamped_watch.specs.StreamJudge.{IsFed, KeepsFed, KeepsFedSome};
+ghost use Rattle.stamped_watch.specs.StreamJudge.{IsFed, KeepsCall, KeepsFed, KeepsFedSome};
 ghost use Rattle.stamped_watch.specs.Served.{AnswersStream, HasReadOn, HasWatched, IsAnsweredBy, IsFoundOfSource, line_of};
 ghost use Rattle.stamped_watch.specs.Progress.{IsNewTelling};
 ghost use Rattle.stamped_watch.specs.Witness.{HasShown};
@@ -56,6 +56,7 @@ fn fed_from<S: Source, T: Sink>(
         (T.sent told.old) (T.sent told.new) (T.writes told.old) (T.writes told.new) result }
     ensures keeps { IfOk result (λ _. KeepsAll asked.ahead (S.left source.old) (S.left source.new)
         (S.reads source.old) (S.reads source.new) judge.new) }
+    ensures tells { IfOk result (KeepsCall judge.new.judge) }
 {
     'source: loop {
         let Ok(taken) = source.read(chunk) else {
@@ -72,6 +73,7 @@ fn fed_from<S: Source, T: Sink>(
 
 /// The call that ends at the event at which the stream is stuck.
 fn ended_at(finding: &Finding, judge: &StreamJudge) -> Option<EndedCall>
+    requires { KeepsCall judge.now.judge finding.now }
     ensures { (ahead : ℕ) (fed : List ℕ) → KeepsFed ahead fed judge.now
         → IsCallTold ahead fed finding.now result }
 {

@@ -12,7 +12,7 @@ use Rattle.stamp_watch.specs.declared.course.Course.{Course}
 use Rattle.stamp_watch.specs.declared.course.Onward.{Onward}
 use Rattle.stamp_watch.specs.declared.course.Onward.TheVariants.{Waits, Steps, Finds}
 use Rattle.stamp_watch.specs.Judging.{IsFound}
-use Rattle.stamp_watch.specs.Course.{IsCourse, IsNear, IsSmall}
+use Rattle.stamp_watch.specs.Course.{IsCourse, IsNear, IsSmall, KeepsEndOf}
 use Rattle.stamp_watch.specs.inner.Judging.{IsEndTold}
 
 -- how the call ends that begins by the event is known
@@ -89,6 +89,12 @@ abbrev pub IsOnward : ℕ → ℕ → Course → Course → Onward → Type 0
 IsOnward most ahead old new Waits = HasWaited ahead old new
 IsOnward most ahead old new Steps = HasStepped old new
 IsOnward most ahead old new (Finds verdict) = IsFoundOn most (Some ahead) old verdict
+
+-- the course keeps what tells of what is found
+abbrev pub IsToldBy : Course → Onward → Type 0
+IsToldBy course Waits = Unit {0}
+IsToldBy course Steps = Unit {0}
+IsToldBy course (Finds verdict) = KeepsEndOf course verdict
 
 -- what comes of several
 abbrev pub HasGoneOn : ℕ → ℕ → Course → Course → Option Verdict → Type 0

@@ -11,6 +11,8 @@ use Rattle.stamp_watch.specs.declared.judge.Outcome.{Outcome}
 use Rattle.stamp_watch.specs.declared.judge.Outcome.TheVariants.{Explained, Unexplained, TooMany}
 use Rattle.stamp_watch.specs.declared.progress.Progress.{Progress}
 use Rattle.stamp_watch.specs.declared.progress.Progress.TheVariants as progress
+use Rattle.stamp_watch.specs.declared.verdict.Verdict.{Verdict}
+use Rattle.stamp_watch.specs.declared.verdict.Verdict.TheVariants as verdict
 use Rattle.stamp_watch.specs.declared.watch.Watch.{Watch}
 use Rattle.stamp_watch.specs.AsObserved.{ending_of}
 use Rattle.stamp_watch.specs.Foretold.{ends_as}
@@ -95,6 +97,14 @@ pub record IsBase (limits : Bounds) (n least : ℕ) (past events : List Event) (
 pub record IsStuckBehind (limits : Bounds) (past events : List Event) (k : ℕ) : Type 0 where
   pub explained : AreExplained limits (past ++ take k events)
   pub stuck : ¬ AreExplained limits (past ++ events)
+
+-- the verdict tells of one of the events with these numbers, if it tells of a stuck one
+abbrev pub IsStuckAmong : ℕ → ℕ → Verdict → Type 0
+IsStuckAmong from to verdict.Explained = Unit {0}
+IsStuckAmong from to (verdict.Stuck k) = (from ≤ k) × (k < to)
+IsStuckAmong from to (verdict.StuckWithin k m) = Unit {0}
+IsStuckAmong from to (verdict.Undecided k why) = Unit {0}
+IsStuckAmong from to (verdict.Broken k) = Unit {0}
 
 -- so it is behind some events
 pub record IsStuckFrom (n k : ℕ) (events : List Event) (watch : Watch) : Type 0 where

@@ -18,17 +18,23 @@ judge_rest-requires-clause-judging c = record {
       (omega (arith, c.loop-low.invariant.apart)) (omega (arith, c.loop-low.invariant.apart)) c.in_ok-start.ensures;
 }
 
-pub returns-in-TooMany : goal.returns-in-TooMany
-returns-in-TooMany c ahead = search_too_many c.args.first c.args.explained c.args.events.now c.args.base.now
+pub returns-in-TooMany-clause-found : goal.returns-in-TooMany-clause-found
+returns-in-TooMany-clause-found c ahead = search_too_many c.args.first c.args.explained c.args.events.now c.args.base.now
     c.loop-low.low
     c.loop-low.high c.loop-low.invariant (c.loop-low.low + (c.loop-low.high - c.loop-low.low) / 2) c.args.most
     c.in-TooMany.field-0 ahead c.in_ok-start.start c.in_ok-outcome.outcome (omega (arith, c.loop-low.invariant.apart))
     (omega (arith, c.loop-low.invariant.apart)) refl c.in-TooMany.is c.in_ok-start.ensures c.in_ok-outcome.ensures
 
-pub returns : goal.returns
-returns c ahead = search_ends c.args.first c.args.explained c.args.events.now c.args.base.now c.loop-low.low
+pub returns-clause-found : goal.returns-clause-found
+returns-clause-found c ahead = search_ends c.args.first c.args.explained c.args.events.now c.args.base.now c.loop-low.low
     c.loop-low.high
     c.loop-low.invariant c.args.most ahead c.loop-low-test.false
+
+pub returns-clause-among : goal.returns-clause-among
+returns-clause-among c = (
+  omega (arith, c.loop-low.invariant.after),
+  omega (arith, c.loop-low.invariant.apart, c.loop-low.invariant.within),
+)
 
 pub loop-low-preserved-in-Explained : goal.loop-low-preserved-in-Explained
 loop-low-preserved-in-Explained c = searching_higher c.args.first c.args.explained c.args.events.now c.args.base.now

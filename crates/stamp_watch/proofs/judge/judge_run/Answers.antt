@@ -85,7 +85,7 @@ returns-in-Unexplained c =
     (found None c.args.limits [] (base_first c.args.limits c.in-Unexplained.k c.as_slice-taken.result.now
     c.in_ok-base.base c.in_ok-base.ensures.watching c.in_ok-base.ensures.untold (whole_here at))
     (stuck_behind c.args.limits 0 [] c.as_slice-taken.result.now c.args.most c.in-Unexplained.k
-    (rw c.in-Unexplained.is at (found_here at)))))) c.find_stuck.ensures
+    (rw c.in-Unexplained.is at (found_here at)))))) c.find_stuck.ensures.found
 
 pub returns : goal.returns
 returns c =

@@ -1,4 +1,5 @@
 use Rattle.std.proofs.Common.{ℕ, ◌≡◌, ◌++◌, [], Ok, false, List, Option}
+use Rattle.std.specs.Prelude.{⊤, MatchOption}
 use Rattle.std.proofs.Common.{append-nil, arith, refl, rules, subst, sym, ◌∙◌, ap, take}
 use Rattle.std.specs.declared.io.Error.{Error}
 use Rattle.std.proofs.KnownBytes.{Consumes-kept, Consumes-nil, Consumes-trans}
@@ -9,7 +10,7 @@ use Rattle.stamp_cli.specs.TakesNone.{takes_none}
 use Rattle.stamp_cli.proofs.MadeSoFar as so_far
 use Rattle.stamped_watch.specs.declared.finding.Finding.{Finding}
 use Rattle.stamped_watch.specs.Finding.{IsFindingOf, IsSoFar}
-use Rattle.stamped_watch.specs.StreamJudge.{KeepsFed}
+use Rattle.stamped_watch.specs.StreamJudge.{KeepsCall, KeepsFed}
 use Rattle.stamped_watch.proofs.ReadingOn.{all_counted, all_took, found_at_end, found_of_all, has_read_on, makes_none}
 use Rattle.stamped_watch.proofs.ReadingOn.{not_of_reading}
 use Rattle.stamped_watch.proofs.Ending.{in_form}
@@ -245,3 +246,8 @@ returns-in-Some-clause-keeps g c =
       keeps = keeps_fed c.args.asked.most c.args.asked.ahead _ c.feed.new.judge
           (c.in_ok-finding.ensures.fed c.args.asked.most c.args.asked.ahead inv.bytes inv.fed);
     }
+
+pub returns-in-Some-clause-tells : goal.returns-in-Some-clause-tells
+returns-in-Some-clause-tells g c =
+    subst (λ (o : Option Finding). MatchOption o ⊤ (KeepsCall c.feed.new.judge.judge))
+    (c.in_ok-finding.ensures.state ∙ c.in-Some.is) c.in_ok-finding.ensures.known.is.has_taken.tells

@@ -1,5 +1,6 @@
 use Rattle.std.proofs.Common.{inr, sym, ◌∙◌}
 use Rattle.std.proofs.lemmas.Bool.{false≢true}
+use Rattle.stamped_watch.proofs.Ended.{call_kept}
 use Rattle.stamped_watch.proofs.Ending.{judge_whole}
 use Rattle.stamped_watch.proofs.Misplacing.{late_form_here}
 use Rattle.stamped_watch.proofs.stream_judge.found_unless.Goals as goal
@@ -26,3 +27,10 @@ returns-then-is_explained-clause-kept c limits most ahead run is =
 pub returns-clause-kept : goal.returns-clause-kept
 returns-clause-kept c limits most ahead run is =
     record { keeps = c.in_ok-verdict.ensures.keeps limits most ahead run is; window = c.in_ok-verdict.ensures.window }
+
+pub returns-then-is_explained-clause-tells : goal.returns-then-is_explained-clause-tells
+returns-then-is_explained-clause-tells c kept = kept
+
+pub returns-clause-tells : goal.returns-clause-tells
+returns-clause-tells c kept = call_kept c.finding_of.result c.in_ok-verdict.verdict c.finish.new.judge
+    c.finding_of.ensures c.in_ok-verdict.ensures.tells

@@ -1,4 +1,8 @@
-use Rattle.std.proofs.Common.{None, Some, ap, inl, inr, refl, sym, ◌∙◌}
+use Rattle.std.proofs.Common.{None, Option, Some, ap, inl, inr, refl, subst, sym, ◌∙◌}
+use Rattle.std.specs.Prelude.{⊤, MatchOption}
+use Rattle.stamp_watch.specs.declared.late_verdict.LateVerdict.{LateVerdict}
+use Rattle.stamp_watch.specs.LateJudge.{KeepsEndLate}
+use Rattle.stamped_watch.proofs.Ended.{call_kept}
 use Rattle.stamped_watch.proofs.Ending.{judge_whole}
 use Rattle.stamped_watch.proofs.Found.{so_found}
 use Rattle.stamped_watch.proofs.Misplacing.{found_then, late_of_form, misplaced_at}
@@ -49,3 +53,8 @@ pub returns-in-None-clause-kept : goal.returns-in-None-clause-kept
 returns-in-None-clause-kept c limits most ahead run is =
     let then = c.in_ok-found.ensures.given limits most ahead run is in
     inr (record { keeps = then.keeps; window = then.window ∙ sym is.window })
+
+pub returns-in-None-clause-tells : goal.returns-in-None-clause-tells
+returns-in-None-clause-tells c = call_kept c.finding_of.result c.in-Some.verdict c.push.new.judge c.finding_of.ensures
+    (subst (λ (o : Option LateVerdict). MatchOption o ⊤ (KeepsEndLate c.push.new.judge.delay))
+    (c.in_ok-found.ensures.told ∙ c.in-Some.is) c.in_ok-found.ensures.known.judge_of.tells)

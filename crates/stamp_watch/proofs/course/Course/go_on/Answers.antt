@@ -97,3 +97,6 @@ returns-in-Finds-clause-kept c limits run is = c.in_ok-onward.ensures.kept limit
 pub returns-clause-kept : goal.returns-clause-kept
 returns-clause-kept c limits run is = kept_of limits run c.unseen.self (c.unseen.invariant.same.courses limits run is)
     (room_still c.args.self.now c.unseen.self c.unseen.invariant.same c.requires.room)
+
+pub returns-in-Finds-clause-tells : goal.returns-in-Finds-clause-tells
+returns-in-Finds-clause-tells c = rw c.in-Finds.is at c.in_ok-onward.ensures.tells

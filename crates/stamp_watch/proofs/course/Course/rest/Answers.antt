@@ -1,10 +1,15 @@
-use Rattle.std.proofs.Common.{List, ◌+◌, ◌<◌, ◌++◌, length, None, arith, sym, subst}
+use Rattle.std.proofs.Common.{ℕ, List, ◌≡◌, ◌+◌, ◌<◌, ◌++◌, length, Option, None, arith, sym, subst}
 use Rattle.std.specs.Prelude.{take, drop}
 use Rattle.std.proofs.lemmas.Result.{IfOk-weaker}
 use Rattle.stamp_core.specs.Limits.{Bounds}
 use Rattle.stamp_watch.specs.declared.event.Event.{Event}
-use Rattle.stamp_watch.specs.inner.Judging.{IsOutcome}
+use Rattle.stamp_watch.specs.declared.judge.Outcome.TheVariants.{Unexplained}
+use Rattle.stamp_watch.specs.declared.verdict.Verdict.{Verdict}
+use Rattle.stamp_watch.specs.Judging.{IsFound}
+use Rattle.stamp_watch.specs.inner.Judging.{IsBase, IsOutcome, IsStuckAmong, IsStuckBehind}
 use Rattle.stamp_watch.specs.Course.{IsCourse}
+use Rattle.stamp_watch.proofs.KeepingEnds.{among_more, keeps_found}
+use Rattle.stamp_watch.proofs.Kept.{IfOk-both}
 use Rattle.stamp_watch.proofs.Running.{rest_explained, rest_stuck, rest_undecided, rest_within, rest_found, run_finds}
 use Rattle.stamp_watch.proofs.Running.{run_stuck_from, rest_judged, rest_outcome}
 use Rattle.stamp_watch.proofs.course.Course.rest.Goals as goal
@@ -75,29 +80,54 @@ overflow_add-result c =
     c.args.self.now.base c.args.self.now.watch on.course_of.on c.in-TooMany.k outcome.0 in
     omega (arith, below, c.requires.room.room)
 
-pub returns-in-Explained : goal.returns-in-Explained
-returns-in-Explained c ahead limits run is =
-    let at = (goal.at.returns-in-Explained c).In_ok-outcome in
+pub returns-in-Explained-clause-rest : goal.returns-in-Explained-clause-rest
+returns-in-Explained-clause-rest c ahead limits run is =
+    let at = (goal.at.returns-in-Explained-clause-rest c).In_ok-outcome in
     rest_explained limits run c.args.self.now.first c.args.self.now.seen c.args.self.now.events.items
     c.args.self.now.base c.args.self.now.watch is.on c.args.most ahead
     (rw c.in-Explained.is at (outcome_here at limits run is))
 
-pub returns-in-Unexplained : goal.returns-in-Unexplained
-returns-in-Unexplained c =
-    let at = (goal.at.returns-in-Unexplained c).In_ok-outcome in
+-- what is found where those events are not explained, and so many of them are
+found_there : (c : In_ok-outcome) (k : ℕ) → c.in_ok-outcome.outcome ≡ Unexplained k → (items : List Event) →
+    items ≡ c.args.self.now.events.items → (verdict : Verdict) (ahead : Option ℕ) →
+    ((limits : Bounds) (past : List Event) →
+    IsBase limits c.args.self.now.first (c.args.self.now.seen + k) past items c.args.self.now.base →
+    IsStuckBehind limits past items (c.args.self.now.seen + k) →
+    IsFound limits (past ++ items) c.args.most ahead verdict) → (limits : Bounds) (run : List Event) →
+    IsCourse limits run c.args.self.now → IsFound limits run c.args.most ahead verdict
+found_there c k unexplained items same verdict ahead found limits run is = run_finds limits run c.args.self.now.first
+    c.args.self.now.seen c.args.self.now.events.items c.args.self.now.base c.args.self.now.watch is.on
+    (c.args.self.now.seen + k) c.args.most ahead items verdict same (omega arith)
+    (rest_stuck limits run c.args.self.now.first c.args.self.now.seen c.args.self.now.events.items
+    c.args.self.now.base c.args.self.now.watch is.on c.args.most ahead k
+    (rw unexplained at (outcome_here c limits run is))) found
+
+pub returns-in-Unexplained-clause-rest : goal.returns-in-Unexplained-clause-rest
+returns-in-Unexplained-clause-rest c =
+    let at = (goal.at.returns-in-Unexplained-clause-rest c).In_ok-outcome in
     IfOk-weaker c.find_stuck.result _ _
     (λ verdict found ahead limits run is. rest_found limits run c.args.most ahead verdict
-    (run_finds limits run c.args.self.now.first c.args.self.now.seen c.args.self.now.events.items
-    c.args.self.now.base c.args.self.now.watch is.on
-    (c.args.self.now.seen + c.in-Unexplained.k) c.args.most ahead c.as_slice.result.now verdict
-    c.as_slice.ensures.value (omega arith)
-    (rest_stuck limits run c.args.self.now.first c.args.self.now.seen c.args.self.now.events.items
-    c.args.self.now.base c.args.self.now.watch is.on c.args.most ahead c.in-Unexplained.k
-    (rw c.in-Unexplained.is at (outcome_here at limits run is))) (found ahead))) c.find_stuck.ensures
+    (found_there at c.in-Unexplained.k c.in-Unexplained.is c.as_slice.result.now c.as_slice.ensures.value verdict ahead
+    (found ahead) limits run is)) c.find_stuck.ensures.found
 
-pub returns-in-TooMany : goal.returns-in-TooMany
-returns-in-TooMany c ahead limits run is =
-    let at = (goal.at.returns-in-TooMany c).In_ok-outcome in
+pub returns-in-Unexplained-clause-tells : goal.returns-in-Unexplained-clause-tells
+returns-in-Unexplained-clause-tells c =
+    let at = (goal.at.returns-in-Unexplained-clause-tells c).In_ok-outcome in
+    let on = c.requires.on in
+    let k = c.in-Unexplained.k in
+    IfOk-both c.find_stuck.result _ _ _
+    (λ verdict found among. keeps_found on.limits on.run c.args.self.now c.args.most None verdict on.course_of
+    (found_there at k c.in-Unexplained.is c.as_slice.result.now c.as_slice.ensures.value verdict None (found None)
+    on.limits on.run on.course_of)
+    (among_more (c.args.self.now.first + c.args.self.now.seen) (c.args.self.now.first + (c.args.self.now.seen + k))
+    (c.args.self.now.first + length c.args.self.now.events.items) verdict (omega arith)
+    (subst (λ (xs : List Event). IsStuckAmong (c.args.self.now.first + (c.args.self.now.seen + k))
+    (c.args.self.now.first + length xs) verdict) c.as_slice.ensures.value among)))
+    c.find_stuck.ensures.found c.find_stuck.ensures.among
+
+pub returns-in-TooMany-clause-rest : goal.returns-in-TooMany-clause-rest
+returns-in-TooMany-clause-rest c ahead limits run is =
+    let at = (goal.at.returns-in-TooMany-clause-rest c).In_ok-outcome in
     rest_undecided limits run c.args.self.now.first c.args.self.now.seen c.args.self.now.events.items
     c.args.self.now.base c.args.self.now.watch is.on c.args.most ahead c.in-TooMany.k
     (rw c.in-TooMany.is at (outcome_here at limits run is))

@@ -1,12 +1,13 @@
-use Rattle.std.proofs.Common.{List, ◌+◌, ◌++◌, Some, arith, refl}
+use Rattle.std.proofs.Common.{List, ◌+◌, ◌++◌, Some, arith, length, refl, subst}
 use Rattle.std.specs.Prelude.{take, drop}
 use Rattle.stamp_core.specs.Limits.{Bounds}
 use Rattle.stamp_watch.specs.declared.event.Event.{Event}
 use Rattle.stamp_watch.specs.Course.{IsCourse}
-use Rattle.stamp_watch.specs.inner.Judging.{IsStep}
+use Rattle.stamp_watch.specs.inner.Judging.{IsStep, IsStuckAmong}
 use Rattle.stamp_watch.proofs.Judged.{never_refused}
 use Rattle.stamp_watch.proofs.Looking.{looked_none}
 use Rattle.stamp_watch.proofs.Running.{run_here, run_steps, run_dead, run_too_many, run_stuck_from, run_finds}
+use Rattle.stamp_watch.proofs.KeepingEnds.{keeps_found, keeps_same}
 use Rattle.stamp_watch.proofs.Kept.{kept_of, kept_same}
 use Rattle.stamp_watch.proofs.SameRuns.{room_still}
 use Rattle.stamp_watch.proofs.course.Course.see.Goals as goal
@@ -79,7 +80,17 @@ returns-in_ok-verdict-in-Dead-clause-onward c ahead limits run is =
     (run_dead limits run c.args.self.now.first c.args.self.now.seen c.args.self.now.events.items
     c.args.self.now.base c.args.self.now.watch is.on c.args.event.now c.requires.front.less c.requires.front.read
     c.args.most c.step.new.watch c.in_ok-progress.progress c.in-Dead.is (step_here at limits run is))
-    (c.in_ok-verdict-in-Dead.ensures (Some ahead))
+    (c.in_ok-verdict-in-Dead.ensures.found (Some ahead))
+
+pub returns-in_ok-verdict-in-Dead-clause-tells : goal.returns-in_ok-verdict-in-Dead-clause-tells
+returns-in_ok-verdict-in-Dead-clause-tells c =
+    let on = c.requires.on in
+    keeps_same c.args.self.now _ refl refl refl c.in_ok-verdict-in-Dead.verdict
+    (keeps_found on.limits on.run c.args.self.now c.args.most (Some 0) c.in_ok-verdict-in-Dead.verdict on.course_of
+    (returns-in_ok-verdict-in-Dead-clause-onward c 0 on.limits on.run on.course_of)
+    (subst (λ (xs : List Event). IsStuckAmong (c.args.self.now.first + c.args.self.now.seen)
+    (c.args.self.now.first + length xs) c.in_ok-verdict-in-Dead.verdict) c.as_slice.ensures.value
+    c.in_ok-verdict-in-Dead.ensures.among))
 
 pub returns-in-TooMany-clause-onward : goal.returns-in-TooMany-clause-onward
 returns-in-TooMany-clause-onward c ahead limits run is =

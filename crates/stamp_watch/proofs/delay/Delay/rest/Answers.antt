@@ -5,6 +5,7 @@ use Rattle.stamp_watch.specs.inner.Delay.{IsFindingOf}
 use Rattle.stamp_watch.proofs.Closeness.{near_all, rest_near}
 use Rattle.stamp_watch.proofs.Delaying.{few_given}
 use Rattle.stamp_watch.proofs.FindingLate.{rest_by}
+use Rattle.stamp_watch.proofs.JudgingLate.{late_told}
 use Rattle.stamp_watch.proofs.PossibleLate.{keeps_all}
 use Rattle.stamp_watch.proofs.delay.Delay.rest.Goals as goal
 
@@ -30,3 +31,8 @@ returns-clause-rest c limits most ahead run is = rest_by limits most ahead run i
     c.in_ok-verdict.verdict c.finding_of.result) c.in_ok-give_all.ensures.same.3
     (subst (λ (o : Option ℕ). IsFindingOf c.give_all.new.self.aside.items c.give_all.new.self.shown o
     c.in_ok-verdict.verdict c.finding_of.result) c.in_ok-give_all.ensures.same.2 c.finding_of.ensures)))
+
+pub returns-clause-tells : goal.returns-clause-tells
+returns-clause-tells c = late_told c.give_all.new.self.aside.items c.give_all.new.self.shown
+    c.give_all.new.self.first_late c.in_ok-verdict.verdict c.finding_of.result c.give_all.new.self c.finding_of.ensures
+    c.in_ok-verdict.ensures.tells

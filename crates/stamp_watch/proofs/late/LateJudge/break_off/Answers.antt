@@ -1,7 +1,8 @@
 use Rattle.std.proofs.Common.{[], ◌∷◌, ◌++◌, ◌∙◌, refl, sym, subst}
 use Rattle.stamp_watch.specs.declared.late_verdict.LateVerdict.{LateVerdict}
 use Rattle.stamp_watch.specs.Late.{IsLateFound}
-use Rattle.stamp_watch.proofs.JudgingLate.{few_wait, has_found, late_broken, late_way, ready_now}
+use Rattle.stamp_watch.specs.LateJudge.{KeepsEndLate}
+use Rattle.stamp_watch.proofs.JudgingLate.{broken_told, few_wait, has_found, late_broken, late_way, ready_now}
 use Rattle.stamp_watch.proofs.PossibleLate.{keeps_beside}
 use Rattle.stamp_watch.proofs.late.LateJudge.break_off.Goals as goal
 
@@ -26,7 +27,9 @@ pub returns-clause-given : goal.returns-clause-given
 returns-clause-given c limits most ahead run is = has_found limits most ahead (run ++ c.args.event.now ∷ []) _
     c.broken_off-finding.result (c.in_ok-rest.ensures.window ∙ is.window) (c.in_ok-rest.ensures.small ahead is.small)
     (keeps_beside limits run c.rest.new.self c.args.event.now (c.in_ok-rest.ensures.keeps limits most ahead run
-    (late_way limits most ahead run c.args.self.now is c.requires.none).delayed)) refl
+    (late_way limits most ahead run c.args.self.now is c.requires.none).delayed))
+    (subst (KeepsEndLate c.rest.new.self) (sym c.broken_off-finding.ensures)
+    (broken_told c.rest.new.self c.in_ok-rest.rest c.count-number.result c.in_ok-rest.ensures.tells)) refl
     (returns-clause-found c limits most ahead run is)
 
 pub returns-clause-known : goal.returns-clause-known

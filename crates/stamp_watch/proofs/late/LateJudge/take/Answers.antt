@@ -36,7 +36,7 @@ returns-in_default-clause-known c =
     }
 
 pub returns-clause-found : goal.returns-clause-found
-returns-clause-found c limits most ahead run is = c.finding-finding.ensures limits most ahead
+returns-clause-found c limits most ahead run is = c.finding-finding.ensures.found limits most ahead
     (run ++ c.args.event.now ∷ [])
     (c.in_ok-found.ensures.delayed limits most ahead run
     (late_way limits most ahead run c.args.self.now is c.requires.none).delayed
@@ -49,7 +49,12 @@ returns-clause-given c limits most ahead run is = late_finds limits most ahead r
     (c.in_ok-found.ensures.delayed limits most ahead run
     (late_way limits most ahead run c.args.self.now is c.requires.none).delayed
     (whole_then limits most ahead run c.args.self.now is c.requires.none c.args.event.now c.args.busy c.requires.may
-    c.requires.busy)) c.in_ok-found.ensures.few.1 refl (returns-clause-found c limits most ahead run is)
+    c.requires.busy)) c.in_ok-found.ensures.few.1
+    (c.finding-finding.ensures.tells limits most ahead (run ++ c.args.event.now ∷ [])
+    (c.in_ok-found.ensures.delayed limits most ahead run
+    (late_way limits most ahead run c.args.self.now is c.requires.none).delayed
+    (whole_then limits most ahead run c.args.self.now is c.requires.none c.args.event.now c.args.busy c.requires.may
+    c.requires.busy))) refl (returns-clause-found c limits most ahead run is)
 
 pub returns-clause-known : goal.returns-clause-known
 returns-clause-known c =

@@ -1,6 +1,8 @@
 use Rattle.std.proofs.Common.{[], ◌∷◌, ◌++◌, Some, refl, sym, subst}
 use Rattle.stamp_watch.specs.declared.verdict.Verdict.{Verdict}
 use Rattle.stamp_watch.specs.Judging.{IsFound}
+use Rattle.stamp_watch.specs.Course.{KeepsEndOf}
+use Rattle.stamp_watch.proofs.KeepingEnds.{keeps_broken}
 use Rattle.stamp_watch.proofs.GoingOn.{course_on, course_room, found_broken, judge_broken}
 use Rattle.stamp_watch.proofs.Kept.{kept_beside}
 use Rattle.stamp_watch.proofs.online.Judge.break_off.Goals as goal
@@ -20,12 +22,14 @@ returns-clause-found c limits most ahead run is =
     (sym c.broken_off-verdict.ensures)
     (found_broken limits most ahead run c.args.event.now c.args.self.now is c.requires.none c.count.result
     c.in_ok-rest.rest
-    c.count.ensures c.requires.not c.in_ok-rest.ensures)
+    c.count.ensures c.requires.not c.in_ok-rest.ensures.rest)
 
 pub returns-clause-given : goal.returns-clause-given
 returns-clause-given c limits most ahead run is = judge_broken limits most ahead run c.args.event.now c.args.self.now
     is c.requires.none _
     c.broken_off-verdict.result refl refl refl refl (returns-clause-found c limits most ahead run is)
+    (subst (KeepsEndOf c.args.self.now.course) (sym c.broken_off-verdict.ensures)
+    (keeps_broken c.args.self.now.course c.in_ok-rest.rest c.count.result c.in_ok-rest.ensures.tells))
 
 pub returns-clause-known : goal.returns-clause-known
 returns-clause-known c =

@@ -30,6 +30,7 @@ returns-clause-given c limits most ahead run is = judge_then limits most ahead r
     refl refl
     (one_longer_room c.args.self.now c.add.new.self c.requires.room c.in_ok-add.ensures.longer)
     c.in_ok-add.ensures.longer c.in_ok-found.ensures.small c.in_ok-found.ensures.found
+    c.in_ok-found.ensures.tells
 
 pub returns-clause-known : goal.returns-clause-known
 returns-clause-known c =

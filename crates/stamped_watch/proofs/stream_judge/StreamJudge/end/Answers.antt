@@ -1,7 +1,10 @@
-use Rattle.std.proofs.Common.{arith, rules}
+use Rattle.std.proofs.Common.{Option, arith, rules, subst}
+use Rattle.std.specs.Prelude.{⊤, MatchOption}
 use Rattle.std.proofs.lemmas.Bool.Decides.{nat_tests}
 use Rattle.std.proofs.lemmas.List.{nil_from_length}
 use Rattle.std.proofs.lemmas.Result.{IfOk-weaker}
+use Rattle.stamped_watch.specs.declared.finding.Finding.{Finding}
+use Rattle.stamped_watch.specs.StreamJudge.{KeepsCall}
 use Rattle.stamped_watch.proofs.Ending.{cut_at_end, found_at_end, way_of_judge, whole_at_end}
 use Rattle.stamped_watch.proofs.Taking.{keeps_ended, keeps_fed}
 use Rattle.stamped_watch.proofs.stream_judge.StreamJudge.end.Goals as goal
@@ -37,3 +40,15 @@ pub returns-clause-kept : goal.returns-clause-kept
 returns-clause-kept c = IfOk-weaker c.found_unless-2.result _ _ (λ finding keeps most ahead fed is.
     keeps_ended most ahead fed c.args.self.now is c.in_default.is c.in-Some-judge.judge c.found_unless-2.new.judge
     c.in-Some-judge.is keeps) c.found_unless-2.ensures.kept
+
+pub returns-in-Some-clause-tells : goal.returns-in-Some-clause-tells
+returns-in-Some-clause-tells c = subst (λ (o : Option Finding). MatchOption o ⊤ (KeepsCall c.args.self.now.judge))
+    c.in-Some.is c.requires.is.has_taken.tells
+
+pub returns-then-not-is_empty-clause-tells : goal.returns-then-not-is_empty-clause-tells
+returns-then-not-is_empty-clause-tells c =
+    IfOk-weaker c.found_unless.result _ _ (λ finding keeps. keeps tt) c.found_unless.ensures.tells
+
+pub returns-clause-tells : goal.returns-clause-tells
+returns-clause-tells c =
+    IfOk-weaker c.found_unless-2.result _ _ (λ finding keeps. keeps tt) c.found_unless-2.ensures.tells
