@@ -80,7 +80,8 @@ module _ (old new : Waiting) (e : Event) (is : IsCounted old) where
         (All-push (λ (d : Event). lane_of d < 64) old.events.items e is.lanes low);
     many = ap (λ (xs : List ℕ). length xs) counts_are ∙
         length-set old.counts (lane_of e) (get_or old.counts (lane_of e) 0 + 1) ∙ is.many;
-    counts = λ lane d less. ap (λ (xs : List ℕ). get_or xs lane d) counts_are ∙ by lane d less (cases_eq (lane_of e) lane) ∙
+    counts = λ lane d less. ap (λ (xs : List ℕ). get_or xs lane d) counts_are ∙ by lane d less
+        (cases_eq (lane_of e) lane) ∙
         sym (count_behind lane old.events.items e) ∙ ap (λ (xs : List Event). count_of lane xs) (sym items_are);
   }
     where
@@ -91,7 +92,8 @@ module _ (old new : Waiting) (e : Event) (is : IsCounted old) where
           (get_or old.counts (lane_of e) 0 + 1)) n d) (sym same) ∙
           get_or-set_same old.counts (lane_of e) (get_or old.counts (lane_of e) 0 + 1) d
           (let many : length old.counts ≡ 64 = is.many in omega (arith, many, low)) ∙
-          (let here : get_or old.counts (lane_of e) 0 ≡ count_of (lane_of e) old.events.items = is.counts (lane_of e) 0 low in
+          (let here : get_or old.counts (lane_of e) 0 ≡ count_of (lane_of e) old.events.items = is.counts (lane_of e) 0
+          low in
           let one : one_of lane e ≡ 1 = one_here lane e same in
           let there : count_of (lane_of e) old.events.items ≡ count_of lane old.events.items =
           ap (λ (n : ℕ). count_of n old.events.items) same in omega (arith, here, one, there))
@@ -115,7 +117,8 @@ module _ (old new : Waiting) (e : Event) (is : IsCounted old) where
           (subst (All (λ (d : Event). lane_of d < 64)) first_is is.lanes);
       many = ap (λ (xs : List ℕ). length xs) counts_are ∙
           length-set old.counts (lane_of e) (count_of (lane_of e) new.events.items) ∙ is.many;
-      counts = λ lane d less. ap (λ (xs : List ℕ). get_or xs lane d) counts_are ∙ by lane d less (cases_eq (lane_of e) lane);
+      counts = λ lane d less. ap (λ (xs : List ℕ). get_or xs lane d) counts_are ∙ by lane d less
+          (cases_eq (lane_of e) lane);
     }
       where
         by : (lane d : ℕ) → lane < 64 → (lane_of e ≡ lane) ⊎ (lane_of e ≢ lane) →
@@ -134,11 +137,13 @@ module _ (old new : Waiting) (e : Event) (is : IsCounted old) where
             counted_here lane in
             let none : one_of lane e ≡ 0 = one_elsewhere lane e apart in omega (arith, here, none, all))
 
-pub counted_first : (waiting : Waiting) → waiting.events.items ≡ [] → waiting.counts ≡ replicate 64 0 → IsCounted waiting
+pub counted_first : (waiting : Waiting) → waiting.events.items ≡ [] → waiting.counts ≡ replicate 64 0 → IsCounted
+    waiting
 counted_first waiting none counts_are = record {
   lanes = subst (All (λ (d : Event). lane_of d < 64)) (sym none) (All-nil (λ (d : Event). lane_of d < 64));
   many = ap (λ (xs : List ℕ). length xs) counts_are ∙ length-replicate {A = ℕ} 64 0;
-  counts = λ lane d less. ap (λ (xs : List ℕ). get_or xs lane d) counts_are ∙ get_or-replicate {A = ℕ} 64 lane 0 d less ∙
+  counts = λ lane d less. ap (λ (xs : List ℕ). get_or xs lane d) counts_are ∙ get_or-replicate {A = ℕ} 64 lane 0 d less
+      ∙
       ap (λ (xs : List Event). count_of lane xs) (sym none);
 }
 

@@ -23,11 +23,13 @@ use Rattle.stamp_watch.specs.Late.LongCallsBeginLater.{as_they_are}
 use Rattle.stamp_watch.specs.Possible.{KeepsBase, KeepsOn}
 use Rattle.stamp_watch.specs.Verdict.{AreOfLock, IsOfLock}
 use Rattle.stamp_watch.specs.Waiting.{IsCounted, count_of}
-use Rattle.stamp_watch.specs.inner.Delay.{HasBegun, HasRoomFor, IsOfLaneAt, IsReady, IsReadyFor, IsShownBy, IsToBeAside}
+use Rattle.stamp_watch.specs.inner.Delay.{HasBegun, HasRoomFor, IsOfLaneAt, IsReady, IsReadyFor, IsShownBy}
+use Rattle.stamp_watch.specs.inner.Delay.{IsToBeAside}
 use Rattle.stamp_watch.proofs.Closeness.{few_aside, near_aside, near_first, near_late, near_passes, near_waits}
 use Rattle.stamp_watch.proofs.Forming.{form_first, next_of_lock}
 use Rattle.stamp_watch.proofs.GoingOn.{judge_stays, run_long, way_of}
-use Rattle.stamp_watch.proofs.HandingOn.{first_or, given_length, begins_so, handed_aside, handed_passes, handed_waits, passed_length}
+use Rattle.stamp_watch.proofs.HandingOn.{first_or, given_length, begins_so, handed_aside, handed_passes, handed_waits}
+use Rattle.stamp_watch.proofs.HandingOn.{passed_length}
 use Rattle.stamp_watch.proofs.HandingOn.{spared_so, x_spared}
 use Rattle.stamp_watch.proofs.Reading.{take_read}
 use Rattle.stamp_watch.proofs.Unshown.{ended_here, ended_long, ended_then, last_wait, late_aside, late_begins}
@@ -60,7 +62,8 @@ judge_known delay ready = record {
 
 module _ (delay : Delay) (ready : IsReady delay) where
   pub given_of_all : length ready.delayed.given + length delay.aside.items ≡ delay.passed
-  given_of_all = given_length (ready.ahead - 64) ready.run ready.delayed.given delay.aside.items delay.waiting.events.items
+  given_of_all = given_length (ready.ahead - 64) ready.run ready.delayed.given delay.aside.items
+      delay.waiting.events.items
       delay.first_late delay.passed ready.delayed.handed
 
   -- the judge can number an event, where some were not given to it
@@ -199,9 +202,11 @@ module _ (limits : Bounds) (most ahead : ℕ) (run : List Event) (old : Delay) w
         IsShownBy old b e shown → IsShownIfAny limits (run ++ e ∷ []) (is.given ++ b ∷ [])
         (remove old.aside.items place) (old.waiting.events.items ++ e ∷ []) shown
     late_shown place b e there read others whole None range by = tt
-    late_shown place b e there read others whole (Some many) range by = subst (λ (n : ℕ). IsShown limits (run ++ e ∷ [])
+    late_shown place b e there read others whole (Some many) range by = subst
+        (λ (n : ℕ). IsShown limits (run ++ e ∷ [])
         (is.given ++ b ∷ []) (remove old.aside.items place) (old.waiting.events.items ++ e ∷ []) n) (sym long)
-        (shown_late limits run is.given old.aside.items old.waiting.events.items before.0 before.1 place b e there.0 read
+        (shown_late limits run is.given old.aside.items old.waiting.events.items before.0 before.1 place b e there.0
+        read
         (subst (IsSpared (remove old.aside.items place)) (sym lane_is) others)
         (subst (λ (d : Event). IsSpared old.waiting.events.items (lane_of d)) (sym read)
         (is.handed.asides.spared place b there.0))
@@ -239,7 +244,8 @@ module _ (limits : Bounds) (most ahead : ℕ) (run : List Event) (old : Delay) w
         length old.waiting.events.items ≤ old.ahead → (shown : Option ℕ) → IsShownBy old b e shown →
         AreLate limits (run ++ e ∷ []) (remove old.aside.items place) (old.waiting.events.items ++ e ∷ []) (ahead - 64)
         shown
-    late_then place b e there read others few shown by = late_begins limits run old.aside.items old.waiting.events.items
+    late_then place b e there read others few shown by = late_begins limits run old.aside.items
+        old.waiting.events.items
         (ahead - 64) old.shown is.late place b e there.0 read same others shown (ended shown by)
       where
         same : lane_of e ≡ lane_of b
@@ -259,7 +265,8 @@ module _ (limits : Bounds) (most ahead : ℕ) (run : List Event) (old : Delay) w
         ended (Some many) told = inr (record {
           ended = begun;
           place = let at : many ≡ old.passed + length old.waiting.events.items + 1 = told.2 in
-              let all : old.passed + length old.waiting.events.items ≡ length run = passed_length (ahead - 64) run is.given
+              let all : old.passed + length old.waiting.events.items ≡ length run = passed_length (ahead - 64) run
+              is.given
               old.aside.items old.waiting.events.items old.first_late old.passed is.handed in
               let long : begun.late + length begun.between + 1 ≡ length run = ended_long limits run old.aside.items
               old.waiting.events.items (ahead - 64) old.shown is.late place b e there.0 read same others in
@@ -346,9 +353,11 @@ module _ (limits : Bounds) (most ahead : ℕ) (run : List Event) (old : Delay) w
             old.shown new.shown aside_is waiting_is shown_is
             (shown_if_aside limits run is.given old.aside.items old.waiting.events.items x rest old.shown some spared
             is.shown);
-        late = late_as limits run (old.aside.items ++ x ∷ []) new.aside.items rest new.waiting.events.items (ahead - 64)
+        late = late_as limits run (old.aside.items ++ x ∷ []) new.aside.items rest new.waiting.events.items
+            (ahead - 64)
             old.shown new.shown aside_is waiting_is shown_is
-            (late_aside limits run old.aside.items old.waiting.events.items (ahead - 64) old.shown is.late x rest old.passed
+            (late_aside limits run old.aside.items old.waiting.events.items (ahead - 64) old.shown is.late x rest
+            old.passed
             there (begins_so x rest to) (spared_so x rest to)
             (let same : old.ahead ≡ ahead - 64 = is.ahead_is in omega (arith, many, same)));
       }
@@ -418,7 +427,8 @@ module _ (events : List Event) (k : ℕ) (e : Event) (old new : Judge) (less : k
 -- before any event
 pub delayed_first : (limits : Bounds) (most ahead : ℕ) (delay : Delay) → delay.limits ≡ limits →
     IsJudge limits most (reach_of ahead) [] delay.judge → KeepsBase limits [] delay.judge → delay.ahead ≡ ahead - 64 →
-    IsCounted delay.waiting → delay.aside.items ≡ [] → delay.waiting.events.items ≡ [] → delay.first_late ≡ None → delay.passed ≡ 0 →
+    IsCounted delay.waiting → delay.aside.items ≡ [] → delay.waiting.events.items ≡ [] → delay.first_late ≡ None →
+    delay.passed ≡ 0 →
     delay.shown ≡ Some 0 → IsDelayed limits most ahead [] delay
 delayed_first limits most ahead delay limits_are judge_of keeps far counted aside_is waiting_is first_is passed_is
     shown_is = record {
@@ -448,7 +458,8 @@ delayed_first limits most ahead delay limits_are judge_of keeps far counted asid
           });
       shown = shown_as limits [] [] [] delay.aside.items [] delay.waiting.events.items (Some 0) delay.shown aside_is
           waiting_is shown_is (shown_first limits);
-      late = late_as limits [] [] delay.aside.items [] delay.waiting.events.items (ahead - 64) (Some 0) delay.shown aside_is
+      late = late_as limits [] [] delay.aside.items [] delay.waiting.events.items (ahead - 64) (Some 0) delay.shown
+          aside_is
           waiting_is shown_is (late_first_of limits (ahead - 64));
     }
 

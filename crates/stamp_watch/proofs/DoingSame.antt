@@ -98,7 +98,8 @@ release_row l c k call (by_unlock s is) =
     ap (λ (here : Bool). released_row (nat_lt 0 c.readers && here)) (read_here l.layout c.write_count k s is)
   where
     free : is_held_write (units l) c s ≡ false
-    free = ap (λ (b : Bool). (c.writers == 1) && b) (not_write l.layout c.write_count k s is) ∙ and_false (c.writers == 1)
+    free = ap (λ (b : Bool). (c.writers == 1) && b) (not_write l.layout c.write_count k s is) ∙ and_false
+        (c.writers == 1)
 
 pub releases_same : (l : Bounds) (k : ℕ) (call other : Call) → ReleasesRead (units l) k call →
     ReleasesRead (units l) k other → DoSame l call other

@@ -309,7 +309,8 @@ module _ (limits : Bounds) (table : List (Option OpenCall)) (p : Position) where
       EffectGoesOn limits table events p way.first_lane
   instead last events lane told way effect = by way.goes
     where
-      by : GoesBefore limits way.first_lane lane way.first way.begun → EffectGoesOn limits table events p way.first_lane
+      by : GoesBefore limits way.first_lane lane way.first way.begun → EffectGoesOn limits table events p
+          way.first_lane
       by (inl ahead) = instead_sooner last events lane told way ahead effect
       by (inr lower) = instead_lower last events lane told way lower.0 lower.1 effect
 
@@ -321,13 +322,15 @@ module _ (limits : Bounds) (table : List (Option OpenCall)) (p : Position) where
   advances xs ys last events full expands told zero lane o is low effect = absurd (omega arith)
   advances xs ys last events full expands told (suc n) lane o is low effect =
       by ((expands.whole lane within).tried last events told effect)
-      (λ (way : GivesWay limits table p.in_effect lane) below. advances xs ys last events full expands told n way.first_lane
+      (λ (way : GivesWay limits table p.in_effect lane) below. advances xs ys last events full expands told n
+      way.first_lane
       way.first way.is_first below (instead last events lane told way effect))
     where
       within : lane < 64
       within = omega (arith, open_at_within table lane o is)
 
-      below : (way : GivesWay limits table p.in_effect lane) → GoesBefore limits way.first_lane lane way.first way.begun →
+      below : (way : GivesWay limits table p.in_effect lane) → GoesBefore limits way.first_lane lane way.first
+          way.begun →
           rank_of way.first_lane way.first.ends < n
       below way (inl ahead) =
           let first : rank_of way.first_lane way.first.ends ≡ ahead.place =

@@ -1,5 +1,6 @@
 -- What a judge's verdict tells of a run in which calls begin later.
-use Rattle.std.proofs.Common.{◌-◌, ◌≡◌, ◌≢◌, ◌⊎◌, ◌+◌, ◌<◌, ◌≤◌, ℕ, List, [], ◌∷◌, ◌++◌, length, Option, Some, None, refl}
+use Rattle.std.proofs.Common.{◌-◌, ◌≡◌, ◌≢◌, ◌⊎◌, ◌+◌, ◌<◌, ◌≤◌, ℕ, List, [], ◌∷◌, ◌++◌, length, Option, Some, None}
+use Rattle.std.proofs.Common.{refl}
 use Rattle.std.proofs.Common.{sym, ◌∙◌, ap, subst, inl, inr, arith, append_assoc, append-nil}
 use Rattle.std.specs.Prelude.{take, drop}
 use Rattle.std.proofs.lemmas.Bool.{cases_lt}
@@ -202,10 +203,12 @@ module _ (limits : Bounds) (most ahead : ℕ) (run given aside waiting : List Ev
   none_aside none = ap (λ (xs : List Event). given ++ (xs ++ waiting)) none
 
   -- why it is told that calls are late
-  why_late : (v : Verdict) (k : ℕ) → TellsOf v k → ¬ IsSettledFor aside shown v → (v ≡ verdict.Stuck k → k + 1 ≤ length run) →
+  why_late : (v : Verdict) (k : ℕ) → TellsOf v k → ¬ IsSettledFor aside shown v →
+      (v ≡ verdict.Stuck k → k + 1 ≤ length run) →
       (more : List Event) → HasGivenUp v ⊎ OneIsUnshown limits (run ++ more) (ahead - 64) (k + 1)
   why_late verdict.Explained k tells not within more = absurd tells
-  why_late (verdict.Stuck j) k tells not within more = inr (one_unshown limits run more (ahead - 64) k aside waiting shown
+  why_late (verdict.Stuck j) k tells not within more = inr (one_unshown limits run more (ahead - 64) k aside waiting
+      shown
       late (subst (λ (n : ℕ). ¬ IsSettled aside shown n) tells not)
       (within (ap (λ (n : ℕ). verdict.Stuck n) tells)))
   why_late (verdict.StuckWithin j m) k tells not within more = inl tt
@@ -249,7 +252,8 @@ module _ (limits : Bounds) (most ahead : ℕ) (run given aside waiting : List Ev
         let long : length (given ++ (aside ++ waiting)) ≡ length given + length (aside ++ waiting) =
         length-append given (aside ++ waiting) in
         let same : length (given ++ (aside ++ waiting)) ≡ length run = long_here in omega (arith, within, long, same))
-        (place_here k (place_given k (place_of limits given most ahead k (verdict.Stuck k) (has (stray ∷ [])) refl))).explained
+        (place_here k (place_given k (place_of limits given most ahead k (verdict.Stuck k) (has (stray ∷ []))
+        refl))).explained
         (has waiting).1.stuck
     settled_found (verdict.StuckWithin k m) has none = absurd none
     settled_found (verdict.Undecided k why) has none = absurd none
@@ -258,13 +262,15 @@ module _ (limits : Bounds) (most ahead : ℕ) (run given aside waiting : List Ev
     pub found_by : (f : LateVerdict) → IsFindingOf aside shown first v f → IsLateFound limits run most ahead f
     found_by f by_it = by first is.first_is f by_it
       where
-        by : (n : Option ℕ) → IsFirstIfAny (ahead - 64) run is.past given aside n → (g : LateVerdict) → IsFindingOf aside shown n v g →
+        by : (n : Option ℕ) → IsFirstIfAny (ahead - 64) run is.past given aside n → (g : LateVerdict) → IsFindingOf
+            aside shown n v g →
             IsLateFound limits run most ahead g
         by None none g same = subst (IsLateFound limits run most ahead) (sym same)
             (λ more. subst (λ (xs : List Event). IsVerdict limits xs most None v)
             (sym (append_assoc given (aside ++ waiting) more) ∙
             ap (λ (xs : List Event). xs ++ more) (as_it_stands none)) (found ((aside ++ waiting) ++ more)))
-        by (Some n) some (finding.Is w) both = subst (λ (u : Verdict). IsLateFound limits run most ahead (finding.Is u))
+        by (Some n) some (finding.Is w) both = subst (λ (u : Verdict). IsLateFound limits run most ahead
+            (finding.Is u))
             (sym both.0) (either both.1)
           where
             either : RestsBefore v n ⊎ IsSettledFor aside shown v → IsLateFound limits run most ahead (finding.Is v)
@@ -275,7 +281,8 @@ module _ (limits : Bounds) (most ahead : ℕ) (run given aside waiting : List Ev
         by (Some n) some (finding.Late k) both = λ more. late_with limits run more
             (given ++ (aside ++ (waiting ++ more))) most ahead n k (length (run ++ more)) v whole
             (let long : length (run ++ more) ≡ length run + length more = length-append run more in
-            omega (arith, long)) (λ less. absurd (omega (arith, less))) (longs_on more) (found (aside ++ (waiting ++ more)))
+            omega (arith, long)) (λ less. absurd (omega (arith, less))) (longs_on more)
+            (found (aside ++ (waiting ++ more)))
             (place_here k (place_given k (place_of limits given most ahead k v (found (stray ∷ [])) both.0))) both.0
             both.1 some.open_for some.before (why_late v k both.0 both.2 (λ same.
             let within : k + 1 ≤ length given = cut_within given (k + 1) (subst (λ (w : Verdict).
@@ -330,7 +337,8 @@ module _ (limits : Bounds) (most ahead : ℕ) (run given aside waiting : List Ev
     pub rest_by : (f : LateVerdict) → IsFindingOf aside shown first v f → IsLateRest limits run most ahead f
     rest_by f by_it = by first is.first_is f by_it
       where
-        by : (n : Option ℕ) → IsFirstIfAny (ahead - 64) run is.past given aside n → (g : LateVerdict) → IsFindingOf aside shown n v g →
+        by : (n : Option ℕ) → IsFirstIfAny (ahead - 64) run is.past given aside n → (g : LateVerdict) → IsFindingOf
+            aside shown n v g →
             IsLateRest limits run most ahead g
         by None none g same = subst (IsLateRest limits run most ahead) (sym same)
             (subst (λ (xs : List Event). IsRest limits xs most None v) (as_it_stands none) rest)
@@ -346,7 +354,8 @@ module _ (limits : Bounds) (most ahead : ℕ) (run given aside waiting : List Ev
             has_rest (place_here k (place_of limits (given ++ (aside ++ waiting)) most ahead k v
             (with_stray v both.0 rest) both.0)) both.0 both.1 some.open_for some.before
             (why_late v k both.0 both.2 (λ same.
-            let within : k + 1 ≤ length (given ++ (aside ++ waiting)) = cut_within (given ++ (aside ++ waiting)) (k + 1)
+            let within : k + 1 ≤ length (given ++ (aside ++ waiting)) = cut_within (given ++ (aside ++ waiting))
+            (k + 1)
             (subst (λ (w : Verdict). IsVerdict limits ((given ++ (aside ++ waiting)) ++ stray ∷ []) most None w) same
             (with_stray v both.0 rest)).0 in
             let all : length (given ++ (aside ++ waiting)) ≡ length run = long_here in omega (arith, within, all))

@@ -1,5 +1,6 @@
 -- How the events of a run are handed on to a judge.
-use Rattle.std.proofs.Common.{◌≡◌, ◌≢◌, ◌⊎◌, ◌+◌, ◌-◌, ◌<◌, ◌≤◌, ℕ, zero, suc, List, [], ◌∷◌, ◌++◌, length, get_or, Option, true, false}
+use Rattle.std.proofs.Common.{◌≡◌, ◌≢◌, ◌⊎◌, ◌+◌, ◌-◌, ◌<◌, ◌≤◌, ℕ, zero, suc, List, [], ◌∷◌, ◌++◌, length, get_or}
+use Rattle.std.proofs.Common.{Option, true, false}
 use Rattle.std.proofs.Common.{Some, None, refl, sym, ◌∙◌, ap, subst, inl, inr, arith, append_assoc, append-nil}
 use Rattle.std.specs.Prelude.{take, drop}
 use Rattle.std.specs.List.{All, AllPairs, remove}
@@ -69,7 +70,8 @@ module _ (ahead : ℕ) (run given aside waiting : List Event) (first : Option �
       ap length (sym is.run_is)
 
   pub given_length : length given + length aside ≡ passed
-  given_length = sym (length-append given aside) ∙ ap (λ (xs : List Event). length (given ++ xs)) (sym (append-nil aside))
+  given_length = sym (length-append given aside) ∙ ap (λ (xs : List Event). length (given ++ xs))
+      (sym (append-nil aside))
       ∙ later_as_long (is.past ++ []) (given ++ (aside ++ []))
       (later_of_long run ahead (is.past ++ []) (given ++ (aside ++ [])) (is.later [])) ∙
       ap length (append-nil is.past) ∙ sym is.passed_is
@@ -306,7 +308,8 @@ module _ (ahead : ℕ) (run given aside waiting : List Event) (x : Event) (first
             let at : passed ≡ length is.past = is.passed_is in omega (arith, long, at);
         given_more = let at : passed ≡ length is.past = is.passed_is in
             let long : length given ≡ length is.past = ap length none.1 in omega (arith, at, long);
-        same = ap (λ (n : ℕ). take n given) is.passed_is ∙ ap (take (length is.past)) (none.1 ∙ sym (append-nil is.past)) ∙
+        same = ap (λ (n : ℕ). take n given) is.passed_is ∙ ap (take (length is.past))
+            (none.1 ∙ sym (append-nil is.past)) ∙
             take-append_seam is.past [] ∙ sym (take-append_seam is.past (x ∷ waiting)) ∙
             ap (take (length is.past)) (sym is.run_is) ∙ ap (λ (n : ℕ). take n run) (sym is.passed_is);
       }

@@ -4,7 +4,8 @@ use Rattle.std.proofs.Common.{Some, None, sym, ◌∙◌, ap, subst, inl, inr, a
 use Rattle.std.specs.Prelude.{drop, nat_lt, take, MatchOption}
 use Rattle.std.specs.Bool.{IsTrue}
 use Rattle.std.proofs.lemmas.Bool.{cases_lt, lt-ltb, ltb-true}
-use Rattle.std.proofs.lemmas.List.{length-append, length_push, length-take-le, get_or-take, get_or_append_left, get_or_default, take-append-drop}
+use Rattle.std.proofs.lemmas.List.{length-append, length_push, length-take-le, get_or-take, get_or_append_left}
+use Rattle.std.proofs.lemmas.List.{get_or_default, take-append-drop}
 use Rattle.std.proofs.Math.Seq.{drop-append_seam, drop-cons, get_or-append_seam}
 use Rattle.stamp_core.specs.Limits.{Bounds, units}
 use Rattle.stamp_core.specs.Stamp.{IsStamp}
@@ -92,7 +93,8 @@ module _ (limits : Bounds) (version : ℕ) (b : Event) (behind : List Event) whe
       (read : get_or behind place e ≡ e) where
     end_is : (is : IssuesOlder limits version b behind) → e ≡ is.end
     end_is is = sym read ∙ get_or_default behind place e is.end first.0.0 ∙
-        ap (λ (n : ℕ). get_or behind n is.end) (first_place behind is.between is.rest is.end (lane_of b) place is.behind_is
+        ap (λ (n : ℕ). get_or behind n is.end) (first_place behind is.between is.rest is.end (lane_of b) place
+        is.behind_is
         is.spared (issued_lane limits b is.end is.of is.issues) first) ∙
         ap (λ (xs : List Event). get_or xs (length is.between) is.end) is.behind_is ∙
         get_or-append_seam is.between is.end is.rest is.end
@@ -120,7 +122,8 @@ module _ (limits : Bounds) (version : ℕ) (b : Event) (behind : List Event) whe
 
 -- among events, by the places of those that begin such calls
 pub older_at : (limits : Bounds) (version : ℕ) (events : List Event) (place : ℕ) (b : Event) → place < length events →
-    get_or events place b ≡ b → IssuesOlder limits version b (drop (suc place) events) → ReturnsOlder limits version events
+    get_or events place b ≡ b → IssuesOlder limits version b (drop (suc place) events) → ReturnsOlder limits version
+    events
 older_at limits version events place b less read is = record {
   before = take place events;
   begun = b;
@@ -144,7 +147,8 @@ no_older limits version events none is = none (length is.before) is.begun
         get_or-append_seam is.before is.begun is.behind is.begun
 
     long : length (is.before ++ is.begun ∷ []) ≡ suc (length is.before)
-    long = let one_more : length (is.before ++ is.begun ∷ []) ≡ length is.before + 1 = length_push is.before is.begun in
+    long = let one_more : length (is.before ++ is.begun ∷ []) ≡ length is.before + 1 = length_push is.before is.begun
+        in
         omega (arith, one_more)
 
     behind_is : drop (suc (length is.before)) events ≡ is.behind

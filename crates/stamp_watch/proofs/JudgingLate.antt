@@ -77,7 +77,8 @@ has_found limits most ahead run judge f window small keeps tells some found = re
 }
 
 pub late_first : (limits : Bounds) (most ahead : ℕ) (judge : LateJudge) →
-    IsDelayed limits most ahead [] judge.delay → judge.delay.judge.found ≡ None → judge.delay.waiting.events.items ≡ [] →
+    IsDelayed limits most ahead [] judge.delay → judge.delay.judge.found ≡ None → judge.delay.waiting.events.items ≡ []
+    →
     judge.busy ≡ 0 → judge.found ≡ None → IsLateJudge limits most ahead [] judge
 late_first limits most ahead judge delayed going waiting free none = goes_on limits most ahead [] judge delayed going
     (subst (AreBusyLanes []) (sym free) form_first.1)
@@ -109,7 +110,8 @@ module _ (limits : Bounds) (most ahead : ℕ) (run : List Event) (judge : LateJu
   pub tells_of : (f : LateVerdict) → judge.found ≡ Some f → KeepsEndLate judge.delay f
   tells_of f some = subst (λ (o : Option LateVerdict). MatchOption o ⊤ (KeepsEndLate judge.delay)) some is.tells
 
-  pub late_stays : (e : Event) (f : LateVerdict) → judge.found ≡ Some f → IsLateJudge limits most ahead (run ++ e ∷ []) judge
+  pub late_stays : (e : Event) (f : LateVerdict) → judge.found ≡ Some f → IsLateJudge limits most ahead (run ++ e ∷ [])
+      judge
   late_stays e f some = has_found limits most ahead (run ++ e ∷ []) judge f is.window is.small
       (keeps_beside limits run judge.delay e is.keeps) (tells_of f some) some
       (found_then limits run most ahead e f (late_found_of f some))
@@ -148,7 +150,8 @@ module _ (limits : Bounds) (most ahead : ℕ) (run : List Event) (judge : LateJu
           new.delay.judge.found ≡ None → new.busy ≡ busy → length new.delay.waiting.events.items ≤ judge.delay.ahead →
           new.found ≡ None → judge.delay.passed + length judge.delay.waiting.events.items + 1 < 2 ^ 64 →
           IsLateJudge limits most ahead (run ++ e ∷ []) new
-      late_goes_on new delayed going busy_is few unfound room = goes_on limits most ahead (run ++ e ∷ []) new delayed going
+      late_goes_on new delayed going busy_is few unfound room = goes_on limits most ahead (run ++ e ∷ []) new delayed
+          going
           (subst (AreBusyLanes (run ++ e ∷ [])) (sym busy_is)
           (busy_lanes_then run judge.busy busy e late_way.lanes sets))
           (let same : judge.delay.ahead ≡ ahead - 64 = late_way.delayed.ahead_is in omega (arith, few, same))
@@ -160,13 +163,15 @@ module _ (limits : Bounds) (most ahead : ℕ) (run : List Event) (judge : LateJu
           length new.delay.waiting.events.items ≤ judge.delay.ahead + 1 → KeepsEndLate new.delay f →
           new.found ≡ Some f → IsLateFound limits (run ++ e ∷ []) most ahead f →
           IsLateJudge limits most ahead (run ++ e ∷ []) new
-      late_finds new f delayed few tells some found = has_found limits most ahead (run ++ e ∷ []) new f delayed.ahead_is
+      late_finds new f delayed few tells some found = has_found limits most ahead (run ++ e ∷ []) new f
+          delayed.ahead_is
           (small_of limits most ahead (run ++ e ∷ []) new.delay delayed
           (let same : judge.delay.ahead ≡ ahead - 64 = late_way.delayed.ahead_is in omega (arith, few, same)))
           (keeps_of limits most ahead (run ++ e ∷ []) new.delay delayed) tells some found
 
     -- an event that may not come there
-    pub late_broken : (e : Event) (number : ℕ) → number ≡ judge.delay.passed + length judge.delay.waiting.events.items →
+    pub late_broken : (e : Event) (number : ℕ) → number ≡ judge.delay.passed + length judge.delay.waiting.events.items
+        →
         ¬ MayComeIn judge.busy e → (f : LateVerdict) → IsLateRest limits run most ahead f →
         IsLateFound limits (run ++ e ∷ []) most ahead (broken_off_there f number)
     late_broken e number at not_there (finding.Is v) rest = broken_found limits run most None judge.busy number e

@@ -43,7 +43,8 @@ stays_begun lane call (Begins u c ∷ events) none = by (cases_eq u lane) (λ x.
     by : (u ≡ lane) ⊎ (u ≢ lane) → ((x : Call) → fold (begun_then lane) (Some x) events ≢ None) → ⊥
     by (inl same) later = later c (ap (λ (b : Bool). fold (begun_then lane) (if b then Some c else Some call) events)
         (sym (eq-eqb u lane same)) ∙ none)
-    by (inr apart) later = later call (ap (λ (b : Bool). fold (begun_then lane) (if b then Some c else Some call) events)
+    by (inr apart) later = later call (ap (λ (b : Bool). fold (begun_then lane) (if b then Some c else Some call)
+        events)
         (sym (ne_eqb u lane apart)) ∙ none)
 stays_begun lane call (Returns u r ∷ events) none = stays_begun lane call events none
 stays_begun lane call (Withdraws u ∷ events) none = stays_begun lane call events none
@@ -59,8 +60,10 @@ none_begun lane busy n (Begins u c ∷ events) open_still none = by (cases_eq u 
         (is_busy_then lane busy (Begins u c) ≡ true) × (ending_of lane (n + 1) events ≡ StaysOpen)) →
         (busy ≡ true) × (ending_of lane n (Begins u c ∷ events) ≡ StaysOpen)
     by (inl same) later = absurd (stays_begun lane c events
-        (ap (λ (b : Bool). fold (begun_then lane) (if b then Some c else None) events) (sym (eq-eqb u lane same)) ∙ none))
-    by (inr apart) later = let past = later (ap (λ (b : Bool). fold (begun_then lane) (if b then Some c else None) events)
+        (ap (λ (b : Bool). fold (begun_then lane) (if b then Some c else None) events) (sym (eq-eqb u lane same)) ∙
+        none))
+    by (inr apart) later = let past = later (ap (λ (b : Bool). fold (begun_then lane) (if b then Some c else None)
+        events)
         (sym (ne_eqb u lane apart)) ∙ none) in
         (sym (busy_other lane busy (Begins u c) apart) ∙ past.0, past.1)
 none_begun lane busy n (Returns u r ∷ events) open_still none = by (cases_eq u lane)
@@ -99,7 +102,8 @@ module _ (limits : Bounds) (run : List Event) (course : Course) (is : IsCourse l
   front = is.on.past ++ take at events
 
   -- behind those events this one comes
-  module _ (e : Event) (there : slice_get events at ≡ Some e) (here : events ≡ take at events ++ e ∷ drop (at + 1) events)
+  module _ (e : Event) (there : slice_get events at ≡ Some e)
+      (here : events ≡ take at events ++ e ∷ drop (at + 1) events)
     where
       abbrev rest : List Event
       rest = drop (at + 1) events

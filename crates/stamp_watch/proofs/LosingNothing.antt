@@ -79,7 +79,8 @@ open_tells limits t call reply version events s lanes asks tells less
     both = tells_past_withdrawal tells
 
 pub older_is_told : OlderIsTold
-older_is_told limits version events s lanes is way = older limits version is.before (Begins is.lane is.call ∷ is.behind)
+older_is_told limits version events s lanes is way = older limits version is.before
+    (Begins is.lane is.call ∷ is.behind)
     events s lanes (λ v there then_way. open_tells limits is.lane is.call is.reply version is.behind v
     (set_of there is.lane (Asks is.call)) (sets_of there is.lane (Asks is.call)).here is.tells is.older
     ((begins_first limits is.lane is.call is.behind v there then_way).survives (set_of there is.lane (Asks is.call))

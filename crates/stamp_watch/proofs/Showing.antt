@@ -3,7 +3,8 @@ use Rattle.std.proofs.Common.{◌≡◌, ◌≢◌, ◌+◌, ◌-◌, ◌<◌, �
 use Rattle.std.proofs.Common.{refl, sym, ◌∙◌, ap, subst, arith, append_assoc, append-nil}
 use Rattle.std.specs.Prelude.{take, drop}
 use Rattle.std.specs.List.{remove}
-use Rattle.std.proofs.lemmas.List.{length_push, take-append-le, drop-append-le, take-append-drop, take_all, length-take-le}
+use Rattle.std.proofs.lemmas.List.{length_push, take-append-le, drop-append-le, take-append-drop, take_all}
+use Rattle.std.proofs.lemmas.List.{length-take-le}
 use Rattle.std.proofs.lemmas.List.Elements.{All-cons, All-head, All-nil, All-push, All-tail}
 use Rattle.std.proofs.Math.Seq.{drop-length, take-append-add}
 use Rattle.stamp_core.specs.Limits.{AreInRange, Bounds}
@@ -69,7 +70,8 @@ stands_behind given aside events g a es place b e given_is events_are is = recor
   behind = is.behind;
   events_are = events_are ∙ ap (λ (xs : List Event). e ∷ xs) is.events_are;
   spared = is.spared;
-  others = subst (λ (xs : List Event). AreInPlace xs (remove aside place) (e ∷ (is.before ++ is.behind))) (sym given_is)
+  others = subst (λ (xs : List Event). AreInPlace xs (remove aside place) (e ∷ (is.before ++ is.behind)))
+      (sym given_is)
       (was_given e is.others);
 }
 
@@ -307,7 +309,8 @@ module _ (limits : Bounds) (run given waiting : List Event) (many : ℕ)
   as_given = in_place_none given is.passed is.in_place
 
   -- so many events with those calls moved, where all of them that are moved are among those
-  cut_moved : (n : ℕ) → many ≤ n → n ≤ length run → take n (given ++ waiting) ≡ is.moved ++ take (n - many) (drop many run)
+  cut_moved : (n : ℕ) → many ≤ n → n ≤ length run → take n (given ++ waiting) ≡ is.moved ++ take (n - many)
+      (drop many run)
   cut_moved n more within = ap (take n) (ap (λ (xs : List Event). xs ++ waiting) (sym as_given) ∙ is.parts) ∙
       ap (λ (k : ℕ). take k (is.moved ++ drop many run)) (sym sum) ∙
       take-append-add is.moved (drop many run) (n - many)

@@ -1,5 +1,6 @@
 -- How far a judge has come with a run.
-use Rattle.std.proofs.Common.{ℕ, zero, suc, ◌≡◌, ◌+◌, ◌<◌, ◌≤◌, Bool, true, false, List, length, sym, ◌∙◌, subst, arith}
+use Rattle.std.proofs.Common.{ℕ, zero, suc, ◌≡◌, ◌+◌, ◌<◌, ◌≤◌, Bool, true, false, List, length, sym, ◌∙◌, subst}
+use Rattle.std.proofs.Common.{arith}
 use Rattle.std.proofs.Common.{[], ◌++◌, None, append-nil, ap, refl}
 use Rattle.std.specs.Prelude.{if◌then◌else◌, ◌↔◌, drop, take}
 use Rattle.std.specs.Int.{bit_at}
@@ -58,7 +59,8 @@ module _ (limits : Bounds) (most ahead : ℕ) (run : List Event) (judge : Judge)
 
   pub explained_is : IsExplainedUpTo limits run ahead (judge.course.first + judge.course.seen)
   explained_is = record {
-    within = let within : judge.course.seen ≤ length judge.course.events.items = on.within in omega (arith, long, within);
+    within = let within : judge.course.seen ≤ length judge.course.events.items = on.within in omega
+        (arith, long, within);
     explained = subst (AreExplained limits) (sym cut) on.now.judging.explained;
     near = let near : length judge.course.events.items ≤ judge.course.seen + ahead = way.near.events in
         omega (arith, long, near);

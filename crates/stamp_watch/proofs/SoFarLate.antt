@@ -35,7 +35,8 @@ module _ (limits : Bounds) (most ahead : ℕ) (run : List Event) (judge : LateJu
       (way.delayed.given ++ (judge.delay.aside.items ++ judge.delay.waiting.events.items))
       (way.delayed.handed.later judge.delay.waiting.events.items))
 
-  long : length way.delayed.given + length judge.delay.aside.items + length judge.delay.waiting.events.items ≡ length run
+  long : length way.delayed.given + length judge.delay.aside.items + length judge.delay.waiting.events.items ≡ length
+      run
   long = let parts : length way.delayed.given + length judge.delay.aside.items ≡ judge.delay.passed =
       given_length (ahead - 64) run way.delayed.given judge.delay.aside.items judge.delay.waiting.events.items
       judge.delay.first_late judge.delay.passed way.delayed.handed in

@@ -410,9 +410,11 @@ same_step limits s call other reply next does step = record {
 
 -- of two calls that are alike the one that returns sooner takes effect first
 pub sooner_alike_first : SoonerAlikeFirst
-sooner_alike_first limits t u call other reply events s lanes later sooner does apart asks_t asks_u sets_u sets_t tells first
+sooner_alike_first limits t u call other reply events s lanes later sooner does apart asks_t asks_u sets_u sets_t tells
+    first
     at_end = at_end
-sooner_alike_first limits t u call other reply events s lanes later sooner does apart asks_t asks_u sets_u sets_t tells first
+sooner_alike_first limits t u call other reply events s lanes later sooner does apart asks_t asks_u sets_u sets_t tells
+    first
     (takes_effect {next = next} {after = after} v c r asks_v step sets_v rest) = by (cases_eq v t)
     (λ beside. sooner_alike_first limits t u call other reply events next (set_of lanes v (Gets r)) after
     (set_of sooner v (Gets r)) does apart ((sets_of lanes v (Gets r)).others t (λ e. beside (sym e)) ∙ asks_t)
@@ -449,10 +451,12 @@ sooner_alike_first limits t u call other reply events s lanes later sooner does 
           here = gets ∙ ap Gets told;
           others = λ w beyond. sets_v.others w (λ e. beyond (e ∙ same));
         }
-sooner_alike_first limits t u call other reply events s lanes later sooner does apart asks_t asks_u sets_u sets_t tells first
+sooner_alike_first limits t u call other reply events s lanes later sooner does apart asks_t asks_u sets_u sets_t tells
+    first
     (begins {events = more} {after = after} v c idle sets_v rest) = begins v c
     (sets_t.others v not_t ∙ sym (sets_u.others v not_u) ∙ idle) (sets_of sooner v (Asks c))
-    (sooner_alike_first limits t u call other reply more s (set_of lanes v (Asks c)) after (set_of sooner v (Asks c)) does apart
+    (sooner_alike_first limits t u call other reply more s (set_of lanes v (Asks c)) after (set_of sooner v (Asks c))
+    does apart
     ((sets_of lanes v (Asks c)).others t (λ e. not_t (sym e)) ∙ asks_t)
     ((sets_of lanes v (Asks c)).others u (λ e. not_u (sym e)) ∙ asks_u)
     (sets_swapped lanes later (set_of lanes v (Asks c)) after u v (Gets reply) (Asks c) (λ e. not_u (sym e)) sets_u
@@ -466,10 +470,12 @@ sooner_alike_first limits t u call other reply events s lanes later sooner does 
 
     not_t : v ≢ t
     not_t e = idle_or_asks (subst (λ (w : ℕ). later w ≡ Idle) e idle) (sets_u.others t apart ∙ asks_t)
-sooner_alike_first limits t u call other reply events s lanes later sooner does apart asks_t asks_u sets_u sets_t tells first
+sooner_alike_first limits t u call other reply events s lanes later sooner does apart asks_t asks_u sets_u sets_t tells
+    first
     (returns {events = more} {after = after} v r gets sets_v rest) = returns v r
     (sets_t.others v not_t ∙ sym (sets_u.others v not_u) ∙ gets) (sets_of sooner v Idle)
-    (sooner_alike_first limits t u call other reply more s (set_of lanes v Idle) after (set_of sooner v Idle) does apart
+    (sooner_alike_first limits t u call other reply more s (set_of lanes v Idle) after (set_of sooner v Idle) does
+    apart
     ((sets_of lanes v Idle).others t (λ e. not_t (sym e)) ∙ asks_t)
     ((sets_of lanes v Idle).others u (λ e. not_u (sym e)) ∙ asks_u)
     (sets_swapped lanes later (set_of lanes v Idle) after u v (Gets reply) Idle (λ e. not_u (sym e)) sets_u
@@ -491,10 +497,12 @@ sooner_alike_first limits t u call other reply events s lanes later sooner does 
     told : ((v ≡ t) × (r ≡ reply)) ⊎ ((v ≢ t) × Tells t reply more) → Tells t reply more
     told (inl here) = absurd (not_t here.0)
     told (inr left) = left.1
-sooner_alike_first limits t u call other reply events s lanes later sooner does apart asks_t asks_u sets_u sets_t tells first
+sooner_alike_first limits t u call other reply events s lanes later sooner does apart asks_t asks_u sets_u sets_t tells
+    first
     (withdraws {events = more} {after = after} v c asks_v sets_v rest) = withdraws v c
     (sets_t.others v not_t ∙ sym (sets_u.others v not_u) ∙ asks_v) (sets_of sooner v Idle)
-    (sooner_alike_first limits t u call other reply more s (set_of lanes v Idle) after (set_of sooner v Idle) does apart
+    (sooner_alike_first limits t u call other reply more s (set_of lanes v Idle) after (set_of sooner v Idle) does
+    apart
     ((sets_of lanes v Idle).others t (λ e. not_t (sym e)) ∙ asks_t)
     ((sets_of lanes v Idle).others u (λ e. not_u (sym e)) ∙ asks_u)
     (sets_swapped lanes later (set_of lanes v Idle) after u v (Gets reply) Idle (λ e. not_u (sym e)) sets_u

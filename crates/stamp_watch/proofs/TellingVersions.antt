@@ -135,7 +135,8 @@ reads_at limits call s u is some replies = by is
   where
     here : (c : Call) → call ≡ c → ReadsAt limits (write_count u) s (appended_by (transition limits u c)) →
         ReadsAt limits (write_count u) s (appended_by (transition limits u call))
-    here c same = subst (λ (x : Call). ReadsAt limits (write_count u) s (appended_by (transition limits u x))) (sym same)
+    here c same = subst (λ (x : Call). ReadsAt limits (write_count u) s (appended_by (transition limits u x)))
+        (sym same)
 
     there : (c : Call) → call ≡ c → Replies (transition limits u c) (Stamp s)
     there c same = subst (λ (x : Call). Replies (transition limits u x) (Stamp s)) same replies
@@ -241,7 +242,8 @@ older_told limits version events range is = record {
       ap (λ (e : Event). is.before ++ e ∷ (one.between ++ one.end ∷ one.rest)) issued.begins ∙
       ap (λ (e : Event). is.before ++ Begins issued.lane issued.call ∷ (one.between ++ e ∷ one.rest)) issued.returns;
   tells = told_behind (Returns issued.lane (Stamp issued.stamp) ∷ one.rest)
-      (never_among issued.lane one.between (subst (IsSpared one.between) (ap lane_of issued.begins) one.spared)) tells_next;
+      (never_among issued.lane one.between (subst (IsSpared one.between) (ap lane_of issued.begins) one.spared))
+      tells_next;
   older = λ u v step. subst (λ (k : ℕ). k < version)
       (sym (stamp_tells_version limits issued.call issued.stamp one.of u v range issued.issues issued.is_of step))
       one.older;

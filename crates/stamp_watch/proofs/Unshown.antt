@@ -1,10 +1,12 @@
 -- Calls that are open for long, of which it is not shown that nothing is lost if they begin late.
-use Rattle.std.proofs.Common.{◌≡◌, ◌≢◌, ◌⊎◌, ◌+◌, ◌-◌, ◌<◌, ◌≤◌, ℕ, suc, List, [], ◌∷◌, ◌++◌, length, get_or, Option, Some}
+use Rattle.std.proofs.Common.{◌≡◌, ◌≢◌, ◌⊎◌, ◌+◌, ◌-◌, ◌<◌, ◌≤◌, ℕ, suc, List, [], ◌∷◌, ◌++◌, length, get_or, Option}
+use Rattle.std.proofs.Common.{Some}
 use Rattle.std.proofs.Common.{None, refl, sym, ◌∙◌, ap, subst, inl, inr, arith, append_assoc, append-nil}
 use Rattle.std.specs.Prelude.{drop, take}
 use Rattle.std.specs.List.{remove}
 use Rattle.std.proofs.lemmas.Bool.{cases_lt}
-use Rattle.std.proofs.lemmas.List.{drop-append-le, drop-drop, take-append-le, get_or_append_left, length-append, length-drop, length_push}
+use Rattle.std.proofs.lemmas.List.{drop-append-le, drop-drop, take-append-le, get_or_append_left, length-append}
+use Rattle.std.proofs.lemmas.List.{length-drop, length_push}
 use Rattle.std.proofs.lemmas.List.Elements.{All-append, All-drop, All-head, All-nil, All-push, All-tail, All-take}
 use Rattle.std.proofs.Math.Seq.{drop-append_seam, get_or-append_seam}
 use Rattle.stamp_core.specs.Limits.{Bounds}
@@ -31,7 +33,8 @@ same_first (e ∷ xs) [] x y rx ry lane is spared other here there =
     absurd (All-head (λ (d : Event). lane_of d ≢ lane) e xs spared (ap lane_of (first_same is) ∙ there))
 same_first (e ∷ xs) (d ∷ ys) x y rx ry lane is spared other here there =
     let both : (xs ≡ ys) × (x ≡ y) = same_first xs ys x y rx ry lane (rest_same is)
-    (All-tail (λ (d : Event). lane_of d ≢ lane) e xs spared) (All-tail (λ (d : Event). lane_of d ≢ lane) d ys other) here
+    (All-tail (λ (d : Event). lane_of d ≢ lane) e xs spared) (All-tail (λ (d : Event). lane_of d ≢ lane) d ys other)
+    here
     there in
     (ap (λ (f : Event). f ∷ xs) (first_same is) ∙ ap (λ (zs : List Event). d ∷ zs) both.0, both.1)
 
@@ -119,7 +122,8 @@ module _ (limits : Bounds) (run more : List Event) (window k : ℕ) where
       open_for = open_still run more is.late window
           (let all : is.late + 1 + length is.later ≡ length run = reaches run is.late begun is.later is.there in
           omega (arith, all))
-          (open_so run is.late window begun is.later is.there is.begins is.later [] (sym (append-nil is.later)) is.spared
+          (open_so run is.late window begun is.later is.there is.begins is.later [] (sym (append-nil is.later))
+          is.spared
           is.long);
       unshown = λ b between e ends less loses. none b between e ends less;
     };
@@ -136,7 +140,8 @@ module _ (limits : Bounds) (run more : List Event) (window k : ℕ) where
           first = first_same all
 
           short : length between < length is.later
-          short = let long : is.late + 1 + length is.later ≡ length run = reaches run is.late begun is.later is.there in
+          short = let long : is.late + 1 + length is.later ≡ length run = reaches run is.late begun is.later is.there
+              in
               omega (arith, long, less, within)
 
           read : get_or is.later (length between) e ≡ e
@@ -150,7 +155,8 @@ module _ (limits : Bounds) (run more : List Event) (window k : ℕ) where
     late = is.ended.late;
     is = record {
       open_for = ended_open (run ++ more) window (ended_on is.ended);
-      unshown = λ b between e ends less loses. unshown b between e (ends_once (run ++ more) is.ended.late is.ended.begun b
+      unshown = λ b between e ends less loses. unshown b between e
+          (ends_once (run ++ more) is.ended.late is.ended.begun b
           is.ended.between between is.ended.end e (ended_on is.ended).ends ends) loses;
     };
   }
@@ -183,7 +189,8 @@ module _ (limits : Bounds) (run more : List Event) (window k : ℕ) where
           (let all : is.ended.late + 1 + length (is.ended.between ++ is.ended.end ∷ is.ended.ends.rest) ≡ length run =
           reaches run is.ended.late is.ended.begun (is.ended.between ++ is.ended.end ∷ is.ended.ends.rest)
           is.ended.ends.there in omega (arith, all)) (ended_open run window is.ended);
-      unshown = λ b between e ends before loses. too_late b between e (ends_once (run ++ more) is.ended.late is.ended.begun
+      unshown = λ b between e ends before loses. too_late b between e
+          (ends_once (run ++ more) is.ended.late is.ended.begun
           b is.ended.between between is.ended.end e
           (ends_still run more is.ended.late is.ended.begun is.ended.between is.ended.end is.ended.ends) ends) before;
     };
@@ -211,7 +218,8 @@ module _ (limits : Bounds) (run more : List Event) (window k : ℕ) where
       by (inl less) (inr ended) = ended_by_unshown many ended less
       by (inr more) ended = absurd (not (refl, more))
 
-abbrev ended_further : (run : List Event) (e : Event) (window : ℕ) → HasEndedLate run window → HasEndedLate (run ++ e ∷ []) window
+abbrev ended_further : (run : List Event) (e : Event) (window : ℕ) → HasEndedLate run window → HasEndedLate
+    (run ++ e ∷ []) window
 ended_further run e window h = record {
   late = h.late;
   begun = h.begun;
@@ -243,7 +251,8 @@ late_first_of limits window = record {
 
 module _ (limits : Bounds) (run aside waiting : List Event) (window : ℕ) (shown : Option ℕ)
     (is : AreLate limits run aside waiting window shown) where
-  pub ended_then : (e : Event) (o : Option ℕ) → HasEndedSo limits run window o → HasEndedSo limits (run ++ e ∷ []) window o
+  pub ended_then : (e : Event) (o : Option ℕ) → HasEndedSo limits run window o → HasEndedSo limits (run ++ e ∷ [])
+      window o
   ended_then e None h = record { ended = ended_further run e window h.ended; unshown = h.unshown }
   ended_then e (Some many) (inl none) = inl none
   ended_then e (Some many) (inr h) = inr (record { ended = ended_further run e window h.ended; place = h.place })
@@ -254,12 +263,14 @@ module _ (limits : Bounds) (run aside waiting : List Event) (window : ℕ) (show
   late_waits e spared = record {
     pending = λ k d less. pending_further run e window (get_or aside k d) (spared k d less) (is.pending k d less);
     full = λ some. let many : window ≤ length waiting = is.full some in
-        let long : length (waiting ++ e ∷ []) ≡ length waiting + 1 = length_push waiting e in omega (arith, many, long);
+        let long : length (waiting ++ e ∷ []) ≡ length waiting + 1 = length_push waiting e in omega
+        (arith, many, long);
     ended = ended_then e shown is.ended;
   }
 
   -- the first that waits is passed on
-  pub late_passes : (rest : List Event) → (aside ≢ [] → window ≤ length rest) → AreLate limits run aside rest window shown
+  pub late_passes : (rest : List Event) → (aside ≢ [] → window ≤ length rest) → AreLate limits run aside rest window
+      shown
   late_passes rest full = record { pending = is.pending; full = full; ended = is.ended }
 
   -- or its call is put aside

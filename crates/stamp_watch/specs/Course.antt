@@ -60,7 +60,8 @@ pub record IsCourse (limits : Bounds) (run : List Event) (course : Course) : Typ
 pub record HasRoom (course : Course) : Type 0 where
   pub room : course.first + length course.events.items < 2 ^ 64
 
--- an event is kept that ends a call, with the beginning of that call, and comes behind the ends of the base's open calls
+-- an event is kept that ends a call, with the beginning of that call, and comes behind the ends of the base's open
+-- calls
 pub record KeepsEnd (course : Course) (k : ℕ) : Type 0 where
   pub behind : course.first + course.seen ≤ k
   pub call : EndedCall

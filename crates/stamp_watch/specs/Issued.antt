@@ -31,7 +31,8 @@ pub record IssuesOf (limits : Bounds) (version : ℕ) (begun end : Event) : Type
   pub issues : IssuesStamp call
   pub is_of : IsStamp (units limits) version stamp
 
--- the call that begins by the event returns so among those behind it, and the stamp is of an older version than this one
+-- the call that begins by the event returns so among those behind it, and the stamp is of an older version than this
+-- one
 pub record IssuesOlder (limits : Bounds) (version : ℕ) (begun : Event) (behind : List Event) : Type 0 where
   pub between : List Event
   pub end : Event

@@ -15,8 +15,8 @@ pub record IsUnderWay (limits : Bounds) (ahead : ℕ) (run : List Event) (judge 
   pub room : HasRoom judge.course
   pub near : IsNear ahead judge.course
 
--- the judge was given the events of this run so far, what it found holds whatever comes later, and it keeps few events,
--- but what tells of the event at which the run was found stuck
+-- the judge was given the events of this run so far, what it found holds whatever comes later, and it keeps few events;
+-- among these is what tells of the event at which the run was found stuck
 pub record IsJudge (limits : Bounds) (most ahead : ℕ) (run : List Event) (judge : Judge) : Type 0 where
   pub most_is : judge.most ≡ most
   pub ahead_is : judge.ahead ≡ ahead

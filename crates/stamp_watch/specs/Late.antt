@@ -86,8 +86,8 @@ pub record EndsBehind (run : List Event) (late : ℕ) (begun : Event) (between :
 abbrev pub last_of : ℕ → List Event → List Event
 last_of n events = drop (length events - n) events
 
--- The call that begins at this event is open for so many events. It ends at no event before a place, or that many events
--- before its end don't show that nothing is lost if it begins late.
+-- The call that begins at this event is open for so many events. It ends at no event before a place, or that many
+-- events before its end don't show that nothing is lost if it begins late.
 pub record IsUnshown (limits : Bounds) (run : List Event) (late window place : ℕ) : Type 0 where
   pub open_for : IsOpenFor run late window
   pub unshown : (begun : Event) (between : List Event) (end : Event) → EndsBehind run late begun between end →

@@ -28,7 +28,7 @@ KeepsEndLate delay (Is verdict) = KeepsEndOf delay.judge.course verdict
 KeepsEndLate delay (Late k) = Unit {0}
 
 -- the judge was given the events of this run so far, what it found holds whatever comes later, and it keeps few
--- events, by which it can judge again, but what tells of the event at which the run was found stuck
+-- events, by which it can judge again; among these is what tells of the event at which the run was found stuck
 pub record IsLateJudge (limits : Bounds) (most ahead : ℕ) (run : List Event) (judge : LateJudge) : Type 0 where
   pub window : judge.delay.ahead ≡ ahead - 64
   pub small : IsSmallDelay ahead judge.delay

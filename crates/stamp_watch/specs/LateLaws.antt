@@ -55,8 +55,8 @@ StampTellsVersion =
     (limits : Bounds) (call : Call) (stamp version : ℕ) (u v : List LockEvent) → AreInRange limits → IssuesStamp call →
     IsStamp (units limits) version stamp → LockStep limits u call (Stamp stamp) v → write_count v ≡ version
 
--- So nothing is lost if a call that issues a stamp begins later, before events among which a stamp of an older version is
--- issued.
+-- So nothing is lost if a call that issues a stamp begins later, before events among which a stamp of an older version
+-- is issued.
 abbrev pub LateStampLosesNothing : Type 0
 LateStampLosesNothing =
     (limits : Bounds) (lane : ℕ) (call : Call) (stamp version : ℕ) (past between rest : List Event) →

@@ -8,7 +8,8 @@ use Rattle.stamp_core.specs.declared.reply.Reply.{Reply}
 use Rattle.stamp_explain.specs.Explained.{IsExplained}
 use Rattle.stamp_watch.specs.declared.event.Event.{Event}
 use Rattle.stamp_watch.specs.declared.event.Event.TheVariants.{Begins, Returns, Withdraws}
-use Rattle.stamp_watch.specs.Run.{DoSame, AreExplained, AreStuckAt, Configuration, opening, Lanes, LockStep, Sets, Survives}
+use Rattle.stamp_watch.specs.Run.{DoSame, AreExplained, AreStuckAt, Configuration, opening, Lanes, LockStep, Sets}
+use Rattle.stamp_watch.specs.Run.{Survives}
 use Rattle.stamp_watch.specs.Run.Phase.{Idle, Asks, Gets}
 use Rattle.stamp_watch.specs.Ahead.{Tells, IsWithdrawn, EndsNever, ReturnsSooner, Spares}
 use Rattle.stamp_watch.specs.Form.{is_busy_after, AreInForm}

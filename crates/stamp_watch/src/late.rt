@@ -189,8 +189,9 @@ impl LateJudge {
         lanes_in(self.busy)
     }
 
-    /// The call that the event with this number ends, if its beginning is kept. Where a call that begins before the
-    /// event was put aside, it is one of the run with that call begun later.
+    /// The call that the event with this number ends, if its beginning is kept. It is where the run was found stuck at
+    /// the event. Where a call that begins before the event was put aside, it is one of the run with that call begun
+    /// later.
     pub fn ended_at(&self, number: u64) -> Option<EndedCall>
         ensures kept { result
             ≡ ended_from self.now.delay.judge.course.first self.now.delay.judge.course.events.items number }

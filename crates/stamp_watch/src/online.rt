@@ -184,7 +184,8 @@ impl Judge {
         ended_by(event, &events[..at])
     }
 
-    /// The call that the event with this number ends, if its beginning is kept.
+    /// The call that the event with this number ends, if its beginning is kept. It is where the run was found stuck at
+    /// the event.
     pub fn ended_at(&self, number: u64) -> Option<EndedCall>
         ensures kept { result ≡ ended_from self.now.course.first self.now.course.events.items number }
         ensures call { (limits : Bounds) (run : List Event) → KeepsBase limits run self.now

@@ -60,7 +60,8 @@ short_none bytes short e has = let long = length-take 16 bytes in omega (arith, 
 
 -- 16 bytes behind events are no event
 pub no_event : (most ahead : ℕ) (taken : List ℕ) (limits : Bounds) (events : List Event) (bytes : List ℕ)
-    (why : BadEvent) (k : ℕ) (f : Finding) → IsStream taken limits events [] → length bytes ≡ 16 → IsNoEvent why bytes →
+    (why : BadEvent) (k : ℕ) (f : Finding) → IsStream taken limits events [] → length bytes ≡ 16 → IsNoEvent why bytes
+    →
     k ≡ length events → IsFoundUnless limits most ahead events (found.BadEvent k why) f →
     IsFoundOf most ahead (taken ++ bytes) f
 no_event most ahead taken limits events bytes why k f stream many none place unless more = by unless
@@ -189,7 +190,8 @@ module _ (most ahead : ℕ) (fed : List ℕ) (judge : StreamJudge) (is : IsFed m
         by : (o : Option LateJudge) → IsKnown o → (length fed < 16) ⊎ IsInForm ahead fed
         by None fresh = inl (fresh_short fresh)
         by (Some inner) under_way =
-            let near = late_near under_way.limits most ahead under_way.events inner under_way.judge_of under_way.none in
+            let near = late_near under_way.limits most ahead under_way.events inner under_way.judge_of under_way.none
+            in
             inr (record {
               limits = under_way.limits;
               events = under_way.events;

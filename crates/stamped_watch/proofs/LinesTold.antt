@@ -146,7 +146,8 @@ tells_more asked bytes more sent sent' old new tells = record {
   not_asked = tells.not_asked;
 }
 
-abbrev pub tells_nothing : (asked : Watching) (sent : Option (List ℕ)) (old : Results) → Tells asked [] sent sent old old
+abbrev pub tells_nothing : (asked : Watching) (sent : Option (List ℕ)) (old : Results) → Tells asked [] sent sent old
+    old
 tells_nothing asked sent old = record {
   marks = 0;
   text = [];
@@ -358,7 +359,8 @@ told_of_answer asked left left' reads reads' sent sent' writes writes' first ans
 pub told_nothing : {A : Type 0} (Q : ServeFault → Type 0) (asked : Watching) (left : Option (List ℕ))
     (reads : Results) (sent : Option (List ℕ)) (writes : Results) (result : Result A ServeFault) →
     IsErrAnd result Q → HasTold asked left left reads reads sent sent writes writes result
-told_nothing Q asked left reads sent writes result err = has_told asked left left reads reads sent sent writes writes []
+told_nothing Q asked left reads sent writes result err = has_told asked left left reads reads sent sent writes writes
+    []
     result (Consumes-nil left) (sym (all_taken reads reads 0 (makes_none reads))) (tells_nothing asked sent writes)
     (all_of_err _ Q result err)
 

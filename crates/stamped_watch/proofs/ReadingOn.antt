@@ -122,7 +122,8 @@ writes_none sent old (Ok x) is = absurd is
 writes_none sent old (Err e) is = record {
   failed = (
     λ same. absurd (cc),
-    λ some. absurd (false≢true (sym (none_passes takes_none old old 0 (λ write takes. takes) (makes_none old)) ∙ some)),
+    λ some. absurd (false≢true (sym (none_passes takes_none old old 0 (λ write takes. takes) (makes_none old)) ∙
+        some)),
   );
   silent = λ other. (Keeps-refl sent, refl);
 }

@@ -2,7 +2,8 @@
 use Rattle.std.proofs.Common.{ℕ, ◌≡◌, ◌+◌, ◌*◌, ◌^◌, ◌<◌, ◌≤◌, List, [], ◌∷◌, ◌++◌, length, Option, Some, None}
 use Rattle.std.proofs.Common.{refl, sym, ◌∙◌, ap, subst, arith, append-nil, append_assoc}
 use Rattle.std.specs.Prelude.{take, drop, MatchOption}
-use Rattle.std.proofs.lemmas.List.{drop_all, drop-append-le, length-append, length-drop, length-take, take-append-le, take_all}
+use Rattle.std.proofs.lemmas.List.{drop_all, drop-append-le, length-append, length-drop, length-take, take-append-le}
+use Rattle.std.proofs.lemmas.List.{take_all}
 use Rattle.std.proofs.Math.Seq.{take-append_seam}
 use Rattle.stamp_core.specs.Limits.{Bounds}
 use Rattle.stamp_watch.specs.declared.event.Event.{Event}
@@ -56,7 +57,8 @@ stream_first bytes limits header = record {
   events_are = refl;
 }
 
-parts_behind : (taken rest : List ℕ) (limits : Bounds) (events : List Event) (stream : IsStream taken limits events []) →
+parts_behind : (taken rest : List ℕ) (limits : Bounds) (events : List Event) (stream : IsStream taken limits events [])
+    →
     taken ++ rest ≡ stream.head ++ stream.units ++ rest
 parts_behind taken rest limits events stream =
     ap (λ (xs : List ℕ). xs ++ rest) (stream.parts ∙ append-nil (stream.head ++ stream.units))

@@ -1,7 +1,9 @@
 -- A witness by the events that a judge keeps is one of the stream.
-use Rattle.std.proofs.Common.{ℕ, ◌≡◌, ◌++◌, ◌∷◌, [], List, Option, Some, None, Bool, true, false, length, take, drop, refl, ap}
+use Rattle.std.proofs.Common.{ℕ, ◌≡◌, ◌++◌, ◌∷◌, [], List, Option, Some, None, Bool, true, false, length, take, drop}
+use Rattle.std.proofs.Common.{refl, ap}
 use Rattle.std.proofs.Common.{sym, subst, ◌∙◌, ◌+◌, ◌-◌, ◌<◌, ◌≤◌, arith, inl, inr, length-append}
-use Rattle.std.specs.Prelude.{◌⊎◌, ◌==◌, IfSome, slice_get, nat_le, if◌then◌else◌, option_map, option_and_then, MatchOption, ⊤}
+use Rattle.std.specs.Prelude.{◌⊎◌, ◌==◌, IfSome, slice_get, nat_le, if◌then◌else◌, option_map, option_and_then}
+use Rattle.std.specs.Prelude.{MatchOption, ⊤}
 use Rattle.std.specs.List.{fold}
 use Rattle.std.proofs.Math.ListN.{get_or-append}
 use Rattle.std.proofs.Math.Seq.{take-append-add}
@@ -177,7 +179,8 @@ pub witness_told : (ahead : ℕ) (fed : List ℕ) (judge : StreamJudge) → Keep
 witness_told ahead fed judge keeps inner some k base up text is = record {
   small = is.small;
   witness = witness_of_kept ahead fed inner
-      (subst (λ (o : Option LateJudge). MatchOption o ⊤ (λ i. KeepsOf ahead fed i)) some keeps) k base up is.small is.witness;
+      (subst (λ (o : Option LateJudge). MatchOption o ⊤ (λ i. KeepsOf ahead fed i)) some keeps) k base up is.small
+      is.witness;
   text_is = is.text_is;
 }
 

@@ -1,5 +1,6 @@
 -- What is found of a stream.
-use Rattle.std.specs.Prelude.{ℕ, ◌≡◌, ◌≢◌, ◌+◌, ◌-◌, ◌*◌, ◌^◌, ◌<◌, ◌≤◌, ◌⊎◌, ◌++◌, Bool, true, false, List, [], length, take}
+use Rattle.std.specs.Prelude.{ℕ, ◌≡◌, ◌≢◌, ◌+◌, ◌-◌, ◌*◌, ◌^◌, ◌<◌, ◌≤◌, ◌⊎◌, ◌++◌, Bool, true, false, List, []}
+use Rattle.std.specs.Prelude.{length, take}
 use Rattle.std.specs.Prelude.{Option, Some, None}
 use Rattle.std.specs.List.{count_by}
 use Rattle.stamp_core.specs.Limits.{Bounds}

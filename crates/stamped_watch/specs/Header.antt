@@ -1,5 +1,5 @@
--- The bytes of a header: the letters `stmp`, its form, the layout, the most readers and the most versions. Numbers begin
--- with their lowest byte.
+-- The bytes of a header: the letters `stmp`, its form, the layout, the most readers and the most versions. Numbers
+-- begin with their lowest byte.
 use Rattle.std.specs.Prelude.{ℕ, ◌≡◌, ◌≢◌, List, length, take, drop, slice_index, codes}
 use Rattle.std.specs.Int.{from_le_bytes, w16}
 use Rattle.stamp_core.specs.Limits.{Bounds, AreInRange}

@@ -25,8 +25,8 @@ progress_text calls explained under_way = codes "stamped_watch: " ++ (decimal ca
     (codes " calls, explained up to event " ++ (decimal explained ++ (codes ", " ++ (decimal under_way ++
     codes " open\n")))))
 
--- a stream of these bytes is judged so far: it is a header and events, and fewer than 16 bytes. So many calls began and
--- were not withdrawn, so many are open, and the events are explained up to the one of this number
+-- a stream of these bytes is judged so far: it is a header and events, and fewer than 16 bytes. So many calls began
+-- and were not withdrawn, so many are open, and the events are explained up to the one of this number
 pub record IsSoFarOf (ahead : ℕ) (bytes : List ℕ) (so_far : SoFar) : Type 0 where
   pub limits : Bounds
   pub events : List Event

@@ -86,7 +86,8 @@ pub record IsAnsweredBy (asked : Watching) (left left' : Option (List ℕ)) (old
 -- a stream was judged: the reads, the line written, no refusal but for memory and the ends, and the writes
 pub record HasWatched (asked : Watching) (old new : EndsView) (result : Result Answered ServeFault) : Type 0 where
   pub reads : HasReadOn ReadFault old.left new.left old.reads new.reads result
-  pub ok : WritesAnswer (AnswersStream asked old.left new.left old.reads new.reads) (IsAnsweredBy asked old.left new.left old.reads new.reads)
+  pub ok : WritesAnswer (AnswersStream asked old.left new.left old.reads new.reads)
+      (IsAnsweredBy asked old.left new.left old.reads new.reads)
       line_of old.sent new.sent old.writes new.writes result
   pub refused : RefusesAsDue ReadFault WriteFault Memory
       (AnswersStream asked old.left new.left old.reads new.reads) result

@@ -132,12 +132,13 @@ fn show_witness<W: Sink>(asked: Watching, finding: &Finding, judge: &StreamJudge
     }
 }
 
-/// Judges the stream that it reads of the source, of any length, and writes one line of that. Once something is found
-/// of the stream it reads no more. What it answers besides is for standard error: of a stream that is stuck which call
+/// Judges the stream that it reads of the source, of any length, and writes one line of that. It reads on only while
+/// all but the last events that came, at most 64 and twice those looked at ahead, are explained. What it answers besides is for standard error: of a stream that is stuck which call
 /// ended there and which replies were possible, and else why it is not judged further, if it is not. It refuses as 1
 /// `ReadFault` exactly where a read answers an error, as 6 `WriteFault` exactly where a write does or takes no byte,
-/// and as 5 `Memory`; what was read is gone also after a refusal. If it is asked for, it tells on the way how far the stream is judged, by a line behind
-/// each 2^24 events. A write of such a line that fails, or takes no byte, is the last of those, and changes nothing else.
+/// and as 5 `Memory`; what was read is gone also after a refusal. If it is asked for, it tells on the way how far the
+/// stream is judged, by a line behind each 2^24 events. A write of such a line that fails, or takes no byte, is the last
+/// of those, and changes nothing else.
 /// If a witness is asked for, the text of one is written where the stream is stuck at a return and one is found: an
 /// observed history, judged by `explain`, that is stuck at the call which returned there. A write of it that fails
 /// changes nothing else either.

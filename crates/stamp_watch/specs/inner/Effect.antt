@@ -108,7 +108,8 @@ pub record AreEndless (first other : OpenCall) : Type 0 where
 
 -- the call of the first lane goes before the other: it is ahead; or neither ends, and its lane is lower
 abbrev pub GoesBefore : Bounds → ℕ → ℕ → OpenCall → OpenCall → Type 0
-GoesBefore limits first_lane lane first other = IsAhead limits first other ⊎ (AreEndless first other × (first_lane < lane))
+GoesBefore limits first_lane lane first other = IsAhead limits first other ⊎
+    (AreEndless first other × (first_lane < lane))
 
 -- a call that goes before that of this lane is not in effect
 pub record GivesWay (limits : Bounds) (table : List (Option OpenCall)) (in_effect lane : ℕ) : Type 0 where

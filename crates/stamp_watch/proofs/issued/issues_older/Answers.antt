@@ -9,7 +9,8 @@ pub returns-in_default : goal.returns-in_default
 returns-in_default c = (
   (λ no. absurd (false≢true no)),
   (λ is. absurd (none_of_lane c.args.limits c.args.version
-      c.args.begun.now c.args.behind.now (subst (IsSpared c.args.behind.now) c.lane_of.ensures c.in_default.ensures) is)),
+      c.args.begun.now c.args.behind.now (subst (IsSpared c.args.behind.now) c.lane_of.ensures c.in_default.ensures)
+      is)),
 )
 
 pub returns-in-Some-version_issued : goal.returns-in-Some-version_issued
@@ -23,6 +24,7 @@ returns-in-None c = (
   (λ no. absurd (false≢true no)),
   (λ is. absurd (older_none c.args.limits c.args.version
       c.args.begun.now c.args.behind.now c.in-Some.place c.index-behind-place.result
-      (subst (λ (lane : ℕ). IsFirstOfLaneAt c.args.behind.now lane c.in-Some.place) c.lane_of.ensures c.in-Some.ensures)
+      (subst (λ (lane : ℕ). IsFirstOfLaneAt c.args.behind.now lane c.in-Some.place) c.lane_of.ensures
+      c.in-Some.ensures)
       (sym c.index-behind-place.is) c.in-None.ensures.issued is)),
 )

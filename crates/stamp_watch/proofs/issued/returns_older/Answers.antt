@@ -1,4 +1,5 @@
-use Rattle.std.proofs.Common.{◌≡◌, ◌∙◌, ◌<◌, ◌≤◌, ◌+◌, ◌-◌, ◌⊎◌, inl, inr, sym, subst, ap, ℕ, arith, suc, get_or, length}
+use Rattle.std.proofs.Common.{◌≡◌, ◌∙◌, ◌<◌, ◌≤◌, ◌+◌, ◌-◌, ◌⊎◌, inl, inr, sym, subst, ap, ℕ, arith, suc, get_or}
+use Rattle.std.proofs.Common.{length}
 use Rattle.std.specs.Prelude.{drop, take}
 use Rattle.std.proofs.lemmas.Bool.{cases_lt, false≢true}
 use Rattle.std.proofs.lemmas.List.{get_or_default, length-drop, take_all}
@@ -18,7 +19,8 @@ returns c = (
 -- what is behind the event
 behind_it : (c : Else-issues_older) → take (length c.args.events.now - (c.loop-place.place + 1))
     (drop (c.loop-place.place + 1) c.args.events.now) ≡ drop (suc c.loop-place.place) c.args.events.now
-behind_it c = take_all (length c.args.events.now - (c.loop-place.place + 1)) (drop (c.loop-place.place + 1) c.args.events.now)
+behind_it c = take_all (length c.args.events.now - (c.loop-place.place + 1))
+    (drop (c.loop-place.place + 1) c.args.events.now)
     (let long : length (drop (c.loop-place.place + 1) c.args.events.now) ≡
     length c.args.events.now - (c.loop-place.place + 1) = length-drop (c.loop-place.place + 1) c.args.events.now in
     omega (arith, long)) ∙ ap (λ (n : ℕ). drop n c.args.events.now)
@@ -34,7 +36,8 @@ loop-place-preserved c k d less is = by (cases_lt k c.loop-place.place)
         (drop (suc n) c.args.events.now) → ⊥
     here n same older = false≢true (sym c.if-issues_older.false ∙ c.issues_older.ensures.1
         (subst (IssuesOlder c.args.limits c.args.version c.index-events-place.result) (sym (behind_it c))
-        (subst (λ (e : Event). IssuesOlder c.args.limits c.args.version e (drop (suc c.loop-place.place) c.args.events.now))
+        (subst (λ (e : Event). IssuesOlder c.args.limits c.args.version e
+        (drop (suc c.loop-place.place) c.args.events.now))
         (get_or_default c.args.events.now c.loop-place.place d c.index-events-place.result c.loop-place-test.true ∙
         sym c.index-events-place.is)
         (subst (λ (m : ℕ). IssuesOlder c.args.limits c.args.version (get_or c.args.events.now m d)

@@ -7,7 +7,8 @@ use Rattle.stamp_watch.proofs.Issuing.{issued_by}
 use Rattle.stamp_watch.proofs.issued.version_issued.Goals as goal
 
 pub returns-clause-issued : goal.returns-clause-issued
-returns-clause-issued c = issued_by c.args.limits c.args.begun.now c.args.end.now c.in-Begins.lane c.in-Returns-default-Stamp.other
+returns-clause-issued c = issued_by c.args.limits c.args.begun.now c.args.end.now c.in-Begins.lane
+    c.in-Returns-default-Stamp.other
     c.in-Begins.call c.in-Returns-default-Stamp.stamp (sym c.as_event.ensures ∙ c.in-Begins.is)
     (let told = c.as_event-2.ensures in let is = c.in-Returns-default-Stamp.is in
     let of = c.in-Returns-default-Stamp.field-1-is in let at = c.in-Returns-default-Stamp.other-is in cc)

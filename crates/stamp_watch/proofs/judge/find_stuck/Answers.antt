@@ -19,14 +19,16 @@ judge_rest-requires-clause-judging c = record {
 }
 
 pub returns-in-TooMany-clause-found : goal.returns-in-TooMany-clause-found
-returns-in-TooMany-clause-found c ahead = search_too_many c.args.first c.args.explained c.args.events.now c.args.base.now
+returns-in-TooMany-clause-found c ahead = search_too_many c.args.first c.args.explained c.args.events.now
+    c.args.base.now
     c.loop-low.low
     c.loop-low.high c.loop-low.invariant (c.loop-low.low + (c.loop-low.high - c.loop-low.low) / 2) c.args.most
     c.in-TooMany.field-0 ahead c.in_ok-start.start c.in_ok-outcome.outcome (omega (arith, c.loop-low.invariant.apart))
     (omega (arith, c.loop-low.invariant.apart)) refl c.in-TooMany.is c.in_ok-start.ensures c.in_ok-outcome.ensures
 
 pub returns-clause-found : goal.returns-clause-found
-returns-clause-found c ahead = search_ends c.args.first c.args.explained c.args.events.now c.args.base.now c.loop-low.low
+returns-clause-found c ahead = search_ends c.args.first c.args.explained c.args.events.now c.args.base.now
+    c.loop-low.low
     c.loop-low.high
     c.loop-low.invariant c.args.most ahead c.loop-low-test.false
 

@@ -17,7 +17,8 @@ many_here c = ap length c.as_slice-taken.ensures.value
 form_here : (c : In_ok-outcome) → IsInFormUpTo c.args.events.now (length c.as_slice-taken.result.now)
 form_here c = subst (λ (n : ℕ). IsInFormUpTo c.args.events.now n) (sym (many_here c)) c.in_ok-held.ensures.form
 
-same_here : (c : In_ok-outcome) → c.as_slice-taken.result.now ≡ take (length c.as_slice-taken.result.now) c.args.events.now
+same_here : (c : In_ok-outcome) → c.as_slice-taken.result.now ≡ take (length c.as_slice-taken.result.now)
+    c.args.events.now
 same_here c = c.as_slice-taken.ensures.value ∙ c.in_ok-held.ensures.same ∙
     ap (λ (n : ℕ). take n c.args.events.now) (sym (many_here c))
 
@@ -33,7 +34,8 @@ found_here c = c.in_ok-outcome.ensures c.args.limits [] (judging_from_first c.ar
 
 -- what is found of the events that are in form
 outcome_here : (c : In_ok-outcome) →
-    IsOutcome c.args.limits 0 [] (take (length c.as_slice-taken.result.now) c.args.events.now) c.args.most c.in_ok-outcome.outcome
+    IsOutcome c.args.limits 0 [] (take (length c.as_slice-taken.result.now) c.args.events.now) c.args.most
+    c.in_ok-outcome.outcome
 outcome_here c = subst (λ (xs : List Event). IsOutcome c.args.limits 0 [] xs c.args.most c.in_ok-outcome.outcome)
     (same_here c) (found_here c)
 
@@ -50,13 +52,15 @@ judge_rest-requires-clause-judging c = record {
 pub returns-then-many-events : goal.returns-then-many-events
 returns-then-many-events c =
     let at = (goal.at.returns-then-many-events c).In_ok-outcome in
-    explained_whole c.args.limits c.args.events.now c.args.most (length c.as_slice-taken.result.now) None c.if-many-events.true
+    explained_whole c.args.limits c.args.events.now c.args.most (length c.as_slice-taken.result.now) None
+    c.if-many-events.true
     (form_here at) (rw c.in-Explained.is at (outcome_here at))
 
 pub returns-in-Explained : goal.returns-in-Explained
 returns-in-Explained c =
     let at = (goal.at.returns-in-Explained c).In_ok-outcome in
-    broken_at c.args.limits c.args.events.now c.args.most (length c.as_slice-taken.result.now) None c.if-many-events.false
+    broken_at c.args.limits c.args.events.now c.args.most (length c.as_slice-taken.result.now) None
+    c.if-many-events.false
     (form_here at) (rw c.in-Explained.is at (outcome_here at))
 
 pub find_stuck-requires-clause-within : goal.find_stuck-requires-clause-within
@@ -80,7 +84,8 @@ pub returns-in-Unexplained : goal.returns-in-Unexplained
 returns-in-Unexplained c =
     let at = (goal.at.returns-in-Unexplained c).In_ok-outcome in
     IfOk-weaker c.find_stuck.result _ _
-    (λ verdict found. found_in_whole c.args.limits c.args.events.now c.args.most (length c.as_slice-taken.result.now) None verdict
+    (λ verdict found. found_in_whole c.args.limits c.args.events.now c.args.most (length c.as_slice-taken.result.now)
+    None verdict
     (subst (λ (xs : List Event). IsFound c.args.limits xs c.args.most None verdict) (same_here at)
     (found None c.args.limits [] (base_first c.args.limits c.in-Unexplained.k c.as_slice-taken.result.now
     c.in_ok-base.base c.in_ok-base.ensures.watching c.in_ok-base.ensures.untold (whole_here at))
@@ -90,5 +95,6 @@ returns-in-Unexplained c =
 pub returns : goal.returns
 returns c =
     let at = (goal.at.returns c).In_ok-outcome in
-    undecided_at c.args.limits c.args.events.now c.args.most (length c.as_slice-taken.result.now) c.in-TooMany.k None (form_here at)
+    undecided_at c.args.limits c.args.events.now c.args.most (length c.as_slice-taken.result.now) c.in-TooMany.k None
+    (form_here at)
     (rw c.in-TooMany.is at (outcome_here at))

@@ -82,7 +82,8 @@ returns-then-taken-eq0-clause-found g c =
     found_at_end _ (g.S.Source.left c.source.source) _ _ (g.S.Source.reads c.source.source) _ inv.bytes
     (take c.in-Ok.taken c.read.new.buffer) _ inv.reads inv.took c.in-Ok.ensures.kept c.in-Ok.ensures.bytes.0
     (sym c.in-Ok.ensures.bound.1) c.args.asked c.in_ok-end.field-0
-    (in_form c.args.asked.most c.args.asked.ahead inv.bytes c.source.judge inv.fed inv.none) (ap Ok c.if-taken-eq0.true) (c.in-Ok.ensures.bytes.1 c.if-taken-eq0.true (grind (arith, common_steps)))
+    (in_form c.args.asked.most c.args.asked.ahead inv.bytes c.source.judge inv.fed inv.none)
+    (ap Ok c.if-taken-eq0.true) (c.in-Ok.ensures.bytes.1 c.if-taken-eq0.true (grind (arith, common_steps)))
     (subst (λ (xs : List ℕ). IsFindingOf c.args.asked.most c.args.asked.ahead xs c.in_ok-end.field-0)
     (sym (append-nil inv.bytes) ∙ ap (λ (xs : List ℕ). inv.bytes ++ xs) (sym none))
     (c.in_ok-end.ensures.found c.args.asked.most c.args.asked.ahead inv.bytes inv.fed))
@@ -151,7 +152,8 @@ source-preserved g c =
         room = grind (arith, common_steps);
       };
       few = grind (arith, common_steps);
-      told = (c.feed.ensures.told c.args.asked inv.bytes (g.T.Sink.sent c.args.told.now) (g.T.Sink.writes c.args.told.now)
+      told = (c.feed.ensures.told c.args.asked inv.bytes (g.T.Sink.sent c.args.told.now)
+          (g.T.Sink.writes c.args.told.now)
           inv.fed c.source.invariant.told).going (cc);
     }
 

@@ -55,7 +55,11 @@ returns-clause-ok g c =
 
 pub possible_for-replies-requires : goal.possible_for-replies-requires
 possible_for-replies-requires g c =
-    let all = c.in_ok-finding.ensures.keeps in record { ahead = c.args.asked.ahead; fed = all.bytes; keeps = all.keeps }
+    let all = c.in_ok-finding.ensures.keeps in record {
+      ahead = c.args.asked.ahead;
+      fed = all.bytes;
+      keeps = all.keeps;
+    }
 
 pub returns-in_err-write_text-clause-writes : goal.returns-in_err-write_text-clause-writes
 returns-in_err-write_text-clause-writes g c =

@@ -54,7 +54,8 @@ push-requires-clause-room c =
 
 pub returns-then-is_none-clause-delayed : goal.returns-then-is_none-clause-delayed
 returns-then-is_none-clause-delayed c limits most ahead run is = delayed_aside limits most ahead run c.args.self.now is
-    c.pop-event.result c.pop-event.new.self.events.items c.pop-event.ensures.items _ refl refl c.pop-event.ensures.counted
+    c.pop-event.result c.pop-event.new.self.events.items c.pop-event.ensures.items _ refl refl
+    c.pop-event.ensures.counted
     refl refl refl (to_be_aside here) (enough here) refl
     (c.in_ok-extend_from_slice.ensures.items ∙
     ap (λ (xs : List Event). c.args.self.now.aside.items ++ xs) c.from_ref.ensures.value)
@@ -65,7 +66,8 @@ returns-then-is_none-clause-delayed c limits most ahead run is = delayed_aside l
 
 pub returns-else-is_none-clause-delayed : goal.returns-else-is_none-clause-delayed
 returns-else-is_none-clause-delayed c limits most ahead run is = delayed_aside limits most ahead run c.args.self.now is
-    c.pop-event.result c.pop-event.new.self.events.items c.pop-event.ensures.items _ refl refl c.pop-event.ensures.counted
+    c.pop-event.result c.pop-event.new.self.events.items c.pop-event.ensures.items _ refl refl
+    c.pop-event.ensures.counted
     refl refl refl (to_be_aside here) (enough here) refl
     (c.in_ok-extend_from_slice.ensures.items ∙
     ap (λ (xs : List Event). c.args.self.now.aside.items ++ xs) c.from_ref.ensures.value)
@@ -76,14 +78,16 @@ returns-else-is_none-clause-delayed c limits most ahead run is = delayed_aside l
 
 pub returns-in-Some-clause-delayed : goal.returns-in-Some-clause-delayed
 returns-in-Some-clause-delayed c limits most ahead run is = delayed_passes limits most ahead run c.args.self.now is
-    c.pop-event.result c.pop-event.new.self.events.items c.pop-event.ensures.items _ refl refl c.pop-event.ensures.counted
+    c.pop-event.result c.pop-event.new.self.events.items c.pop-event.ensures.items _ refl refl
+    c.pop-event.ensures.counted
     refl refl refl c.in_ok-verdict.ensures.given c.in_ok-verdict.ensures.kept refl refl
     (enough_still ((goal.at.returns-in-Some-clause-delayed c).Else-alone))
     (not_alone ((goal.at.returns-in-Some-clause-delayed c).Else-alone)) c.requires.few
 
 pub returns-in-None-clause-delayed : goal.returns-in-None-clause-delayed
 returns-in-None-clause-delayed c limits most ahead run is = delayed_passes limits most ahead run c.args.self.now is
-    c.pop-event.result c.pop-event.new.self.events.items c.pop-event.ensures.items _ refl refl c.pop-event.ensures.counted
+    c.pop-event.result c.pop-event.new.self.events.items c.pop-event.ensures.items _ refl refl
+    c.pop-event.ensures.counted
     refl refl refl c.in_ok-verdict.ensures.given c.in_ok-verdict.ensures.kept refl refl
     (enough_still ((goal.at.returns-in-None-clause-delayed c).Else-alone))
     (not_alone ((goal.at.returns-in-None-clause-delayed c).Else-alone)) c.requires.few

@@ -25,7 +25,8 @@ returns-clause-rest c limits most ahead run is = rest_by limits most ahead run i
     (c.in_ok-verdict.ensures.rest limits most (reach_of ahead)
     (is.given ++ (c.args.self.now.aside.items ++ c.args.self.now.waiting.events.items))
     (c.in_ok-give_all.ensures.given limits most (reach_of ahead) is.given is.judge_of))) c.finding_of.result
-    (subst (λ (xs : List Event). IsFindingOf xs c.args.self.now.shown c.args.self.now.first_late c.in_ok-verdict.verdict
+    (subst (λ (xs : List Event). IsFindingOf xs c.args.self.now.shown c.args.self.now.first_late
+    c.in_ok-verdict.verdict
     c.finding_of.result) (ap (λ v. v.items) c.in_ok-give_all.ensures.same.0)
     (subst (λ (o : Option ℕ). IsFindingOf c.give_all.new.self.aside.items o c.args.self.now.first_late
     c.in_ok-verdict.verdict c.finding_of.result) c.in_ok-give_all.ensures.same.3

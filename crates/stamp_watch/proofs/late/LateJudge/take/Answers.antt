@@ -22,7 +22,8 @@ returns-in_default-clause-given c limits most ahead run is = late_goes_on limits
     (late_way limits most ahead run c.args.self.now is c.requires.none).delayed
     (whole_then limits most ahead run c.args.self.now is c.requires.none c.args.event.now c.args.busy c.requires.may
     c.requires.busy))
-    (c.in_ok-found.ensures.told ∙ c.in_default.is) refl (c.in_ok-found.ensures.few.0 c.in_default.is) c.requires.none c.requires.room.room
+    (c.in_ok-found.ensures.told ∙ c.in_default.is) refl (c.in_ok-found.ensures.few.0 c.in_default.is) c.requires.none
+    c.requires.room.room
 
 pub returns-in_default-clause-known : goal.returns-in_default-clause-known
 returns-in_default-clause-known c =

@@ -19,11 +19,14 @@ judge_with-requires-clause-kept c =
 pub judge_with-requires-clause-is_return : goal.judge_with-requires-clause-is_return
 judge_with-requires-clause-is_return c = subst (λ (e : Event). IsReturnFor c.args.self.now.course.events.items
     c.args.kept.place e) (sym c.returns-event.ensures) (return_for c.requires.keeps.limits c.requires.keeps.run
-    c.args.self.now c.requires.keeps.keeps c.args.number c.args.kept.place c.args.kept.lane c.requires.here c.args.reply)
+    c.args.self.now c.requires.keeps.keeps c.args.number c.args.kept.place c.args.kept.lane c.requires.here
+    c.args.reply)
 
 -- what is found with the reply
-outcome_here : (c : In_ok-outcome) (limits : Bounds) (run : List Event) (keeps : KeepsBase limits run c.args.self.now) →
-    IsOutcome limits c.args.self.now.course.first keeps.past (take c.args.kept.place c.args.self.now.course.events.items
+outcome_here : (c : In_ok-outcome) (limits : Bounds) (run : List Event) (keeps : KeepsBase limits run c.args.self.now)
+    →
+    IsOutcome limits c.args.self.now.course.first keeps.past (take c.args.kept.place
+    c.args.self.now.course.events.items
     ++ Returns c.args.kept.lane (reply_as c.args.reply) ∷ []) c.args.self.now.most c.in_ok-outcome.outcome
 outcome_here c limits run keeps = subst (λ (e : Event). IsOutcome limits c.args.self.now.course.first keeps.past
     (take c.args.kept.place c.args.self.now.course.events.items ++ e ∷ []) c.args.self.now.most

@@ -39,4 +39,5 @@ place_is c = search rules
 
 pub returns-in_default : goal.returns-in_default
 returns-in_default c can = c.in_default.not-Returns can.lane can.own (c.as_event.ensures ∙
-    some_same (sym (here c) ∙ ap (λ (n : ℕ). slice_get c.args.self.now.course.events.items n) (sym (place_is c)) ∙ can.there))
+    some_same (sym (here c) ∙ ap (λ (n : ℕ). slice_get c.args.self.now.course.events.items n) (sym (place_is c)) ∙
+    can.there))

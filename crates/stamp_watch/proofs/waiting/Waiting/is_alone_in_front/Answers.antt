@@ -11,7 +11,8 @@ returns-in-Begins c =
     let some : 0 < length c.args.self.now.events.items = search rules in
     let first : get_or c.args.self.now.events.items 0 (Begins c.in-Begins.lane c.in-Begins.field-1) ≡
     Begins c.in-Begins.lane c.in-Begins.field-1 =
-    get_or_default c.args.self.now.events.items 0 (Begins c.in-Begins.lane c.in-Begins.field-1) c.in-Some.event.now some ∙
+    get_or_default c.args.self.now.events.items 0 (Begins c.in-Begins.lane c.in-Begins.field-1) c.in-Some.event.now
+    some ∙
     sym c.in-Some.ensures.lookup ∙ sym c.in-Begins.ensures in
     alone _ c.in-Begins.lane c.in-Begins.field-1 c.args.self.now.events.items first some
     (c.requires.counted.counts c.in-Begins.lane 0 (subst (λ (e : Event). lane_of e < 64) first

@@ -18,7 +18,8 @@ returns-in-Some-clause-kept c most ahead fed is = keeps_fed most ahead fed c.arg
 
 pub returns-then-not-is_empty-clause-found : goal.returns-then-not-is_empty-clause-found
 returns-then-not-is_empty-clause-found c = IfOk-weaker c.found_unless.result _ _ (λ finding so most ahead fed is.
-    let way = way_of_judge most ahead fed c.args.self.now is c.in_default.is c.in-Some-judge.judge c.in-Some-judge.is in
+    let way = way_of_judge most ahead fed c.args.self.now is c.in_default.is c.in-Some-judge.judge c.in-Some-judge.is
+    in
     cut_at_end most ahead fed c.args.self.now is c.in_default.is c.in-Some-judge.judge way c.count-number.result
     finding (λ empty. search rules)
     (c.count-number.ensures way.limits most ahead way.events way.judge_of)
@@ -31,7 +32,8 @@ returns-then-not-is_empty-clause-kept c = IfOk-weaker c.found_unless.result _ _ 
 
 pub returns-clause-found : goal.returns-clause-found
 returns-clause-found c = IfOk-weaker c.found_unless-2.result _ _ (λ finding so most ahead fed is.
-    let way = way_of_judge most ahead fed c.args.self.now is c.in_default.is c.in-Some-judge.judge c.in-Some-judge.is in
+    let way = way_of_judge most ahead fed c.args.self.now is c.in_default.is c.in-Some-judge.judge c.in-Some-judge.is
+    in
     whole_at_end most ahead fed c.args.self.now is c.in_default.is c.in-Some-judge.judge way
     c.saturating_sub-calls.result finding (nil_from_length _ (grind (arith, nat_tests))) (cc)
     (so way.limits most ahead way.events way.judge_of)) c.found_unless-2.ensures.found

@@ -9,7 +9,8 @@ returns-then-is_some-clause-fed c most ahead fed is =
 
 pub returns-then-bytes-missing-clause-fed : goal.returns-then-bytes-missing-clause-fed
 returns-then-bytes-missing-clause-fed c most ahead fed is =
-    few_kept most ahead fed c.args.bytes.now c.args.self.now is (none_of c.args.self.now.found (sym c.if-is_some.ensures))
+    few_kept most ahead fed c.args.bytes.now c.args.self.now is
+    (none_of c.args.self.now.found (sym c.if-is_some.ensures))
     c.extend_from_slice.new.self c.in_ok-extend_from_slice.ensures.items (search rules)
 
 pub returns-then-bytes-missing-clause-found : goal.returns-then-bytes-missing-clause-found
@@ -54,7 +55,8 @@ pub returns-clause-fed : goal.returns-clause-fed
 returns-clause-fed c most ahead fed is =
     all_fed most ahead fed c.args.bytes.now c.args.self.now is
     (none_of c.args.self.now.found (sym c.if-is_some.ensures)) _ _ c.extend_from_slice-2.new.self.items
-    c.take_units.new.self c.in_ok-extend_from_slice-2.ensures.items (slices _ c.args.bytes.now) (c.in_ok-take_units.ensures most ahead
+    c.take_units.new.self c.in_ok-extend_from_slice-2.ensures.items (slices _ c.args.bytes.now)
+    (c.in_ok-take_units.ensures most ahead
     (is.taken ++ c.extend_from_slice-2.new.self.items) (c.in_ok-take_part.ensures.taken most ahead is.taken
     (part_aside most ahead is.taken c.args.self.now c.extend_from_slice-2.new.self is.has_taken)))
 

@@ -8,11 +8,13 @@ use Rattle.stamped_watch.proofs.stream_judge.StreamJudge.possible_at.Goals as go
 
 pub possible_at-requires : goal.possible_at-requires
 possible_at-requires c =
-    let keeps = subst (λ (o : Option LateJudge). MatchOption o ⊤ (λ i. KeepsOf c.requires.ahead c.requires.fed i)) c.in-Some.is
+    let keeps = subst (λ (o : Option LateJudge). MatchOption o ⊤ (λ i. KeepsOf c.requires.ahead c.requires.fed i))
+    c.in-Some.is
     c.requires.keeps in
     record { limits = keeps.limits; run = keeps.events; keeps = keeps.keeps }
 
 pub returns-in-Some : goal.returns-in-Some
 returns-in-Some c = IfOk-weaker c.possible_at.result _ _ (λ told is_told ahead fed keeps.
-    possible_told ahead fed c.in-Some.judge (subst (λ (o : Option LateJudge). MatchOption o ⊤ (λ i. KeepsOf ahead fed i))
+    possible_told ahead fed c.in-Some.judge (subst (λ (o : Option LateJudge). MatchOption o ⊤
+    (λ i. KeepsOf ahead fed i))
     c.in-Some.is keeps) c.args.number c.args.call.now told is_told) c.possible_at.ensures

@@ -18,13 +18,15 @@ count-requires-clause-withdrawn c =
 pub returns-then-is_none-clause-taken : goal.returns-then-is_none-clause-taken
 returns-then-is_none-clause-taken c most ahead taken has =
     counted_taken most ahead taken c.args.bytes.now c.args.self.now has c.requires.none c.in-Some.judge c.in-Some.is
-    c.in-Ok.event c.given.new.judge c.in_ok-self-in-Ok.field-0 c.in-Ok.ensures.event c.in_ok-self-in-Ok.ensures.found c.in_ok-self-in-Ok.ensures.kept
+    c.in-Ok.event c.given.new.judge c.in_ok-self-in-Ok.field-0 c.in-Ok.ensures.event c.in_ok-self-in-Ok.ensures.found
+    c.in_ok-self-in-Ok.ensures.kept
     c.if-is_none.ensures c.count.new.self c.count.ensures
 
 pub returns-else-is_none-clause-taken : goal.returns-else-is_none-clause-taken
 returns-else-is_none-clause-taken c most ahead taken has =
     found_taken most ahead taken c.args.bytes.now c.args.self.now has c.requires.none c.in-Some.judge c.in-Some.is
-    c.in-Ok.event c.given.new.judge c.in_ok-self-in-Ok.field-0 c.in-Ok.ensures.event c.in_ok-self-in-Ok.ensures.found c.in_ok-self-in-Ok.ensures.kept
+    c.in-Ok.event c.given.new.judge c.in_ok-self-in-Ok.field-0 c.in-Ok.ensures.event c.in_ok-self-in-Ok.ensures.found
+    c.in_ok-self-in-Ok.ensures.kept
     c.if-is_none.ensures c.in_ok-self-in-Ok.ensures.tells
 
 pub returns-in_ok-found_unless-in-Err-clause-taken : goal.returns-in_ok-found_unless-in-Err-clause-taken

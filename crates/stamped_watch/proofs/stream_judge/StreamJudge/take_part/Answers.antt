@@ -10,5 +10,6 @@ returns-clause-taken c =
     let first : c.in-Some.unit.now ≡ take 16 c.deref.result.now = c.in-Some.ensures.cases.same in
     let same = first ∙ ap (λ (xs : List ℕ). take 16 xs) read ∙
     take_all 16 c.args.self.now.part.items (omega (arith, c.requires.whole)) in
-    IfOk-weaker c.take.result _ _ (λ _ more. one_more_aside c.in-Some.unit.now c.args.self.now.part.items c.args.self.now
+    IfOk-weaker c.take.result _ _ (λ _ more. one_more_aside c.in-Some.unit.now c.args.self.now.part.items
+    c.args.self.now
     c.take.new.self c.clear.new.self same more) c.take.ensures.taken
