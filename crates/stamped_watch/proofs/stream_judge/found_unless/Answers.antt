@@ -32,5 +32,5 @@ pub returns-then-is_explained-clause-tells : goal.returns-then-is_explained-clau
 returns-then-is_explained-clause-tells c kept = kept
 
 pub returns-clause-tells : goal.returns-clause-tells
-returns-clause-tells c kept = call_kept c.finding_of.result c.in_ok-verdict.verdict c.finish.new.judge
+returns-clause-tells c kept = call_kept c.finding_of.result c.in_ok-verdict.verdict c.finish.new.self
     c.finding_of.ensures c.in_ok-verdict.ensures.tells

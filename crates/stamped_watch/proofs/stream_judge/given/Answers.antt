@@ -55,6 +55,6 @@ returns-in-None-clause-kept c limits most ahead run is =
     inr (record { keeps = then.keeps; window = then.window ∙ sym is.window })
 
 pub returns-in-None-clause-tells : goal.returns-in-None-clause-tells
-returns-in-None-clause-tells c = call_kept c.finding_of.result c.in-Some.verdict c.push.new.judge c.finding_of.ensures
-    (subst (λ (o : Option LateVerdict). MatchOption o ⊤ (KeepsEndLate c.push.new.judge.delay))
+returns-in-None-clause-tells c = call_kept c.finding_of.result c.in-Some.verdict c.push.new.self c.finding_of.ensures
+    (subst (λ (o : Option LateVerdict). MatchOption o ⊤ (KeepsEndLate c.push.new.self.delay))
     (c.in_ok-found.ensures.told ∙ c.in-Some.is) c.in_ok-found.ensures.known.judge_of.tells)
