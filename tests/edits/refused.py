@@ -46,7 +46,7 @@ FOLDER = os.path.dirname(os.path.abspath(__file__))
 TOP = os.path.dirname(os.path.dirname(FOLDER))
 PARTS = ("src", "specs", "proofs")
 # So many edits of a crate one process tries at most: those of larger crates are the end of the gate.
-MOST = 48
+MOST = 24
 FUNCTION = re.compile(r'^( *)(?:pub(?:\([a-z]+\))? )?(?:extern "C" )?fn (\w+)', re.M)
 IMPL = re.compile(r"^impl(?:<((?:[^<>{]|<[^<>{]*>)*)>)? (?:([\w:]+)(?:<(\w*)[^{]*>)? for )?([^{]+?) *(?:where [^{]*)?\{", re.M)
 STATED = re.compile(r"^fn (\S+): (.*)$", re.M)
@@ -430,12 +430,15 @@ def take_kept(begun_with, kept):
 
 
 def rounds_of(edits):
-    """The edits in rounds that don't depend on each other: an edit of each function, and no more than `MOST`."""
-    rounds, left = [], edits
-    while left:
-        now = round_of(left, {})
-        rounds += [now[at : at + MOST] for at in range(0, len(now), MOST)]
-        left = [it for it in left if it not in now]
+    """The edits in rounds of about the same size that don't depend on each other: an edit of each function, and no more
+    than `MOST`."""
+    of = {}
+    for edit in edits:
+        of.setdefault(edit.functions[0], []).append(edit)
+    rounds = [[] for _ in range(max([-(-len(edits) // MOST), *map(len, of.values())]))]
+    for group in sorted(of.values(), key=len, reverse=True):
+        for edit, now in zip(group, sorted(rounds, key=len)):
+            now.append(edit)
     return rounds
 
 
@@ -448,19 +451,23 @@ def begin(crate, edits, kept):
     return {}
 
 
-def try_round(crate, edits, begun_with):
-    """Tries the edits of a round, over the contracts of all other functions, and gives what came of those judged."""
+def apart(begun_with, trying, crate, *edits):
+    """Tries edits over a copy of what was kept there."""
     with tempfile.TemporaryDirectory() as room:
         take_kept(begun_with, f"{room}/kept")
-        return judged(crate, edits, crate.tried(room, f"{room}/kept", edits, is_bare=True), {}, is_bare=True)
+        return trying(f"{room}/kept", crate, *edits)
 
 
-def try_whole(crate, several, alone, begun_with):
+def try_round(kept, crate, edits):
+    """Tries the edits of a round, over the contracts of all other functions, and gives what came of those judged."""
+    with tempfile.TemporaryDirectory() as room:
+        return judged(crate, edits, crate.tried(room, kept, edits, is_bare=True), {}, is_bare=True)
+
+
+def try_whole(kept, crate, several, alone):
     """Tries edits with the bodies and proofs of all that their functions call, and gives what came of each."""
     lines, calls = {}, {}
     with tempfile.TemporaryDirectory() as room:
-        kept = f"{room}/kept"
-        take_kept(begun_with, kept)
         while several:
             now = round_of(several, calls)
             told = judged(crate, now, crate.tried(room, kept, now), calls, is_bare=False) if now else {}
@@ -496,9 +503,12 @@ def lines_of(pool, crate, names, options, kept):
         return [*faults]
     several, alone = [it for it in edits if not it.is_alone], [it for it in edits if it.is_alone]
     rounds = rounds_of(several)
-    gather(*[pool.submit(try_round, crate, now, kept) for now in rounds], pool.submit(try_whole, crate, [], alone, kept))
+    # The others begin with what the first leaves there.
+    gather(*[pool.submit(try_round, kept, crate, now) for now in rounds[:1]])
+    gather(*[pool.submit(apart, kept, try_round, crate, now) for now in rounds[1:]],
+           *[pool.submit(apart, kept, try_whole, crate, [], [edit]) for edit in alone])
     left = [it for it in several if it.name not in lines] if not faults else []
-    gather(pool.submit(try_whole, crate, left, [], kept))
+    gather(pool.submit(try_whole, kept, crate, left, []))
     seconds = round(time.monotonic() - begun)
     print(f"{crate.name}: {len(lines)} edits tried, in {len(rounds)} rounds and {seconds} seconds", flush=True)
     return sorted({*faults, *((f"{crate.name}/{name}", what) for name, what in lines.items())})
