@@ -182,7 +182,7 @@ match_so P Q None goes is = tt
 match_so P Q (Some x) goes is = goes x is
 
 -- so it is when more comes
-ended_more : (xs ys : List Event) (k : ℕ) (call : EndedCall) → IsEndedAt xs k call → IsEndedAt (xs ++ ys) k call
+pub ended_more : (xs ys : List Event) (k : ℕ) (call : EndedCall) → IsEndedAt xs k call → IsEndedAt (xs ++ ys) k call
 ended_more xs ys k call is = record {
   began = is.began;
   between = is.between;

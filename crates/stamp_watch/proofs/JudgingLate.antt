@@ -14,13 +14,14 @@ use Rattle.stamp_watch.specs.Course.{KeepsEndOf}
 use Rattle.stamp_watch.specs.Delay.{IsDelayed, IsSmallDelay}
 use Rattle.stamp_watch.specs.Judging.{AreBusyLanes}
 use Rattle.stamp_watch.specs.Late.{IsLate, IsLateVerdict, IsLateFound}
-use Rattle.stamp_watch.specs.LateJudge.{IsLateJudge, IsLateUnderWay, KeepsEndLate}
+use Rattle.stamp_watch.specs.LateJudge.{EndsInRunLate, IsLateJudge, IsLateUnderWay, KeepsEndLate}
 use Rattle.stamp_watch.specs.PossibleLate.{KeepsLater}
 use Rattle.stamp_watch.specs.Verdict.{AreOfLock}
 use Rattle.stamp_watch.specs.inner.Delay.{IsFindingOf, IsLateRest, IsReady, IsReadyFor}
 use Rattle.stamp_watch.specs.inner.Judging.{MayComeIn, SetsBusy}
 use Rattle.stamp_watch.specs.inner.Late.{broken_off_there}
 use Rattle.stamp_watch.proofs.Closeness.{few_aside}
+use Rattle.stamp_watch.proofs.EndedLate.{more_in_run}
 use Rattle.stamp_watch.proofs.Forming.{busy_lanes_then, form_first, of_lock_on}
 use Rattle.stamp_watch.proofs.HandingOn.{passed_length}
 use Rattle.stamp_watch.proofs.KeepingEnds.{keeps_broken}
@@ -52,6 +53,7 @@ goes_on limits most ahead run judge delayed going lanes few room none = record {
   small = small_of limits most ahead run judge.delay delayed (omega (arith, few));
   keeps = keeps_of limits most ahead run judge.delay delayed;
   tells = subst (λ (o : Option LateVerdict). MatchOption o ⊤ (KeepsEndLate judge.delay)) (sym none) tt;
+  there = subst (λ (o : Option LateVerdict). MatchOption o ⊤ (EndsInRunLate run judge.delay)) (sym none) tt;
   state = subst (λ (o : Option LateVerdict). IsStateThen limits most ahead run judge o) (sym none)
       (record {
         delayed = delayed;
@@ -66,13 +68,14 @@ goes_on limits most ahead run judge delayed going lanes few room none = record {
 
 pub has_found : (limits : Bounds) (most ahead : ℕ) (run : List Event) (judge : LateJudge) (f : LateVerdict) →
     judge.delay.ahead ≡ ahead - 64 → IsSmallDelay ahead judge.delay → KeepsLater limits run judge →
-    KeepsEndLate judge.delay f → judge.found ≡ Some f → IsLateFound limits run most ahead f →
-    IsLateJudge limits most ahead run judge
-has_found limits most ahead run judge f window small keeps tells some found = record {
+    KeepsEndLate judge.delay f → EndsInRunLate run judge.delay f → judge.found ≡ Some f →
+    IsLateFound limits run most ahead f → IsLateJudge limits most ahead run judge
+has_found limits most ahead run judge f window small keeps tells there some found = record {
   window = window;
   small = small;
   keeps = keeps;
   tells = subst (λ (o : Option LateVerdict). MatchOption o ⊤ (KeepsEndLate judge.delay)) (sym some) tells;
+  there = subst (λ (o : Option LateVerdict). MatchOption o ⊤ (EndsInRunLate run judge.delay)) (sym some) there;
   state = subst (λ (o : Option LateVerdict). IsStateThen limits most ahead run judge o) (sym some) found;
 }
 
@@ -110,10 +113,14 @@ module _ (limits : Bounds) (most ahead : ℕ) (run : List Event) (judge : LateJu
   pub tells_of : (f : LateVerdict) → judge.found ≡ Some f → KeepsEndLate judge.delay f
   tells_of f some = subst (λ (o : Option LateVerdict). MatchOption o ⊤ (KeepsEndLate judge.delay)) some is.tells
 
+  pub there_of : (f : LateVerdict) → judge.found ≡ Some f → EndsInRunLate run judge.delay f
+  there_of f some = subst (λ (o : Option LateVerdict). MatchOption o ⊤ (EndsInRunLate run judge.delay)) some is.there
+
   pub late_stays : (e : Event) (f : LateVerdict) → judge.found ≡ Some f → IsLateJudge limits most ahead (run ++ e ∷ [])
       judge
   late_stays e f some = has_found limits most ahead (run ++ e ∷ []) judge f is.window is.small
-      (keeps_beside limits run judge.delay e is.keeps) (tells_of f some) some
+      (keeps_beside limits run judge.delay e is.keeps) (tells_of f some)
+      (more_in_run run (e ∷ []) judge.delay f (there_of f some)) some
       (found_then limits run most ahead e f (late_found_of f some))
 
   module _ (none : judge.found ≡ None) where
@@ -161,13 +168,13 @@ module _ (limits : Bounds) (most ahead : ℕ) (run : List Event) (judge : LateJu
 
       pub late_finds : (new : LateJudge) (f : LateVerdict) → IsDelayed limits most ahead (run ++ e ∷ []) new.delay →
           length new.delay.waiting.events.items ≤ judge.delay.ahead + 1 → KeepsEndLate new.delay f →
-          new.found ≡ Some f → IsLateFound limits (run ++ e ∷ []) most ahead f →
-          IsLateJudge limits most ahead (run ++ e ∷ []) new
-      late_finds new f delayed few tells some found = has_found limits most ahead (run ++ e ∷ []) new f
+          EndsInRunLate (run ++ e ∷ []) new.delay f → new.found ≡ Some f →
+          IsLateFound limits (run ++ e ∷ []) most ahead f → IsLateJudge limits most ahead (run ++ e ∷ []) new
+      late_finds new f delayed few tells there some found = has_found limits most ahead (run ++ e ∷ []) new f
           delayed.ahead_is
           (small_of limits most ahead (run ++ e ∷ []) new.delay delayed
           (let same : judge.delay.ahead ≡ ahead - 64 = late_way.delayed.ahead_is in omega (arith, few, same)))
-          (keeps_of limits most ahead (run ++ e ∷ []) new.delay delayed) tells some found
+          (keeps_of limits most ahead (run ++ e ∷ []) new.delay delayed) tells there some found
 
     -- an event that may not come there
     pub late_broken : (e : Event) (number : ℕ) → number ≡ judge.delay.passed + length judge.delay.waiting.events.items
@@ -180,6 +187,14 @@ module _ (limits : Bounds) (most ahead : ℕ) (run : List Event) (judge : LateJu
         subst (λ (xs : List Event). IsLate limits xs most ahead k) (sym (append_assoc run (e ∷ []) more))
         (rest (e ∷ more) (over_broken limits run most None judge.busy number e (at ∙ run_long) late_way.lanes not_there
         more))
+
+-- so it is by the same delay
+pub finding_as : {a b : List Event} {s t f g : Option ℕ} (v : Verdict) (is : LateVerdict) → a ≡ b → s ≡ t → f ≡ g →
+    IsFindingOf a s f v is → IsFindingOf b t g v is
+finding_as {a} {b} {s} {t} {f} {g} v is aside shown first found =
+    subst (λ (xs : List Event). IsFindingOf xs t g v is) aside
+    (subst (λ (o : Option ℕ). IsFindingOf a o g v is) shown
+    (subst (λ (o : Option ℕ). IsFindingOf a s o v is) first found))
 
 -- what is found of a run in which calls begin later is told of as the verdict on which it rests
 pub late_told : (aside : List Event) (shown first : Option ℕ) (v : Verdict) (f : LateVerdict) (delay : Delay) →

@@ -4,9 +4,9 @@ use Rattle.std.proofs.Common.{refl, sym, ◌∙◌, ap, subst, arith, append_ass
 use Rattle.std.specs.Prelude.{take, drop}
 use Rattle.std.specs.List.{remove}
 use Rattle.std.proofs.lemmas.List.{length_push, take-append-le, drop-append-le, take-append-drop, take_all}
-use Rattle.std.proofs.lemmas.List.{length-take-le}
+use Rattle.std.proofs.lemmas.List.{drop-drop, length-take-le}
 use Rattle.std.proofs.lemmas.List.Elements.{All-cons, All-head, All-nil, All-push, All-tail}
-use Rattle.std.proofs.Math.Seq.{drop-length, take-append-add}
+use Rattle.std.proofs.Math.Seq.{drop-append_seam, drop-length, take-append-add}
 use Rattle.stamp_core.specs.Limits.{AreInRange, Bounds}
 use Rattle.stamp_core.specs.declared.call.Call.{Call}
 use Rattle.stamp_core.specs.declared.reply.Reply.TheVariants.{Stamp}
@@ -135,6 +135,7 @@ shown_first limits = record {
   within = omega arith;
   moved = [];
   as_many = refl;
+  same_end = refl;
   passed = [];
   parts = refl;
   in_place = none_is;
@@ -151,6 +152,7 @@ module _ (limits : Bounds) (run given aside waiting : List Event) (many : ℕ)
         let within : many ≤ length run = is.within in omega (arith, long, within);
     moved = is.moved;
     as_many = is.as_many;
+    same_end = is.same_end ∙ ap (drop (many - 1)) (sym (take-append-le many run (e ∷ []) is.within));
     passed = is.passed;
     parts = sym (append_assoc is.passed waiting (e ∷ [])) ∙ ap (λ (xs : List Event). xs ++ e ∷ []) is.parts ∙
         append_assoc is.moved (drop many run) (e ∷ []) ∙
@@ -171,6 +173,7 @@ module _ (limits : Bounds) (run given aside waiting : List Event) (many : ℕ)
       within = is.within;
       moved = is.moved;
       as_many = is.as_many;
+      same_end = is.same_end;
       passed = is.passed ++ x ∷ [];
       parts = append_assoc is.passed (x ∷ []) rest ∙ ap (λ (xs : List Event). is.passed ++ xs) (sym first) ∙ is.parts;
       in_place = in_place;
@@ -281,15 +284,38 @@ module _ (limits : Bounds) (run given aside waiting : List Event) (many : ℕ)
         (append_assoc run (e ∷ []) more ∙ ap (λ (xs : List Event). xs ++ e ∷ more) (sym (take-append-drop many run)) ∙
         append_assoc (take many run) (drop many run) (e ∷ more)) way))
 
+    as_long : length (((there.before ++ there.behind) ++ b ∷ []) ++ (waiting ++ e ∷ [])) ≡ length run + 1
+    as_long = ap (λ (xs : List Event). length (((there.before ++ there.behind) ++ b ∷ []) ++ xs))
+        (sym (append-nil (waiting ++ e ∷ []))) ∙ later_as_long ((run ++ e ∷ []) ++ [])
+        (((there.before ++ there.behind) ++ b ∷ []) ++ ((waiting ++ e ∷ []) ++ [])) (later_then []) ∙
+        ap (λ (xs : List Event). length xs) (append-nil (run ++ e ∷ [])) ∙ length_push run e
+
+    last_moved : drop (length run) (((there.before ++ there.behind) ++ b ∷ []) ++ (waiting ++ e ∷ [])) ≡ e ∷ []
+    last_moved = ap (drop (length run))
+        (sym (append_assoc ((there.before ++ there.behind) ++ b ∷ []) waiting (e ∷ []))) ∙
+        ap (λ (n : ℕ). drop n ((((there.before ++ there.behind) ++ b ∷ []) ++ waiting) ++ e ∷ [])) many_before ∙
+        drop-append_seam (((there.before ++ there.behind) ++ b ∷ []) ++ waiting) (e ∷ [])
+      where
+        many_before : length run ≡ length (((there.before ++ there.behind) ++ b ∷ []) ++ waiting)
+        many_before = let all : length (((there.before ++ there.behind) ++ b ∷ []) ++ (waiting ++ e ∷ [])) ≡
+            length run + 1 = as_long in
+            let parts : length ((((there.before ++ there.behind) ++ b ∷ []) ++ waiting) ++ e ∷ []) ≡
+            length (((there.before ++ there.behind) ++ b ∷ []) ++ (waiting ++ e ∷ [])) =
+            ap (λ (xs : List Event). length xs) (append_assoc ((there.before ++ there.behind) ++ b ∷ []) waiting
+            (e ∷ [])) in
+            let one : length ((((there.before ++ there.behind) ++ b ∷ []) ++ waiting) ++ e ∷ []) ≡
+            length (((there.before ++ there.behind) ++ b ∷ []) ++ waiting) + 1 =
+            length_push (((there.before ++ there.behind) ++ b ∷ []) ++ waiting) e in omega (arith, all, parts, one)
+
     pub shown_late : IsShown limits (run ++ e ∷ []) (given ++ b ∷ []) (remove aside place) (waiting ++ e ∷ [])
         (length run + 1)
     shown_late = record {
       within = let long : length (run ++ e ∷ []) ≡ length run + 1 = length_push run e in omega (arith, long);
       moved = ((there.before ++ there.behind) ++ b ∷ []) ++ (waiting ++ e ∷ []);
-      as_many = ap (λ (xs : List Event). length (((there.before ++ there.behind) ++ b ∷ []) ++ xs))
-          (sym (append-nil (waiting ++ e ∷ []))) ∙ later_as_long ((run ++ e ∷ []) ++ [])
-          (((there.before ++ there.behind) ++ b ∷ []) ++ ((waiting ++ e ∷ []) ++ [])) (later_then []) ∙
-          ap (λ (xs : List Event). length xs) (append-nil (run ++ e ∷ [])) ∙ length_push run e;
+      as_many = as_long;
+      same_end = ap (λ (n : ℕ). drop n (((there.before ++ there.behind) ++ b ∷ []) ++ (waiting ++ e ∷ [])))
+          (omega arith) ∙ last_moved ∙ sym (drop-append_seam run (e ∷ [])) ∙ ap (drop (length run)) (sym all_of) ∙
+          ap (λ (n : ℕ). drop n (take (length run + 1) (run ++ e ∷ []))) (omega arith);
       passed = (there.before ++ there.behind) ++ b ∷ [];
       parts = sym (append-nil (((there.before ++ there.behind) ++ b ∷ []) ++ (waiting ++ e ∷ []))) ∙
           ap (λ (xs : List Event). (((there.before ++ there.behind) ++ b ∷ []) ++ (waiting ++ e ∷ [])) ++ xs)
@@ -330,3 +356,25 @@ module _ (limits : Bounds) (run given waiting : List Event) (many : ℕ)
       AreExplained limits (take n (given ++ waiting))
   settled_cut n more within way = subst (AreExplained limits) (sym (cut_moved n more within))
       (is.nothing_lost (take (n - many) (drop many run)) (subst (AreExplained limits) (cut_run n more within) way))
+
+  -- the run goes on as those do, from the last of those events on
+  pub settled_drop : (k : ℕ) → many ≤ k + 1 → drop k run ≡ drop k (given ++ waiting)
+  settled_drop k more = sym (from run) ∙ ap (drop (k - (many - 1))) here ∙ from (given ++ waiting)
+    where
+      from : (events : List Event) → drop (k - (many - 1)) (drop (many - 1) events) ≡ drop k events
+      from events = drop-drop (k - (many - 1)) (many - 1) events ∙
+          ap (λ (n : ℕ). drop n events) (omega (arith, more))
+
+      here : drop (many - 1) run ≡ drop (many - 1) (given ++ waiting)
+      here = ap (drop (many - 1)) (sym (take-append-drop many run)) ∙
+          drop-append-le (many - 1) (take many run) (drop many run)
+          (let long : length (take many run) ≡ many = length-take-le many run is.within in omega (arith, long)) ∙
+          ap (λ (xs : List Event). xs ++ drop many run) (sym is.same_end) ∙
+          sym (drop-append-le (many - 1) is.moved (drop many run)
+          (let long : length is.moved ≡ many = is.as_many in omega (arith, long))) ∙
+          ap (drop (many - 1)) (sym is.parts ∙ ap (λ (xs : List Event). xs ++ waiting) as_given)
+
+  pub settled_later : BeginsLater run (given ++ waiting)
+  settled_later = subst (λ (xs : List Event). BeginsLater xs (given ++ waiting)) (append-nil run)
+      (subst (BeginsLater (run ++ [])) (ap (λ (xs : List Event). is.passed ++ xs) (append-nil waiting) ∙
+      ap (λ (xs : List Event). xs ++ waiting) as_given) (is.later []))

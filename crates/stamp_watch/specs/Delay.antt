@@ -64,12 +64,13 @@ pub data AreInPlace : List Event → List Event → List Event → Type 0 where
       AreInPlace given aside events → AreInPlace given (e ∷ aside) (e ∷ events)
 
 -- The calls that began late are moved, and nothing is lost by that, as so many events of the run show: what comes then
--- is explained behind these events with those calls moved, if it is behind the run as it stands. The calls that are
--- aside begin in their places.
+-- is explained behind these events with those calls moved, if it is behind the run as it stands. The last of these
+-- stays in its place. The calls that are aside begin in theirs.
 pub record IsShown (limits : Bounds) (run given aside waiting : List Event) (many : ℕ) : Type 0 where
   pub within : many ≤ length run
   pub moved : List Event
   pub as_many : length moved ≡ many
+  pub same_end : drop (many - 1) moved ≡ drop (many - 1) (take many run)
   pub passed : List Event
   pub parts : passed ++ waiting ≡ moved ++ drop many run
   pub in_place : AreInPlace given aside passed

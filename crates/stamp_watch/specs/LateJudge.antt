@@ -1,13 +1,17 @@
 -- What a judge knows that puts calls aside which are open for long.
 use Rattle.std.specs.Prelude.{ℕ, ◌-◌, ◌≡◌, ◌+◌, ◌^◌, ◌<◌, ◌≤◌, ◌++◌, List, [], ◌∷◌, length}
-use Rattle.std.specs.Prelude.{⊤, Option, None, MatchOption}
+use Rattle.std.specs.Prelude.{⊤, Option, None, IfSome, MatchOption}
 use Rattle.stamp_core.specs.Limits.{Bounds}
+use Rattle.stamp_watch.specs.declared.course.Course.{Course}
 use Rattle.stamp_watch.specs.declared.delay.Delay.{Delay}
 use Rattle.stamp_watch.specs.declared.event.Event.{Event}
 use Rattle.stamp_watch.specs.declared.late_verdict.LateVerdict.{LateVerdict}
 use Rattle.stamp_watch.specs.declared.late_verdict.LateVerdict.TheVariants.{Is, Late}
 use Rattle.stamp_watch.specs.declared.late.LateJudge.{LateJudge}
+use Rattle.stamp_watch.specs.declared.verdict.Verdict.{Verdict}
+use Rattle.stamp_watch.specs.declared.verdict.Verdict.TheVariants as verdict
 use Rattle.stamp_watch.specs.Course.{KeepsEndOf}
+use Rattle.stamp_watch.specs.EndedCall.{IsEndedAt, ended_from}
 use Rattle.stamp_watch.specs.Delay.{IsDelayed, IsSmallDelay}
 use Rattle.stamp_watch.specs.Judging.{AreBusyLanes}
 use Rattle.stamp_watch.specs.Late.{IsLateFound}
@@ -27,6 +31,20 @@ abbrev pub KeepsEndLate : Delay → LateVerdict → Type 0
 KeepsEndLate delay (Is verdict) = KeepsEndOf delay.judge.course verdict
 KeepsEndLate delay (Late k) = Unit {0}
 
+-- the call that is kept as the one which ends where the run was found stuck ends there in the run
+abbrev pub EndsInRun : List Event → Course → Verdict → Type 0
+EndsInRun run course verdict.Explained = Unit {0}
+EndsInRun run course (verdict.Stuck k) =
+    IfSome (ended_from course.first course.events.items k) (λ call. IsEndedAt run k call)
+EndsInRun run course (verdict.StuckWithin k m) = Unit {0}
+EndsInRun run course (verdict.Undecided k why) = Unit {0}
+EndsInRun run course (verdict.Broken k) = Unit {0}
+
+-- so it does where calls began late
+abbrev pub EndsInRunLate : List Event → Delay → LateVerdict → Type 0
+EndsInRunLate run delay (Is verdict) = EndsInRun run delay.judge.course verdict
+EndsInRunLate run delay (Late k) = Unit {0}
+
 -- the judge was given the events of this run so far, what it found holds whatever comes later, and it keeps few
 -- events, by which it can judge again; among these is what tells of the event at which the run was found stuck
 pub record IsLateJudge (limits : Bounds) (most ahead : ℕ) (run : List Event) (judge : LateJudge) : Type 0 where
@@ -36,6 +54,7 @@ pub record IsLateJudge (limits : Bounds) (most ahead : ℕ) (run : List Event) (
   pub state : MatchOption judge.found (IsLateUnderWay limits most ahead run judge)
       (λ finding. IsLateFound limits run most ahead finding)
   pub tells : MatchOption judge.found ⊤ (KeepsEndLate judge.delay)
+  pub there : MatchOption judge.found ⊤ (EndsInRunLate run judge.delay)
 
 -- so it is of some run
 pub record IsLateJudgeOfSome (judge : LateJudge) : Type 0 where

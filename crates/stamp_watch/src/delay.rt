@@ -12,7 +12,7 @@ ghost use Rattle.stamp_watch.specs.declared.event.Event.{Event};
 ghost use Rattle.stamp_watch.specs.Delay.{IsDelayed, IsSmallDelay, kept_of};
 ghost use Rattle.stamp_watch.specs.Judge.{IsJudge, IsJudgeOfSome};
 ghost use Rattle.stamp_watch.specs.Late.{IsLateFound};
-ghost use Rattle.stamp_watch.specs.LateJudge.{KeepsEndLate};
+ghost use Rattle.stamp_watch.specs.LateJudge.{EndsInRunLate, KeepsEndLate};
 ghost use Rattle.stamp_watch.specs.Possible.{KeepsBase};
 ghost use Rattle.stamp_watch.specs.PossibleLate.{KeepsDelayed};
 ghost use Rattle.stamp_watch.specs.Verdict.{AreOfLock};
@@ -351,6 +351,8 @@ impl Delay {
             → IsDelayed limits most ahead run self.now → IsLateFound limits run most ahead result }
         ensures tells { (limits : Bounds) (most ahead : ℕ) (run : List Event)
             → IsDelayed limits most ahead run self.now → KeepsEndLate self.now result }
+        ensures there { (limits : Bounds) (most ahead : ℕ) (run : List Event)
+            → IsDelayed limits most ahead run self.now → EndsInRunLate run self.now result }
     {
         self.finding_of(verdict)
     }
@@ -387,6 +389,8 @@ impl Delay {
         ensures keeps { IfOk result (λ _. (limits : Bounds) (most ahead : ℕ) (run : List Event)
             → IsDelayed limits most ahead run self.old → KeepsDelayed limits run self.new) }
         ensures tells { IfOk result (KeepsEndLate self.new) }
+        ensures there { IfOk result (λ finding. (limits : Bounds) (most ahead : ℕ) (run : List Event)
+            → IsDelayed limits most ahead run self.old → EndsInRunLate run self.new finding) }
         ensures window { IfOk result (λ _. self.new.ahead ≡ self.old.ahead) }
     {
         self.give_all()?;

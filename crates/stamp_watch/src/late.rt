@@ -14,7 +14,7 @@ ghost use Rattle.stamp_watch.specs.Late.{IsLateVerdict};
 ghost use Rattle.stamp_watch.specs.SoFar.{IsExplainedUpTo, open_calls};
 ghost use Rattle.stamp_watch.specs.Possible.{items_in};
 ghost use Rattle.stamp_watch.specs.PossibleLate.{IsToldLaterOf, KeepsLater, KeepsSomeLater};
-ghost use Rattle.stamp_watch.specs.LateJudge.{HasFoundNothingLater, HasRoomForOneLater, IsLateFoundThen, IsLateGiven, IsLateJudge, IsLateJudgeOfSome, KeepsEndLate};
+ghost use Rattle.stamp_watch.specs.LateJudge.{HasFoundNothingLater, HasRoomForOneLater, IsLateFoundThen, IsLateGiven, IsLateJudge, IsLateJudgeOfSome, EndsInRunLate, KeepsEndLate};
 ghost use Rattle.stamp_watch.specs.inner.Judging.{MayComeIn, SetsBusy};
 ghost use Rattle.stamp_watch.specs.inner.Late.{broken_off_there};
 
@@ -189,9 +189,9 @@ impl LateJudge {
         lanes_in(self.busy)
     }
 
-    /// The call that the event with this number ends, if its beginning is kept. It is where the run was found stuck at
-    /// the event. Where a call that begins before the event was put aside, it is one of the run with that call begun
-    /// later.
+    /// The call that the event with this number ends, if its beginning is kept. Where the run was found stuck at the
+    /// event it is kept, and it is the call that ends there. Elsewhere, if a call that begins before the event was put
+    /// aside, it is one of the run with that call begun later.
     pub fn ended_at(&self, number: u64) -> Option<EndedCall>
         ensures kept { result
             ≡ ended_from self.now.delay.judge.course.first self.now.delay.judge.course.events.items number }
@@ -226,6 +226,8 @@ impl LateJudge {
         ensures keeps { IfOk result (λ _. (limits : Bounds) (most ahead : ℕ) (run : List Event)
             → IsLateJudge limits most ahead run self.old → KeepsLater limits run self.new) }
         ensures tells { IfOk result (KeepsEndLate self.new.delay) }
+        ensures there { IfOk result (λ finding. (limits : Bounds) (most ahead : ℕ) (run : List Event)
+            → IsLateJudge limits most ahead run self.old → EndsInRunLate run self.new.delay finding) }
         ensures window { IfOk result (λ _. self.new.delay.ahead ≡ self.old.delay.ahead) }
     {
         match self.found {

@@ -1,70 +1,60 @@
 -- The call that is told where a stream is stuck.
-use Rattle.std.proofs.Common.{ℕ, ◌≡◌, List, Option, Some, None, Bool, true, false, refl, sym, ◌∙◌, subst, inl, inr}
-use Rattle.std.proofs.Common.{arith}
-use Rattle.std.specs.Prelude.{◌⊎◌, MatchOption, nat_le, ⊤}
-use Rattle.std.proofs.lemmas.Bool.Decides.{nat_tests}
+use Rattle.std.proofs.Common.{ℕ, ◌≡◌, ◌++◌, List, Option, Some, None, refl, sym, ◌∙◌, ap, subst}
+use Rattle.std.specs.Prelude.{IfSome}
 use Rattle.std.proofs.lemmas.Option.{none-some, same_Some}
+use Rattle.stamp_core.specs.Limits.{Bounds}
 use Rattle.stamp_watch.specs.declared.ended_call.EndedCall.{EndedCall}
 use Rattle.stamp_watch.specs.declared.event.Event.{Event}
 use Rattle.stamp_watch.specs.declared.late.LateJudge.{LateJudge}
-use Rattle.stamp_watch.specs.EndedCall.{ended_at, ended_from}
-use Rattle.stamp_watch.specs.PossibleLate.{AreSameUntil}
-use Rattle.stamp_watch.specs.Verdict.{IsOpenFor}
+use Rattle.stamp_watch.specs.EndedCall.{IsEndedAt}
 use Rattle.stamp_watch.specs.declared.late_verdict.LateVerdict.{LateVerdict}
 use Rattle.stamp_watch.specs.declared.late_verdict.LateVerdict.TheVariants.{Is}
 use Rattle.stamp_watch.specs.declared.verdict.Verdict.TheVariants as verdict
 use Rattle.stamp_watch.specs.Course.{KeepsEnd}
-use Rattle.stamp_watch.specs.LateJudge.{KeepsEndLate}
+use Rattle.stamp_watch.specs.LateJudge.{EndsInRunLate, KeepsEndLate}
 use Rattle.stamped_watch.specs.declared.finding.Finding.{Finding}
 use Rattle.stamped_watch.specs.declared.finding.Finding.TheVariants as found
 use Rattle.stamped_watch.specs.declared.finding.Finding.TheVariants.{Stuck}
 use Rattle.stamped_watch.specs.Finding.{verdict_of}
-use Rattle.stamped_watch.specs.declared.stream_judge.StreamJudge.{StreamJudge}
-use Rattle.stamped_watch.specs.Note.{EndsThere, IsCallTold, IsLateBy}
-use Rattle.stamped_watch.specs.Possible.{KeepsOf}
-use Rattle.stamped_watch.specs.StreamJudge.{KeepsCall, KeepsFed, ended_in}
-use Rattle.stamped_watch.proofs.Witnessing.{ended_in_run, same_ended}
+use Rattle.stamped_watch.specs.Note.{IsCallTold}
+use Rattle.stamped_watch.specs.Stream.{IsStream}
+use Rattle.stamped_watch.specs.StreamJudge.{EndsInStream, KeepsCall, ended_in}
+use Rattle.stamped_watch.specs.inner.StreamJudge.{EndsInRunOf}
+use Rattle.stamped_watch.proofs.Streaming.{stream_longer}
 
--- a call of the run that judges as it came ends there; or one began late by then
-ends_so : (run given : List Event) (late : Option ℕ) (window k : ℕ) (x : EndedCall) → AreSameUntil run given late →
-    MatchOption late ⊤ (λ (first : ℕ). IsOpenFor run first window) → ended_at given k ≡ Some x →
-    (ended_at run k ≡ Some x) ⊎ IsLateBy run window k
-ends_so run given None window k x same long is = inl (same_ended run given None k x same (λ no. no) is)
-ends_so run given (Some first) window k x same long is = by (nat_le first k) refl
-  where
-    by : (t : Bool) → nat_le first k ≡ t → (ended_at run k ≡ Some x) ⊎ IsLateBy run window k
-    by true some = inr (record { late = first; before = grind (arith, nat_tests); open_for = long })
-    by false none = inl (same_ended run given (Some first) k x same (λ before. grind (arith, nat_tests)) is)
+pub call_told : (fed : List ℕ) (judge : Option LateJudge) (k : ℕ) (o : Option EndedCall) → o ≡ ended_in judge k →
+    KeepsCall judge (Stuck k) → EndsInStream fed judge (Stuck k) → IsCallTold fed (Stuck k) o
+call_told fed judge k None is some there = absurd (some (sym is))
+call_told fed judge k (Some x) is some there = there k refl x (sym is)
 
--- so it is of what a judge keeps
-ends_there : (ahead : ℕ) (fed : List ℕ) (inner : LateJudge) → KeepsOf ahead fed inner → (k : ℕ) (x : EndedCall) →
-    ended_from inner.delay.judge.course.first inner.delay.judge.course.events.items k ≡ Some x →
-    EndsThere ahead fed k x
-ends_there ahead fed inner keeps k x is =
-    let of_run = keeps.keeps in
-    let kept = of_run.keeps in
-    record {
-      limits = keeps.limits;
-      events = keeps.events;
-      rest = keeps.rest;
-      stream = keeps.stream;
-      ends = subst (λ (window : ℕ). (ended_at keeps.events k ≡ Some x) ⊎ IsLateBy keeps.events window k) keeps.window
-          (ends_so keeps.events of_run.given inner.delay.first_late inner.delay.ahead k x of_run.same of_run.long
-          (subst (λ (run : List Event). ended_at run k ≡ Some x) (sym kept.run_is)
-          (ended_in_run inner.delay.judge.course.first kept.past inner.delay.judge.course.events.items kept.more k x
-          kept.place is)));
+-- so it is told of more bytes
+pub more_there : (bytes more : List ℕ) (judge : Option LateJudge) (f : Finding) → EndsInStream bytes judge f →
+    EndsInStream (bytes ++ more) judge f
+more_there bytes more judge f there k same x is =
+    let of = there k same x is in record {
+      limits = of.limits;
+      events = of.events;
+      rest = of.rest ++ more;
+      stream = stream_longer bytes more of.limits of.events of.rest of.stream;
+      ends = of.ends;
     }
 
-pub call_told : (ahead : ℕ) (fed : List ℕ) (judge : StreamJudge) → KeepsFed ahead fed judge → (k : ℕ)
-    (o : Option EndedCall) → o ≡ ended_in judge.judge k → KeepsCall judge.judge (Stuck k) →
-    IsCallTold ahead fed (Stuck k) o
-call_told ahead fed judge keeps k None is some = absurd (some (sym is))
-call_told ahead fed judge keeps k (Some x) is some = by judge.judge keeps is
+-- and of the stream whose events were judged
+pub stream_there : (bytes : List ℕ) (limits : Bounds) (events : List Event) (rest : List ℕ) →
+    IsStream bytes limits events rest → (inner : LateJudge) (f : Finding) → EndsInRunOf events inner f →
+    EndsInStream bytes (Some inner) f
+stream_there bytes limits events rest stream inner f there k same x is =
+    record { limits = limits; events = events; rest = rest; stream = stream; ends = there k same x is }
+
+-- a verdict is told as what is found
+pub call_there : (f : Finding) (v : LateVerdict) (run : List Event) (inner : LateJudge) → verdict_of f ≡ Some v →
+    EndsInRunLate run inner.delay v → EndsInRunOf run inner f
+call_there f v run inner is there k same x kept =
+    subst (λ (o : Option EndedCall). IfSome o (λ (call : EndedCall). IsEndedAt run k call)) kept
+    (subst (EndsInRunLate run inner.delay) (sym stuck) there)
   where
-    by : (p : Option LateJudge) → MatchOption p ⊤ (λ i. KeepsOf ahead fed i) → Some x ≡ ended_in p k →
-        EndsThere ahead fed k x
-    by None none same = absurd (cc)
-    by (Some inner) keeps same = ends_there ahead fed inner keeps k x (sym same)
+    stuck : Is (verdict.Stuck k) ≡ v
+    stuck = same_Some (Is (verdict.Stuck k)) v (ap verdict_of (sym same) ∙ is)
 
 -- where a verdict is told as what is found, the call is kept that ends where the run is stuck
 pub call_kept : (f : Finding) (v : LateVerdict) (inner : LateJudge) → verdict_of f ≡ Some v →

@@ -31,9 +31,10 @@ text_written text sent sent' old new result most bytes ok failed makes any =
 pub shown_one : (asked : Watching) (left left' : Option (List ℕ)) (reads reads' : Results)
     (sent sent' : Option (List ℕ)) (writes writes' : Results) (finding : Finding) (judge : StreamJudge) (number : ℕ)
     (text : List ℕ) → asked.witness ≡ true → finding ≡ Stuck number →
-    IsFoundOfSource asked left left' reads reads' finding → KeepsAll asked.ahead left left' reads reads' judge →
-    ((ahead : ℕ) (fed : List ℕ) → KeepsFed ahead fed judge → IsTextIn fed number text) → IsWritten text sent sent'
-    writes writes' →
+    IsFoundOfSource asked left left' reads reads' finding →
+    KeepsAll asked.ahead left left' reads reads' judge finding →
+    ((ahead : ℕ) (fed : List ℕ) → KeepsFed ahead fed judge → IsTextIn fed number text) →
+    IsWritten text sent sent' writes writes' →
     HasShown asked left left' reads reads' sent sent' writes writes'
 shown_one asked left left' reads reads' sent sent' writes writes' finding judge number text on stuck found keeps is
     written = inr (record {

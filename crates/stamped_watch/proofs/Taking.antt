@@ -1,5 +1,5 @@
 -- A judge that takes 16 bytes more.
-use Rattle.std.proofs.Common.{ℕ, ◌≡◌, ◌+◌, ◌-◌, ◌^◌, ◌<◌, true, false, List, [], ◌++◌, length, Option}
+use Rattle.std.proofs.Common.{ℕ, ◌≡◌, ◌≢◌, ◌+◌, ◌-◌, ◌^◌, ◌<◌, true, false, List, [], ◌++◌, length, Option}
 use Rattle.std.proofs.Common.{◌∷◌, inl, inr, Some, None, refl, sym, ◌∙◌, ap, subst, append_assoc, arith, lit<}
 use Rattle.std.specs.Prelude.{◌⊎◌, MatchOption, Vec, is_some, take, drop, ⊤}
 use Rattle.std.specs.declared.alloc.Global.{Global}
@@ -19,16 +19,19 @@ use Rattle.stamp_watch.specs.Possible.{items_in as replies_told}
 use Rattle.stamped_watch.specs.declared.event_bytes.BadEvent.{BadEvent}
 use Rattle.stamped_watch.specs.declared.finding.Finding.{Finding}
 use Rattle.stamped_watch.specs.declared.finding.Finding.TheVariants as found
+use Rattle.stamped_watch.specs.declared.finding.Finding.TheVariants.{Stuck}
 use Rattle.stamped_watch.specs.declared.header.BadHeader.{BadHeader}
 use Rattle.stamped_watch.specs.declared.stream_judge.StreamJudge.{StreamJudge}
 use Rattle.stamped_watch.specs.EventBytes.{HasBytes, IsNoEvent}
 use Rattle.stamped_watch.specs.Finding.{IsFoundOf}
 use Rattle.stamped_watch.specs.Header.{IsHeader, IsNoHeader}
 use Rattle.stamped_watch.specs.Possible.{ArePossibleAt, ArePossibleIn, KeepsOf, items_in}
-use Rattle.stamped_watch.specs.StreamJudge.{HasTaken, IsFed, IsFresh, IsUnderWay, KeepsCall, KeepsFed}
-use Rattle.stamped_watch.specs.inner.StreamJudge.{AreCounted, HasTakenFront, IsFoundUnless}
+use Rattle.stamped_watch.specs.Stream.{IsStream}
+use Rattle.stamped_watch.specs.StreamJudge.{EndsInStream, HasTaken, IsFed, IsFresh, IsUnderWay, KeepsCall, KeepsFed}
+use Rattle.stamped_watch.specs.inner.StreamJudge.{AreCounted, EndsInRunOf, HasTakenFront, IsFoundUnless}
 use Rattle.stamped_watch.specs.inner.StreamJudge.{IsGivenOne, IsOneMore, KeepsRun, KeepsSoFar, KeepsStill}
 use Rattle.stamped_watch.proofs.Counting.{count_room, under_way_first, under_way_then}
+use Rattle.stamped_watch.proofs.Ended.{more_there, stream_there}
 use Rattle.stamped_watch.proofs.Ending.{no_event, no_header}
 use Rattle.stamped_watch.proofs.Found.{found_with}
 use Rattle.stamped_watch.proofs.Streaming.{state_of, stream_behind, stream_longer, stream_more}
@@ -71,6 +74,7 @@ on_with most ahead taken judge inner same far none some way = record {
   kept = subst (λ (o : Option LateJudge). MatchOption o ⊤ (λ i. KeepsOf ahead taken i)) (sym some)
       (keeps_under_way most ahead taken judge.begun judge.withdrawn inner way);
   tells = subst (λ (o : Option Finding). MatchOption o ⊤ (KeepsCall judge.judge)) (sym none) tt;
+  there = subst (λ (o : Option Finding). MatchOption o ⊤ (EndsInStream taken judge.judge)) (sym none) tt;
   state = subst (λ (o : Option Finding). MatchOption o (MatchOption judge.judge
       (IsFresh taken judge.begun judge.withdrawn)
       (λ i. IsUnderWay most ahead taken judge.begun judge.withdrawn i))
@@ -106,6 +110,7 @@ module _ (most ahead : ℕ) (taken bytes : List ℕ) (old : StreamJudge) (has : 
       kept = subst (λ (o : Option LateJudge). MatchOption o ⊤ (λ i. KeepsOf ahead (taken ++ bytes) i))
           (sym no_judge) tt;
       tells = tt;
+      there = λ k same x is. absurd (cc);
       state = subst (λ (xs : List ℕ). IsFoundOf most ahead (xs ++ bytes) (found.BadHeader why)) (sym fresh.nothing)
           (no_header most ahead bytes why many wrong);
     }
@@ -128,6 +133,9 @@ module _ (most ahead : ℕ) (taken bytes : List ℕ) (old : StreamJudge) (has : 
     module _ (e : Event) (next : LateJudge) (o : Option Finding) (has_bytes : HasBytes e bytes)
         (given : (limits : Bounds) (m a : ℕ) (run : List Event) → IsLateJudge limits m a run inner →
         IsGivenOne limits m a run e next o) (keeps : KeepsSoFar e inner next) where
+      stream_then : IsStream (taken ++ bytes) way_on.limits (way_on.events ++ e ∷ []) []
+      stream_then = stream_more taken way_on.limits way_on.events e bytes way_on.stream has_bytes
+
       given_one : IsGivenOne way_on.limits most ahead way_on.events e next o
       given_one = given way_on.limits most ahead way_on.events way_on.judge_of
 
@@ -145,27 +153,32 @@ module _ (most ahead : ℕ) (taken bytes : List ℕ) (old : StreamJudge) (has : 
         limits = way_on.limits;
         events = way_on.events ++ e ∷ [];
         rest = [];
-        stream = stream_more taken way_on.limits way_on.events e bytes way_on.stream has_bytes;
+        stream = stream_then;
         keeps = then.keeps;
         window = then.window ∙ way_on.judge_of.window;
       }
 
       -- something was found with it
       pub found_taken : is_some o ≡ true → MatchOption o ⊤ (KeepsCall (Some next)) →
+          ((limits : Bounds) (m a : ℕ) (run : List Event) → IsLateJudge limits m a run inner →
+          MatchOption o ⊤ (EndsInRunOf (run ++ e ∷ []) next)) →
           HasTaken most ahead (taken ++ bytes) (record old { judge = Some next; found = o })
-      found_taken is tells = by o is given_one tells
+      found_taken is tells there = by o is given_one tells
+          (there way_on.limits most ahead way_on.events way_on.judge_of)
         where
           by : (p : Option Finding) → (is_some p ≡ true) → IsGivenOne way_on.limits most ahead way_on.events e next p →
               MatchOption p ⊤ (KeepsCall (Some next)) →
+              MatchOption p ⊤ (EndsInRunOf (way_on.events ++ e ∷ []) next) →
               HasTaken most ahead (taken ++ bytes) (record old { judge = Some next; found = p })
-          by (Some f) is_one one tells = record {
+          by (Some f) is_one one tells there = record {
             most_is = has.most_is;
             ahead_is = has.ahead_is;
             kept = keeps_of (keeps way_on.limits most ahead way_on.events way_on.judge_of);
             tells = tells;
+            there = stream_there (taken ++ bytes) way_on.limits (way_on.events ++ e ∷ []) [] stream_then next f there;
             state = found_with most ahead way_on.limits taken way_on.events e bytes way_on.stream has_bytes f one;
           }
-          by None is_one one tells = absurd (false≢true is_one)
+          by None is_one one tells there = absurd (false≢true is_one)
 
       -- or nothing
       module _ (is : is_some o ≡ false) where
@@ -202,8 +215,10 @@ module _ (most ahead : ℕ) (taken bytes : List ℕ) (old : StreamJudge) (has : 
         ((limits : Bounds) (m a : ℕ) (run : List Event) → IsLateJudge limits m a run inner → k ≡ length run) →
         ((limits : Bounds) (m a : ℕ) (run : List Event) → IsLateJudge limits m a run inner →
         IsFoundUnless limits m a run (found.BadEvent k why) f) → KeepsStill inner next → KeepsCall (Some next) f →
+        ((limits : Bounds) (m a : ℕ) (run : List Event) → IsLateJudge limits m a run inner →
+        EndsInRunOf run next (found.BadEvent k why) → EndsInRunOf run next f) →
         HasTaken most ahead (taken ++ bytes) (record old { judge = Some next; found = Some f })
-    no_event_taken k why f next many wrong count unless keeps tells = record {
+    no_event_taken k why f next many wrong count unless keeps tells there = record {
       most_is = has.most_is;
       ahead_is = has.ahead_is;
       kept = let kept = keeps way_on.limits most ahead way_on.events way_on.judge_of in record {
@@ -215,6 +230,9 @@ module _ (most ahead : ℕ) (taken bytes : List ℕ) (old : StreamJudge) (has : 
         window = kept.window ∙ way_on.judge_of.window;
       };
       tells = tells;
+      there = stream_there (taken ++ bytes) way_on.limits way_on.events bytes
+          (stream_behind taken bytes way_on.limits way_on.events way_on.stream) next f
+          (there way_on.limits most ahead way_on.events way_on.judge_of (λ j same x is. absurd (cc)));
       state = no_event most ahead taken way_on.limits way_on.events bytes why k f way_on.stream many wrong
           (count way_on.limits most ahead way_on.events way_on.judge_of)
           (unless way_on.limits most ahead way_on.events way_on.judge_of);
@@ -247,6 +265,7 @@ part_aside most ahead taken judge part has = record {
   ahead_is = has.ahead_is;
   kept = has.kept;
   tells = has.tells;
+  there = has.there;
   state = has.state;
 }
 
@@ -344,7 +363,26 @@ keeps_fed most ahead fed judge is = by judge.judge is.has_taken.kept
     by (Some inner) keeps = subst (λ (xs : List ℕ). KeepsOf ahead xs inner) (sym is.parts)
         (keeps_more ahead is.taken is.later inner keeps)
 
+-- and so is the call that ends where that was found stuck
+pub there_fed : (most ahead : ℕ) (fed : List ℕ) (judge : StreamJudge) → IsFed most ahead fed judge → (f : Finding) →
+    judge.found ≡ Some f → EndsInStream fed judge.judge f
+there_fed most ahead fed judge is f some = subst (λ (xs : List ℕ). EndsInStream xs judge.judge f) (sym is.parts)
+    (more_there is.taken is.later judge.judge f
+    (subst (λ (o : Option Finding). MatchOption o ⊤ (EndsInStream is.taken judge.judge)) some is.has_taken.there))
+
 -- so it is once the judge of the events has finished
+pub there_ended : (most ahead : ℕ) (fed : List ℕ) (judge : StreamJudge) → IsFed most ahead fed judge →
+    judge.found ≡ None → (inner next : LateJudge) → judge.judge ≡ Some inner → (explained f : Finding) →
+    ((k : ℕ) → explained ≢ Stuck k) →
+    ((limits : Bounds) (m a : ℕ) (run : List Event) → IsLateJudge limits m a run inner →
+    EndsInRunOf run next explained → EndsInRunOf run next f) → EndsInStream fed (Some next) f
+there_ended most ahead fed judge is none inner next some explained f other there =
+    let way = way_on most ahead is.taken [] judge is.has_taken none inner some in
+    subst (λ (xs : List ℕ). EndsInStream xs (Some next) f) (sym is.parts)
+    (more_there is.taken is.later (Some next) f (stream_there is.taken way.limits way.events [] way.stream next f
+    (there way.limits most ahead way.events way.judge_of (λ k same x is. absurd (other k same)))))
+
+-- and what it keeps is
 pub keeps_ended : (most ahead : ℕ) (fed : List ℕ) (judge : StreamJudge) → IsFed most ahead fed judge →
     judge.found ≡ None → (inner next : LateJudge) → judge.judge ≡ Some inner → KeepsStill inner next →
     KeepsOf ahead fed next

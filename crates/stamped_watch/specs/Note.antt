@@ -9,8 +9,7 @@ use Rattle.stamp_watch.specs.declared.ended_call.EndedCall.{EndedCall}
 use Rattle.stamped_watch.specs.declared.finding.Finding.{Finding}
 use Rattle.stamped_watch.specs.declared.finding.Finding.TheVariants.{Stuck, StuckWithin, Late}
 use Rattle.stamped_watch.specs.declared.orders.Watching.{Watching}
-use Rattle.stamp_watch.specs.EndedCall.{ended_at}
-use Rattle.stamp_watch.specs.Verdict.{IsOpenFor}
+use Rattle.stamp_watch.specs.EndedCall.{IsEndedAt}
 use Rattle.stamp_watch.specs.declared.event.Event.{Event}
 use Rattle.stamped_watch.specs.Possible.{possible_text}
 use Rattle.stamped_watch.specs.Stream.{IsStream}
@@ -46,26 +45,19 @@ note_text asked (StuckWithin k m) ended replies = Some within_text
 note_text asked (Late k) ended replies = Some (late_text asked.ahead)
 note_text asked finding ended replies = None
 
--- a call that begins at this event or before is open for so many events
-pub record IsLateBy (events : List Event) (window k : ℕ) : Type 0 where
-  pub late : ℕ
-  pub before : late ≤ k
-  pub open_for : IsOpenFor events late window
-
--- the call ends at the event of this number in the stream; or one that begins by then is open for all but 64 of the
--- events that are looked at
-pub record EndsThere (ahead : ℕ) (bytes : List ℕ) (k : ℕ) (ended : EndedCall) : Type 0 where
+-- the call ends at the event of this number in the stream
+pub record EndsThere (bytes : List ℕ) (k : ℕ) (ended : EndedCall) : Type 0 where
   pub limits : Bounds
   pub events : List Event
   pub rest : List ℕ
   pub stream : IsStream bytes limits events rest
-  pub ends : (ended_at events k ≡ Some ended) ⊎ IsLateBy events (ahead - 64) k
+  pub ends : IsEndedAt events k ended
 
 -- so does the call that is told where the stream is stuck
-abbrev pub IsCallTold : ℕ → List ℕ → Finding → Option EndedCall → Type 0
-IsCallTold ahead bytes (Stuck k) None = ⊥
-IsCallTold ahead bytes (Stuck k) (Some ended) = EndsThere ahead bytes k ended
-IsCallTold ahead bytes finding ended = Unit {0}
+abbrev pub IsCallTold : List ℕ → Finding → Option EndedCall → Type 0
+IsCallTold bytes (Stuck k) None = ⊥
+IsCallTold bytes (Stuck k) (Some ended) = EndsThere bytes k ended
+IsCallTold bytes finding ended = Unit {0}
 
 -- the note tells of the finding, unless memory for it was refused
 abbrev pub IsNote : Watching → Finding → Option EndedCall → Option (List Reply) → Option (List ℕ) → Type 0

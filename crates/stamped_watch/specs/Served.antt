@@ -80,7 +80,7 @@ pub record IsAnsweredBy (asked : Watching) (left left' : Option (List ℕ)) (old
   pub bytes : List ℕ
   pub took : Consumes left left' bytes
   pub count : length bytes ≡ taken_since old new
-  pub call : IsCallTold asked.ahead bytes finding ended
+  pub call : IsCallTold bytes finding ended
   pub possible : ArePossibleFor bytes finding ended replies
 
 -- a stream was judged: the reads, the line written, no refusal but for memory and the ends, and the writes

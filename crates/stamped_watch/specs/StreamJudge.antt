@@ -11,6 +11,7 @@ use Rattle.stamped_watch.specs.declared.finding.Finding.{Finding}
 use Rattle.stamped_watch.specs.declared.finding.Finding.TheVariants.{Stuck}
 use Rattle.stamped_watch.specs.declared.stream_judge.StreamJudge.{StreamJudge}
 use Rattle.stamped_watch.specs.Finding.{IsFoundOf, is_beginning, is_withdrawal}
+use Rattle.stamped_watch.specs.Note.{EndsThere}
 use Rattle.stamped_watch.specs.Possible.{KeepsOf}
 use Rattle.stamped_watch.specs.Stream.{IsStream}
 
@@ -42,6 +43,11 @@ abbrev pub KeepsCall : Option LateJudge → Finding → Type 0
 KeepsCall judge (Stuck k) = ended_in judge k ≢ None
 KeepsCall judge finding = Unit {0}
 
+-- the call that is kept as the one which ends where the stream is stuck ends there in the stream
+abbrev pub EndsInStream : List ℕ → Option LateJudge → Finding → Type 0
+EndsInStream bytes judge finding = (k : ℕ) → finding ≡ Stuck k → (ended : EndedCall) →
+    ended_in judge k ≡ Some ended → EndsThere bytes k ended
+
 -- it has taken these bytes, by 16: what it found holds whatever comes later
 pub record HasTaken (most ahead : ℕ) (taken : List ℕ) (judge : StreamJudge) : Type 0 where
   pub most_is : judge.most ≡ most
@@ -51,6 +57,7 @@ pub record HasTaken (most ahead : ℕ) (taken : List ℕ) (judge : StreamJudge) 
       (λ finding. IsFoundOf most ahead taken finding)
   pub kept : MatchOption judge.judge ⊤ (λ inner. KeepsOf ahead taken inner)
   pub tells : MatchOption judge.found ⊤ (KeepsCall judge.judge)
+  pub there : MatchOption judge.found ⊤ (EndsInStream taken judge.judge)
 
 -- it was fed these bytes: some of them it has taken, and it keeps those behind them, if nothing was found
 pub record IsFed (most ahead : ℕ) (fed : List ℕ) (judge : StreamJudge) : Type 0 where

@@ -7,7 +7,7 @@ ghost use Rattle.stamp_cli.specs.declared.faults.ServeFault.TheVariants.{Memory,
 ghost use Rattle.stamped_watch.specs.Note.{IsCallTold};
 ghost use Rattle.stamped_watch.specs.Progress.{HasTold};
 ghost use Rattle.stamped_watch.specs.Possible.{ArePossibleFor, ArePossibleIn, items_in};
-ghost use Rattle.stamped_watch.specs.StreamJudge.{IsFed, KeepsCall, KeepsFed, KeepsFedSome};
+ghost use Rattle.stamped_watch.specs.StreamJudge.{EndsInStream, IsFed, KeepsCall, KeepsFed, KeepsFedSome};
 ghost use Rattle.stamped_watch.specs.Served.{AnswersStream, HasReadOn, HasWatched, IsAnsweredBy, IsFoundOfSource, line_of};
 ghost use Rattle.stamped_watch.specs.Progress.{IsNewTelling};
 ghost use Rattle.stamped_watch.specs.Witness.{HasShown};
@@ -54,7 +54,7 @@ fn fed_from<S: Source, T: Sink>(
     ensures only { IsReadOrMemoryFault result }
     ensures told { HasTold asked (S.left source.old) (S.left source.new) (S.reads source.old) (S.reads source.new)
         (T.sent told.old) (T.sent told.new) (T.writes told.old) (T.writes told.new) result }
-    ensures keeps { IfOk result (λ _. KeepsAll asked.ahead (S.left source.old) (S.left source.new)
+    ensures keeps { IfOk result (KeepsAll asked.ahead (S.left source.old) (S.left source.new)
         (S.reads source.old) (S.reads source.new) judge.new) }
     ensures tells { IfOk result (KeepsCall judge.new.judge) }
 {
@@ -74,8 +74,7 @@ fn fed_from<S: Source, T: Sink>(
 /// The call that ends at the event at which the stream is stuck.
 fn ended_at(finding: &Finding, judge: &StreamJudge) -> Option<EndedCall>
     requires { KeepsCall judge.now.judge finding.now }
-    ensures { (ahead : ℕ) (fed : List ℕ) → KeepsFed ahead fed judge.now
-        → IsCallTold ahead fed finding.now result }
+    ensures { (fed : List ℕ) → EndsInStream fed judge.now.judge finding.now → IsCallTold fed finding.now result }
 {
     match finding {
         Finding::Stuck(event) => judge.ended_at(*event),
@@ -117,7 +116,7 @@ fn possible_for(
 fn show_witness<W: Sink>(asked: Watching, finding: &Finding, judge: &StreamJudge, witness: &mut W)
     ensures { (left left_then : Option (List ℕ)) (reads reads_then : Results)
         → IsFoundOfSource asked left left_then reads reads_then finding.now
-        → KeepsAll asked.ahead left left_then reads reads_then judge.now
+        → KeepsAll asked.ahead left left_then reads reads_then judge.now finding.now
         → HasShown asked left left_then reads reads_then (W.sent witness.old) (W.sent witness.new)
         (W.writes witness.old) (W.writes witness.new) }
 {
@@ -133,12 +132,12 @@ fn show_witness<W: Sink>(asked: Watching, finding: &Finding, judge: &StreamJudge
 }
 
 /// Judges the stream that it reads of the source, of any length, and writes one line of that. It reads on only while
-/// all but the last events that came, at most 64 and twice those looked at ahead, are explained. What it answers besides is for standard error: of a stream that is stuck which call
-/// ended there and which replies were possible, and else why it is not judged further, if it is not. It refuses as 1
-/// `ReadFault` exactly where a read answers an error, as 6 `WriteFault` exactly where a write does or takes no byte,
-/// and as 5 `Memory`; what was read is gone also after a refusal. If it is asked for, it tells on the way how far the
-/// stream is judged, by a line behind each 2^24 events. A write of such a line that fails, or takes no byte, is the last
-/// of those, and changes nothing else.
+/// all but the last events that came, at most 64 and twice those looked at ahead, are explained. What it answers
+/// besides is for standard error: of a stream that is stuck which call ended there and which replies were possible, and
+/// else why it is not judged further, if it is not. It refuses as 1 `ReadFault` exactly where a read answers an error,
+/// as 6 `WriteFault` exactly where a write does or takes no byte, and as 5 `Memory`; what was read is gone also after a
+/// refusal. If it is asked for, it tells on the way how far the stream is judged, by a line behind each 2^24 events. A
+/// write of such a line that fails, or takes no byte, is the last of those, and changes nothing else.
 /// If a witness is asked for, the text of one is written where the stream is stuck at a return and one is found: an
 /// observed history, judged by `explain`, that is stuck at the call which returned there. A write of it that fails
 /// changes nothing else either.

@@ -3,7 +3,7 @@
 //! Bytes are taken 16 by 16: the header, by which the judge of the events is made, and then event after event. Those
 //! of a header or an event that is not whole yet are kept.
 
-ghost use Rattle.std.specs.Prelude.{◌≡◌, ◌+◌, ◌^◌, ◌<◌, ◌++◌, [], ⊤, IfOk, IfSome, IsSome, MatchOption, OnOk, List, None, Some, length, ℕ};
+ghost use Rattle.std.specs.Prelude.{◌≡◌, ◌+◌, ◌^◌, ◌<◌, ◌++◌, ◌∷◌, [], ⊤, IfOk, IfSome, IsSome, MatchOption, OnOk, List, None, Some, length, ℕ};
 ghost use Rattle.stamp_core.specs.Limits.{Bounds};
 ghost use Rattle.stamp_watch.specs.declared.event.Event.{Event};
 ghost use Rattle.stamp_watch.specs.LateJudge.{HasFoundNothingLater, IsLateJudge, IsLateJudgeOfSome};
@@ -11,9 +11,9 @@ ghost use Rattle.stamped_watch.specs.EventBytes.{kind_of};
 ghost use Rattle.stamped_watch.specs.Finding.{IsFindingOf, IsSoFar};
 ghost use Rattle.stamped_watch.specs.Possible.{ArePossibleIn, items_in};
 ghost use Rattle.stamped_watch.specs.Progress.{IsSoFarOf};
-ghost use Rattle.stamped_watch.specs.StreamJudge.{ended_in, HasTaken, IsFed, IsFedSome, KeepsCall, KeepsFed, KeepsFedSome};
+ghost use Rattle.stamped_watch.specs.StreamJudge.{EndsInStream, ended_in, HasTaken, IsFed, IsFedSome, KeepsCall, KeepsFed, KeepsFedSome};
 ghost use Rattle.stamped_watch.specs.Witness.{IsTextIn};
-ghost use Rattle.stamped_watch.specs.inner.StreamJudge.{AreCounted, HasTakenSome, IsFoundUnless, IsGivenOne, IsOneMore, KeepsPart, KeepsSoFar, KeepsStill};
+ghost use Rattle.stamped_watch.specs.inner.StreamJudge.{AreCounted, EndsInRunOf, HasTakenSome, IsFoundUnless, IsGivenOne, IsOneMore, KeepsPart, KeepsSoFar, KeepsStill};
 
 use crate::event_bytes::event_in;
 use crate::finding::{Finding, broken_at, finding_of, is_explained};
@@ -56,6 +56,9 @@ fn given(judge: &mut LateJudge, event: &StreamEvent) -> Result<Option<Finding>, 
         → IsLateJudge limits most ahead run judge.old
         → IsGivenOne limits most ahead run event.now judge.new found) }
     ensures tells { IfOk result (λ found. MatchOption found ⊤ (KeepsCall (Some judge.new))) }
+    ensures there { IfOk result (λ found. (limits : Bounds) (most ahead : ℕ) (run : List Event)
+        → IsLateJudge limits most ahead run judge.old
+        → MatchOption found ⊤ (EndsInRunOf (run ++ event.now ∷ []) judge.new)) }
     ensures kept { IfOk result (λ _. KeepsSoFar event.now judge.old judge.new) }
 {
     if judge.is_full() {
@@ -80,6 +83,9 @@ fn found_unless(judge: &mut LateJudge, explained: Finding) -> Result<Finding, Al
         → IsFoundUnless limits most ahead run explained finding) }
     ensures kept { IfOk result (λ _. KeepsStill judge.old judge.new) }
     ensures tells { IfOk result (λ finding. KeepsCall (Some judge.new) explained → KeepsCall (Some judge.new) finding) }
+    ensures there { IfOk result (λ finding. (limits : Bounds) (most ahead : ℕ) (run : List Event)
+        → IsLateJudge limits most ahead run judge.old
+        → EndsInRunOf run judge.new explained → EndsInRunOf run judge.new finding) }
 {
     let verdict = judge.finish()?;
     if is_explained(verdict) {
@@ -231,6 +237,8 @@ impl StreamJudge {
         ensures kept { IfOk result (λ _. (most ahead : ℕ) (fed : List ℕ) → IsFed most ahead fed self.old
             → KeepsFed ahead fed self.new) }
         ensures tells { IfOk result (KeepsCall self.new.judge) }
+        ensures there { IfOk result (λ finding. (most ahead : ℕ) (fed : List ℕ) → IsFed most ahead fed self.old
+            → EndsInStream fed self.new.judge finding) }
     {
         if let Some(finding) = self.found {
             return Ok(finding);

@@ -2,10 +2,11 @@
 use Rattle.std.specs.Prelude.{ℕ, ◌≡◌, ◌<◌, ◌≤◌, List, length, Option, None}
 use Rattle.std.specs.Io.KnownBytes.{Consumes}
 use Rattle.stamp_cli.specs.Results.{Makes, Results, taken_since}
+use Rattle.stamped_watch.specs.declared.finding.Finding.{Finding}
 use Rattle.stamped_watch.specs.declared.orders.Watching.{Watching}
 use Rattle.stamped_watch.specs.declared.stream_judge.StreamJudge.{StreamJudge}
 use Rattle.stamped_watch.specs.declared.telling.Telling.{Telling}
-use Rattle.stamped_watch.specs.StreamJudge.{IsFed, KeepsFed}
+use Rattle.stamped_watch.specs.StreamJudge.{EndsInStream, IsFed, KeepsFed}
 use Rattle.stamped_watch.specs.Progress.{HasToldSoFar}
 
 -- each read took a byte, the judge was fed all that they took, and it has found nothing
@@ -25,9 +26,11 @@ pub record IsFedAndTold (asked : Watching) (left left' : Option (List ℕ)) (old
   pub few : length chunk ≤ 65536
   pub told : HasToldSoFar asked fed_so.bytes telling sent sent' writes writes'
 
--- what the judge keeps is of all that the reads took
-pub record KeepsAll (ahead : ℕ) (left left' : Option (List ℕ)) (old new : Results) (judge : StreamJudge) : Type 0 where
+-- what the judge keeps is of all that the reads took, and so is the call that ends where that was found stuck
+pub record KeepsAll (ahead : ℕ) (left left' : Option (List ℕ)) (old new : Results) (judge : StreamJudge)
+    (finding : Finding) : Type 0 where
   pub bytes : List ℕ
   pub took : Consumes left left' bytes
   pub count : length bytes ≡ taken_since old new
   pub keeps : KeepsFed ahead bytes judge
+  pub there : EndsInStream bytes judge.judge finding

@@ -2,10 +2,12 @@
 use Rattle.std.specs.Prelude.{ℕ, ◌≡◌, ◌+◌, ◌^◌, ◌≤◌, ◌⊎◌, ◌++◌, List, [], ◌∷◌, length}
 use Rattle.std.specs.Prelude.{Option, Some, None}
 use Rattle.stamp_core.specs.Limits.{Bounds}
+use Rattle.stamp_watch.specs.declared.ended_call.EndedCall.{EndedCall}
 use Rattle.stamp_watch.specs.declared.event.Event.{Event}
 use Rattle.stamp_watch.specs.declared.event.Event.TheVariants.{Begins, Returns, Withdraws}
 use Rattle.stamp_watch.specs.declared.late.LateJudge.{LateJudge}
 use Rattle.stamp_watch.specs.declared.late_verdict.LateVerdict.{LateVerdict}
+use Rattle.stamp_watch.specs.EndedCall.{IsEndedAt}
 use Rattle.stamp_watch.specs.Late.{IsLateFound, IsLateVerdict}
 use Rattle.stamp_watch.specs.LateJudge.{HasFoundNothingLater, IsLateJudge}
 use Rattle.stamp_watch.specs.PossibleLate.{KeepsLater}
@@ -16,7 +18,7 @@ use Rattle.stamped_watch.specs.declared.finding.Finding.TheVariants as found
 use Rattle.stamped_watch.specs.declared.misplaced.Misplaced.{Misplaced}
 use Rattle.stamped_watch.specs.declared.stream_judge.StreamJudge.{StreamJudge}
 use Rattle.stamped_watch.specs.Finding.{IsMisplaced, verdict_of}
-use Rattle.stamped_watch.specs.StreamJudge.{HasTaken}
+use Rattle.stamped_watch.specs.StreamJudge.{HasTaken, ended_in}
 
 -- a verdict on this run is found, which holds whatever comes later
 pub record IsFoundSo (limits : Bounds) (run : List Event) (most ahead : ℕ) (finding : Finding) : Type 0 where
@@ -67,6 +69,11 @@ KeepsSoFar e old new = (limits : Bounds) (most ahead : ℕ) (run : List Event) �
 abbrev pub KeepsStill : LateJudge → LateJudge → Type 0
 KeepsStill old new = (limits : Bounds) (most ahead : ℕ) (run : List Event) → IsLateJudge limits most ahead run old →
     KeepsRun limits run old new
+
+-- the call that is kept as the one which ends where the run is stuck ends there in the run
+abbrev pub EndsInRunOf : List Event → LateJudge → Finding → Type 0
+EndsInRunOf run inner finding = (k : ℕ) → finding ≡ found.Stuck k → (ended : EndedCall) →
+    ended_in (Some inner) k ≡ Some ended → IsEndedAt run k ended
 
 -- the run is explained, and this is found; or a verdict is
 pub record IsExplainedRun (limits : Bounds) (run : List Event) : Type 0 where

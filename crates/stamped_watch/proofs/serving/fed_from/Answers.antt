@@ -10,12 +10,12 @@ use Rattle.stamp_cli.specs.TakesNone.{takes_none}
 use Rattle.stamp_cli.proofs.MadeSoFar as so_far
 use Rattle.stamped_watch.specs.declared.finding.Finding.{Finding}
 use Rattle.stamped_watch.specs.Finding.{IsFindingOf, IsSoFar}
-use Rattle.stamped_watch.specs.StreamJudge.{KeepsCall, KeepsFed}
+use Rattle.stamped_watch.specs.StreamJudge.{EndsInStream, KeepsCall, KeepsFed}
 use Rattle.stamped_watch.proofs.ReadingOn.{all_counted, all_took, found_at_end, found_of_all, has_read_on, makes_none}
 use Rattle.stamped_watch.proofs.ReadingOn.{not_of_reading}
 use Rattle.stamped_watch.proofs.Ending.{in_form}
 use Rattle.stamped_watch.proofs.Streaming.{fed_short}
-use Rattle.stamped_watch.proofs.Taking.{keeps_fed}
+use Rattle.stamped_watch.proofs.Taking.{keeps_fed, there_fed}
 use Rattle.stamped_watch.proofs.LinesTold.{all_of_err, has_told, tells_more, told_at_first, told_to_end}
 use Rattle.stamped_watch.proofs.serving.fed_from.Goals as goal
 
@@ -232,6 +232,10 @@ returns-then-taken-eq0-clause-keeps g c =
           subst (λ (xs : List ℕ). KeepsFed c.args.asked.ahead xs c.end.new.self)
           (sym (append-nil inv.bytes) ∙ ap (λ (xs : List ℕ). inv.bytes ++ xs) (sym none))
           (c.in_ok-end.ensures.kept c.args.asked.most c.args.asked.ahead inv.bytes inv.fed);
+      there = let none : take c.in-Ok.taken c.read.new.buffer ≡ [] = rw c.if-taken-eq0.true refl in
+          subst (λ (xs : List ℕ). EndsInStream xs c.end.new.self.judge c.in_ok-end.field-0)
+          (sym (append-nil inv.bytes) ∙ ap (λ (xs : List ℕ). inv.bytes ++ xs) (sym none))
+          (c.in_ok-end.ensures.there c.args.asked.most c.args.asked.ahead inv.bytes inv.fed);
     }
 
 pub returns-in-Some-clause-keeps : goal.returns-in-Some-clause-keeps
@@ -247,6 +251,9 @@ returns-in-Some-clause-keeps g c =
           (sym c.in-Ok.ensures.bound.1);
       keeps = keeps_fed c.args.asked.most c.args.asked.ahead _ c.feed.new.judge
           (c.in_ok-finding.ensures.fed c.args.asked.most c.args.asked.ahead inv.bytes inv.fed);
+      there = there_fed c.args.asked.most c.args.asked.ahead _ c.feed.new.judge
+          (c.in_ok-finding.ensures.fed c.args.asked.most c.args.asked.ahead inv.bytes inv.fed) c.in-Some.finding
+          (c.in_ok-finding.ensures.state ∙ c.in-Some.is);
     }
 
 pub returns-in-Some-clause-tells : goal.returns-in-Some-clause-tells

@@ -46,7 +46,7 @@ returns-clause-ok g c =
         bytes = all.bytes;
         took = all.took;
         count = all.count;
-        call = c.ended_at-ended.ensures c.args.asked.ahead all.bytes all.keeps;
+        call = c.ended_at-ended.ensures all.bytes all.there;
         possible = c.possible_for-replies.ensures c.args.asked.ahead all.bytes all.keeps;
       },
       search rules,

@@ -1,6 +1,6 @@
 use Rattle.std.proofs.Common.{inr, sym, ◌∙◌}
 use Rattle.std.proofs.lemmas.Bool.{false≢true}
-use Rattle.stamped_watch.proofs.Ended.{call_kept}
+use Rattle.stamped_watch.proofs.Ended.{call_kept, call_there}
 use Rattle.stamped_watch.proofs.Ending.{judge_whole}
 use Rattle.stamped_watch.proofs.Misplacing.{late_form_here}
 use Rattle.stamped_watch.proofs.stream_judge.found_unless.Goals as goal
@@ -34,3 +34,10 @@ returns-then-is_explained-clause-tells c kept = kept
 pub returns-clause-tells : goal.returns-clause-tells
 returns-clause-tells c kept = call_kept c.finding_of.result c.in_ok-verdict.verdict c.finish.new.self
     c.finding_of.ensures c.in_ok-verdict.ensures.tells
+
+pub returns-then-is_explained-clause-there : goal.returns-then-is_explained-clause-there
+returns-then-is_explained-clause-there c limits most ahead run is there = there
+
+pub returns-clause-there : goal.returns-clause-there
+returns-clause-there c limits most ahead run is there = call_there c.finding_of.result c.in_ok-verdict.verdict run
+    c.finish.new.self c.finding_of.ensures (c.in_ok-verdict.ensures.there limits most ahead run is)

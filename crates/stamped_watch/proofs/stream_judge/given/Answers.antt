@@ -1,8 +1,8 @@
-use Rattle.std.proofs.Common.{None, Option, Some, ap, inl, inr, refl, subst, sym, ◌∙◌}
+use Rattle.std.proofs.Common.{[], ◌∷◌, ◌++◌, None, Option, Some, ap, inl, inr, refl, subst, sym, ◌∙◌}
 use Rattle.std.specs.Prelude.{⊤, MatchOption}
 use Rattle.stamp_watch.specs.declared.late_verdict.LateVerdict.{LateVerdict}
-use Rattle.stamp_watch.specs.LateJudge.{KeepsEndLate}
-use Rattle.stamped_watch.proofs.Ended.{call_kept}
+use Rattle.stamp_watch.specs.LateJudge.{EndsInRunLate, KeepsEndLate}
+use Rattle.stamped_watch.proofs.Ended.{call_kept, call_there}
 use Rattle.stamped_watch.proofs.Ending.{judge_whole}
 use Rattle.stamped_watch.proofs.Found.{so_found}
 use Rattle.stamped_watch.proofs.Misplacing.{found_then, late_of_form, misplaced_at}
@@ -58,3 +58,10 @@ pub returns-in-None-clause-tells : goal.returns-in-None-clause-tells
 returns-in-None-clause-tells c = call_kept c.finding_of.result c.in-Some.verdict c.push.new.self c.finding_of.ensures
     (subst (λ (o : Option LateVerdict). MatchOption o ⊤ (KeepsEndLate c.push.new.self.delay))
     (c.in_ok-found.ensures.told ∙ c.in-Some.is) c.in_ok-found.ensures.known.judge_of.tells)
+
+pub returns-in-None-clause-there : goal.returns-in-None-clause-there
+returns-in-None-clause-there c limits most ahead run is = call_there c.finding_of.result c.in-Some.verdict
+    (run ++ c.args.event.now ∷ []) c.push.new.self c.finding_of.ensures
+    (subst (λ (o : Option LateVerdict).
+    MatchOption o ⊤ (EndsInRunLate (run ++ c.args.event.now ∷ []) c.push.new.self.delay))
+    (c.in_ok-found.ensures.told ∙ c.in-Some.is) (c.in_ok-found.ensures.given limits most ahead run is).there)

@@ -1,11 +1,10 @@
-use Rattle.std.proofs.Common.{◌++◌, ℕ, List, Option, subst, ap}
-use Rattle.stamp_watch.specs.declared.event.Event.{Event}
+use Rattle.std.proofs.Common.{◌++◌, ap}
 use Rattle.stamp_watch.specs.Delay.{reach_of}
-use Rattle.stamp_watch.specs.inner.Delay.{IsFindingOf}
 use Rattle.stamp_watch.proofs.Closeness.{near_all, rest_near}
 use Rattle.stamp_watch.proofs.Delaying.{few_given}
+use Rattle.stamp_watch.proofs.EndedLate.{found_in_run, settled_ends}
 use Rattle.stamp_watch.proofs.FindingLate.{rest_by}
-use Rattle.stamp_watch.proofs.JudgingLate.{late_told}
+use Rattle.stamp_watch.proofs.JudgingLate.{finding_as, late_told}
 use Rattle.stamp_watch.proofs.PossibleLate.{keeps_all}
 use Rattle.stamp_watch.proofs.delay.Delay.rest.Goals as goal
 
@@ -25,15 +24,21 @@ returns-clause-rest c limits most ahead run is = rest_by limits most ahead run i
     (c.in_ok-verdict.ensures.rest limits most (reach_of ahead)
     (is.given ++ (c.args.self.now.aside.items ++ c.args.self.now.waiting.events.items))
     (c.in_ok-give_all.ensures.given limits most (reach_of ahead) is.given is.judge_of))) c.finding_of.result
-    (subst (λ (xs : List Event). IsFindingOf xs c.args.self.now.shown c.args.self.now.first_late
-    c.in_ok-verdict.verdict
-    c.finding_of.result) (ap (λ v. v.items) c.in_ok-give_all.ensures.same.0)
-    (subst (λ (o : Option ℕ). IsFindingOf c.give_all.new.self.aside.items o c.args.self.now.first_late
-    c.in_ok-verdict.verdict c.finding_of.result) c.in_ok-give_all.ensures.same.3
-    (subst (λ (o : Option ℕ). IsFindingOf c.give_all.new.self.aside.items c.give_all.new.self.shown o
-    c.in_ok-verdict.verdict c.finding_of.result) c.in_ok-give_all.ensures.same.2 c.finding_of.ensures)))
+    (finding_as c.in_ok-verdict.verdict c.finding_of.result (ap (λ v. v.items) c.in_ok-give_all.ensures.same.0)
+    c.in_ok-give_all.ensures.same.3 c.in_ok-give_all.ensures.same.2 c.finding_of.ensures)
 
 pub returns-clause-tells : goal.returns-clause-tells
 returns-clause-tells c = late_told c.give_all.new.self.aside.items c.give_all.new.self.shown
     c.give_all.new.self.first_late c.in_ok-verdict.verdict c.finding_of.result c.give_all.new.self c.finding_of.ensures
     c.in_ok-verdict.ensures.tells
+
+pub returns-clause-there : goal.returns-clause-there
+returns-clause-there c limits most ahead run is = found_in_run limits run
+    (is.given ++ (c.args.self.now.aside.items ++ c.args.self.now.waiting.events.items)) c.give_all.new.self
+    (c.in_ok-give_all.ensures.kept limits most (reach_of ahead) is.given is.judge_of is.keeps)
+    (returns-clause-keeps c limits most ahead run is) c.args.self.now.aside.items c.args.self.now.shown
+    (settled_ends limits run is.given c.args.self.now.aside.items c.args.self.now.waiting.events.items
+    c.args.self.now.shown is.shown) c.args.self.now.first_late c.in_ok-give_all.ensures.same.2
+    c.in_ok-verdict.verdict c.finding_of.result
+    (finding_as c.in_ok-verdict.verdict c.finding_of.result (ap (λ v. v.items) c.in_ok-give_all.ensures.same.0)
+    c.in_ok-give_all.ensures.same.3 c.in_ok-give_all.ensures.same.2 c.finding_of.ensures)

@@ -1,7 +1,8 @@
 use Rattle.std.proofs.Common.{[], ◌∷◌, ◌++◌, ◌∙◌, refl, sym, subst}
 use Rattle.stamp_watch.specs.declared.late_verdict.LateVerdict.{LateVerdict}
 use Rattle.stamp_watch.specs.Late.{IsLateFound}
-use Rattle.stamp_watch.specs.LateJudge.{KeepsEndLate}
+use Rattle.stamp_watch.specs.LateJudge.{EndsInRunLate, KeepsEndLate}
+use Rattle.stamp_watch.proofs.EndedLate.{broken_in_run, more_in_run}
 use Rattle.stamp_watch.proofs.JudgingLate.{broken_told, few_wait, has_found, late_broken, late_way, ready_now}
 use Rattle.stamp_watch.proofs.PossibleLate.{keeps_beside}
 use Rattle.stamp_watch.proofs.late.LateJudge.break_off.Goals as goal
@@ -29,7 +30,12 @@ returns-clause-given c limits most ahead run is = has_found limits most ahead (r
     (keeps_beside limits run c.rest.new.self c.args.event.now (c.in_ok-rest.ensures.keeps limits most ahead run
     (late_way limits most ahead run c.args.self.now is c.requires.none).delayed))
     (subst (KeepsEndLate c.rest.new.self) (sym c.broken_off-finding.ensures)
-    (broken_told c.rest.new.self c.in_ok-rest.rest c.count-number.result c.in_ok-rest.ensures.tells)) refl
+    (broken_told c.rest.new.self c.in_ok-rest.rest c.count-number.result c.in_ok-rest.ensures.tells))
+    (subst (EndsInRunLate (run ++ c.args.event.now ∷ []) c.rest.new.self) (sym c.broken_off-finding.ensures)
+    (broken_in_run (run ++ c.args.event.now ∷ []) c.rest.new.self c.in_ok-rest.rest c.count-number.result
+    (more_in_run run (c.args.event.now ∷ []) c.rest.new.self c.in_ok-rest.rest
+    (c.in_ok-rest.ensures.there limits most ahead run
+    (late_way limits most ahead run c.args.self.now is c.requires.none).delayed)))) refl
     (returns-clause-found c limits most ahead run is)
 
 pub returns-clause-known : goal.returns-clause-known

@@ -1,5 +1,6 @@
 use Rattle.std.proofs.lemmas.Result.{IfOk-weaker}
 use Rattle.stamp_watch.proofs.JudgingLate.{few_wait, finding_now, late_found_of, late_rest_now, late_way, tells_of}
+use Rattle.stamp_watch.proofs.JudgingLate.{there_of}
 use Rattle.stamp_watch.proofs.late.LateJudge.finish.Goals as goal
 
 pub returns-in-Some-clause-verdict : goal.returns-in-Some-clause-verdict
@@ -12,6 +13,15 @@ returns-in-Some-clause-keeps c limits most ahead run is = is.keeps
 pub returns-in-Some-clause-tells : goal.returns-in-Some-clause-tells
 returns-in-Some-clause-tells c = let some = c.requires in
     tells_of some.limits some.most some.ahead some.run c.args.self.now some.judge_of c.in-Some.finding c.in-Some.is
+
+pub returns-in-Some-clause-there : goal.returns-in-Some-clause-there
+returns-in-Some-clause-there c limits most ahead run is =
+    there_of limits most ahead run c.args.self.now is c.in-Some.finding c.in-Some.is
+
+pub returns-in-None-clause-there : goal.returns-in-None-clause-there
+returns-in-None-clause-there c = IfOk-weaker c.rest.result _ _ (λ f there limits most ahead run is.
+    there limits most ahead run (late_way limits most ahead run c.args.self.now is c.in-None.is).delayed)
+    c.rest.ensures.there
 
 pub returns-in-None-clause-verdict : goal.returns-in-None-clause-verdict
 returns-in-None-clause-verdict c = IfOk-weaker c.rest.result _ _ (λ f rest limits most ahead run is.

@@ -55,6 +55,11 @@ returns-clause-given c limits most ahead run is = late_finds limits most ahead r
     (c.in_ok-found.ensures.delayed limits most ahead run
     (late_way limits most ahead run c.args.self.now is c.requires.none).delayed
     (whole_then limits most ahead run c.args.self.now is c.requires.none c.args.event.now c.args.busy c.requires.may
+    c.requires.busy)))
+    (c.finding-finding.ensures.there limits most ahead (run ++ c.args.event.now ∷ [])
+    (c.in_ok-found.ensures.delayed limits most ahead run
+    (late_way limits most ahead run c.args.self.now is c.requires.none).delayed
+    (whole_then limits most ahead run c.args.self.now is c.requires.none c.args.event.now c.args.busy c.requires.may
     c.requires.busy))) refl (returns-clause-found c limits most ahead run is)
 
 pub returns-clause-known : goal.returns-clause-known

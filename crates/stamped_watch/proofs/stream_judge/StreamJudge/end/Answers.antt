@@ -4,9 +4,10 @@ use Rattle.std.proofs.lemmas.Bool.Decides.{nat_tests}
 use Rattle.std.proofs.lemmas.List.{nil_from_length}
 use Rattle.std.proofs.lemmas.Result.{IfOk-weaker}
 use Rattle.stamped_watch.specs.declared.finding.Finding.{Finding}
+use Rattle.stamped_watch.specs.declared.finding.Finding.TheVariants as found
 use Rattle.stamped_watch.specs.StreamJudge.{KeepsCall}
 use Rattle.stamped_watch.proofs.Ending.{cut_at_end, found_at_end, way_of_judge, whole_at_end}
-use Rattle.stamped_watch.proofs.Taking.{keeps_ended, keeps_fed}
+use Rattle.stamped_watch.proofs.Taking.{keeps_ended, keeps_fed, there_ended, there_fed}
 use Rattle.stamped_watch.proofs.stream_judge.StreamJudge.end.Goals as goal
 
 pub returns-in-Some-clause-found : goal.returns-in-Some-clause-found
@@ -54,3 +55,22 @@ returns-then-not-is_empty-clause-tells c =
 pub returns-clause-tells : goal.returns-clause-tells
 returns-clause-tells c =
     IfOk-weaker c.found_unless-2.result _ _ (λ finding keeps. keeps tt) c.found_unless-2.ensures.tells
+
+pub returns-in-Some-clause-there : goal.returns-in-Some-clause-there
+returns-in-Some-clause-there c most ahead fed is =
+    there_fed most ahead fed c.args.self.now is c.in-Some.finding c.in-Some.is
+
+pub returns-in_default-judge-clause-there : goal.returns-in_default-judge-clause-there
+returns-in_default-judge-clause-there c most ahead fed is k same x kept = absurd (cc)
+
+pub returns-then-not-is_empty-clause-there : goal.returns-then-not-is_empty-clause-there
+returns-then-not-is_empty-clause-there c = IfOk-weaker c.found_unless.result _ _ (λ finding there most ahead fed is.
+    there_ended most ahead fed c.args.self.now is c.in_default.is c.in-Some-judge.judge c.found_unless.new.judge
+    c.in-Some-judge.is (found.Cut c.count-number.result) finding (λ k same. absurd (cc)) there)
+    c.found_unless.ensures.there
+
+pub returns-clause-there : goal.returns-clause-there
+returns-clause-there c = IfOk-weaker c.found_unless-2.result _ _ (λ finding there most ahead fed is.
+    there_ended most ahead fed c.args.self.now is c.in_default.is c.in-Some-judge.judge c.found_unless-2.new.judge
+    c.in-Some-judge.is (found.Explained c.saturating_sub-calls.result) finding (λ k same. absurd (cc)) there)
+    c.found_unless-2.ensures.there

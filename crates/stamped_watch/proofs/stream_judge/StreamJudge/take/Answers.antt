@@ -27,7 +27,7 @@ returns-else-is_none-clause-taken c most ahead taken has =
     found_taken most ahead taken c.args.bytes.now c.args.self.now has c.requires.none c.in-Some.judge c.in-Some.is
     c.in-Ok.event c.given.new.judge c.in_ok-self-in-Ok.field-0 c.in-Ok.ensures.event c.in_ok-self-in-Ok.ensures.found
     c.in_ok-self-in-Ok.ensures.kept
-    c.if-is_none.ensures c.in_ok-self-in-Ok.ensures.tells
+    c.if-is_none.ensures c.in_ok-self-in-Ok.ensures.tells c.in_ok-self-in-Ok.ensures.there
 
 pub returns-in_ok-found_unless-in-Err-clause-taken : goal.returns-in_ok-found_unless-in-Err-clause-taken
 returns-in_ok-found_unless-in-Err-clause-taken c most ahead taken has =
@@ -35,3 +35,4 @@ returns-in_ok-found_unless-in-Err-clause-taken c most ahead taken has =
     c.count-in-Err.result c.in-Err.fault c.in_ok-found_unless-in-Err.field-0 c.found_unless.new.judge c.told-bytes
     c.in-Err.ensures.fault c.count-in-Err.ensures c.in_ok-found_unless-in-Err.ensures.found
     c.in_ok-found_unless-in-Err.ensures.kept (c.in_ok-found_unless-in-Err.ensures.tells tt)
+    c.in_ok-found_unless-in-Err.ensures.there
