@@ -1,5 +1,5 @@
 -- Lines that are told, one after the other.
-use Rattle.std.proofs.Common.{ℕ, ◌≡◌, ◌+◌, ◌<◌, ◌≤◌, Bool, true, false, List, [], ◌++◌, length, Option, Some}
+use Rattle.std.proofs.Common.{ℕ, ◌≡◌, ◌+◌, ◌<◌, ◌≤◌, Bool, true, false, List, [], ◌∷◌, ◌++◌, length, Option, Some}
 use Rattle.std.proofs.Common.{None, Result, Ok, Err, refl, sym, ◌∙◌, ap, subst, arith, append-nil, append_assoc}
 use Rattle.std.specs.Prelude.{◌-◌, drop, is_err, is_ok, is_some, not, IfOk, IsErrAnd, OnErr, OnOk, take, ◌||◌}
 use Rattle.std.specs.List.{list_any}
@@ -7,10 +7,11 @@ use Rattle.std.specs.Io.KnownBytes.{Appends, Consumes}
 use Rattle.std.specs.declared.alloc.AllocError.{AllocError}
 use Rattle.std.proofs.KnownBytes.{Appends-nil, Appends-trans, Consumes-nil}
 use Rattle.std.proofs.lemmas.Bool.{false≢true}
-use Rattle.std.proofs.lemmas.List.{length-append, take-append-le}
+use Rattle.std.proofs.lemmas.List.{length-append, take-append-le, take-take}
+use Rattle.std.proofs.lemmas.List.Elements.{All-append, All-cons, All-nil, All-take}
 use Rattle.std.proofs.lemmas.List.Folds.{list_any-append}
 use Rattle.std.proofs.Math.Seq.{drop-append_seam, take-append-add}
-use Rattle.stamp_cli.specs.Results.{MakesAtMost, Results, any_since, taken_since}
+use Rattle.stamp_cli.specs.Results.{EachTakes, MakesAtMost, Results, any_since, taken_since}
 use Rattle.stamp_cli.specs.Sink.{AppendsFront}
 use Rattle.stamp_cli.specs.TakesNone.{takes_none}
 use Rattle.stamp_cli.specs.declared.faults.ServeFault.{ServeFault}
@@ -44,7 +45,28 @@ nothing_written sent old = record {
   added = sym (append-nil old);
   whole = λ none. Appends-nil sent;
   front = λ some. absurd (false≢true some);
+  to_end = All-nil (λ result. takes_none result ≡ false);
 }
+
+pub each_takes : (results : Results) → list_any takes_none results ≡ false → EachTakes results
+each_takes [] none = All-nil (λ result. takes_none result ≡ false)
+each_takes (r ∷ results) none = by (takes_none r) refl none (each_takes results)
+  where
+    by : (b : Bool) → takes_none r ≡ b → (b || list_any takes_none results) ≡ false →
+        (list_any takes_none results ≡ false → EachTakes results) → EachTakes (r ∷ results)
+    by true is none again = absurd (false≢true (sym none))
+    by false is rest again = All-cons (λ result. takes_none result ≡ false) r results is (again rest)
+
+-- none is made after one that took no byte, behind some that each took one
+pub to_end_behind : (before made : Results) → EachTakes before → EachTakes (take (length made - 1) made) →
+    EachTakes (take (length (before ++ made) - 1) (before ++ made))
+to_end_behind before made each to_end = subst EachTakes
+    (take-take (length (before ++ made) - 1) (length before + (length made - 1)) (before ++ made)
+    (let long = length-append before made in omega (arith, long)))
+    (All-take (λ result. takes_none result ≡ false) (length (before ++ made) - 1)
+    (take (length before + (length made - 1)) (before ++ made))
+    (subst EachTakes (sym (take-append-add before made (length made - 1)))
+    (All-append (λ result. takes_none result ≡ false) before (take (length made - 1) made) each to_end)))
 
 -- a front of a text is one of a longer text
 pub front_longer : (sent sent' : Option (List ℕ)) (text line : List ℕ) → AppendsFront sent sent' text →
@@ -88,6 +110,7 @@ module _ (text line : List ℕ) (sent mid sent' : Option (List ℕ)) (old before
           (so.written.whole (sym both ∙ none));
       front = λ some. front_behind sent mid sent' text line (so_far.whole none_yet)
           (so.written.front (sym both ∙ some));
+      to_end = to_end_behind so_far.made so.written.made (each_takes so_far.made none_yet) so.written.to_end;
     }
 
     pub both_so : list_any takes_none (so_far.made ++ so.written.made) ≡ not is
@@ -101,6 +124,7 @@ module _ (text line : List ℕ) (sent mid sent' : Option (List ℕ)) (old before
       whole = λ none. absurd (false≢true (sym none ∙ is_so ∙ ap not part));
       front = λ some. front_longer sent sent' text line
           (subst (λ (s : Option (List ℕ)). AppendsFront sent s text) (sym isnt.sent_is) (so_far.front some));
+      to_end = so_far.to_end;
     }
 
     pub front_so : list_any takes_none so_far.made ≡ not is
@@ -117,6 +141,7 @@ line_written line sent sent' old new result most bytes is ok failed makes any wh
     added = makes.added;
     whole = λ none. of_ok result ok (sym told ∙ none);
     front = λ some. of_err result failed (sym told ∙ some);
+    to_end = makes.to_end;
   };
   told = told ∙ sym whole;
 }

@@ -1,10 +1,10 @@
 -- The lines that tell how far a stream is judged.
 use Rattle.std.specs.Prelude.{ℕ, ◌≡◌, ◌+◌, ◌*◌, ◌<◌, ◌≤◌, ◌++◌, Bool, true, false, List, [], length, take, codes}
-use Rattle.std.specs.Prelude.{decimal, not, Option, Some, None, Result, Ok, IfOk}
+use Rattle.std.specs.Prelude.{◌-◌, decimal, not, Option, Some, None, Result, Ok, IfOk}
 use Rattle.std.specs.declared.alloc.AllocError.{AllocError}
 use Rattle.std.specs.Io.KnownBytes.{Appends, Consumes}
 use Rattle.std.specs.List.{list_any}
-use Rattle.stamp_cli.specs.Results.{Results, taken_since}
+use Rattle.stamp_cli.specs.Results.{EachTakes, Results, taken_since}
 use Rattle.stamp_cli.specs.Sink.{AppendsFront}
 use Rattle.stamp_cli.specs.TakesNone.{takes_none}
 use Rattle.stamp_cli.specs.declared.faults.ServeFault.{ServeFault}
@@ -53,12 +53,14 @@ pub data AreLines (ahead : ℕ) (bytes : List ℕ) : ℕ → List ℕ → Type 0
   one_more : {n : ℕ} {text line : List ℕ} → AreLines ahead bytes n text → mark (n + 1) ≤ length bytes →
       IsLineOf ahead (take (mark (n + 1)) bytes) line → AreLines ahead bytes (n + 1) (text ++ line)
 
--- the text was written where each write took a byte, and else a front of it, and not all
+-- the text was written where each write took a byte, and else a front of it, and not all; no write was made after one
+-- that took none
 pub record IsWritten (text : List ℕ) (sent sent' : Option (List ℕ)) (old new : Results) : Type 0 where
   pub made : Results
   pub added : new ≡ old ++ made
   pub whole : list_any takes_none made ≡ false → Appends sent sent' text
   pub front : list_any takes_none made ≡ true → AppendsFront sent sent' text
+  pub to_end : EachTakes (take (length made - 1) made)
 
 -- the lines of so many marks were written, if they are asked for; and else no write was made
 pub record Tells (asked : Watching) (bytes : List ℕ) (sent sent' : Option (List ℕ)) (old new : Results) : Type 0 where
