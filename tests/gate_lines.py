@@ -2,9 +2,9 @@
 
     rt ci 2>&1 | gate_lines.py FOLDER PROGRAM..
 
-Run at the top of the repository. Once all crates of crates.txt are proved, their libraries are in FOLDER/libraries, and
-a line is written to the pipe FOLDER/proved; once each PROGRAM is proved, and so linked, one to the pipe FOLDER/built.
-What an earlier run proved is there at once.
+Run at the top of the repository. Once a crate is proved, its library is in FOLDER/libraries, and its name is written to
+the pipe FOLDER/proved; once each PROGRAM is proved, and so linked, a line to the pipe FOLDER/built. What an earlier run
+proved is there at once.
 
 A library is taken when its crate is proved, and not at the end: `rt ci` moves what stood in crates/*/out aside when it
 begins, and gives that back over its own when it ends, also what other commands had built there of other texts.
@@ -39,9 +39,9 @@ def take_library(name, folder):
             shutil.rmtree(f"{folder}/{name}", ignore_errors=True)
 
 
-def say_to(pipe):
+def say_to(pipe, what):
     with open(pipe, "w") as file:
-        file.write("there\n")
+        file.write(f"{what}\n")
 
 
 class Gate:
@@ -74,10 +74,9 @@ class Gate:
     def hand_on(self, name):
         """Takes the library of this crate, which is proved, and says what is there since."""
         take_library(name, f"{self.folder}/libraries")
+        say_to(f"{self.folder}/proved", name)
         if self.programs <= self.proved and name in self.programs:
-            say_to(f"{self.folder}/built")
-        if len(self.proved) == len(self.names):
-            say_to(f"{self.folder}/proved")
+            say_to(f"{self.folder}/built", "there")
 
     def wait(self):
         self.tell(f"at work: {len(self.proved)} of {len(self.names)} crates proved")

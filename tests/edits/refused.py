@@ -1,6 +1,7 @@
 """Tries wrong bodies, many over one load of the libraries: the prover must refuse each.
 
-    refused.py [--libraries FOLDER] [--proved] [--count FILE] [--all] [CRATE | CRATE/NAME.edit | CRATE/more/NAME.edit ..]
+    refused.py [--libraries FOLDER] [--proved | --gate PIPE] [--count FILE] [--all]
+        [CRATE | CRATE/NAME.edit | CRATE/more/NAME.edit ..]
 
 Without --all, or an edit's own name, those of the folders `more` are left out: `./test` tries one for each public
 function that a wrong body can be made of, but for most of those that only hand a call on, and those of the faults that
@@ -19,7 +20,8 @@ Before that, the same functions are tried without an edit, in the same form, and
 isn't proved then, for its own sake, fails the crate. With --proved that is left out, for crates that a gate has just
 proved as they are: of all that a proof may name, a copy lacks no more than the contracts' proofs of other functions, and
 an edit whose proof lacks a name shows nothing. Another function that isn't proved for its own sake beside an edit fails
-the crate, too.
+the crate, too. With --gate it is left out, too, and a crate is begun with once a gate has proved it, which says so by a
+line with the crate's name in PIPE. Until that has proved all crates, half of the processors are used.
 
 An edit is refused if the prover doesn't prove the edited function for its own sake, and names a goal of its contract,
 or a fault in the function's proof by hand. One that is tried alone is refused if one of its functions isn't proved so.
@@ -40,6 +42,7 @@ import shutil
 import subprocess
 import sys
 import tempfile
+import threading
 import time
 
 FOLDER = os.path.dirname(os.path.abspath(__file__))
@@ -88,11 +91,34 @@ def listed():
     return {line[0].split()[0]: line[1].split() for line in lines}
 
 
+class Gate:
+    """Which crates are proved, and how many provers may run beside what proves the others."""
+
+    def __init__(self, names, pipe):
+        cores = len(os.sched_getaffinity(0))
+        beside = cores if pipe is None else max(1, cores // 2)
+        self.proved, self.free = {name: threading.Event() for name in names}, threading.Semaphore(beside)
+        if pipe is None:
+            for event in self.proved.values():
+                event.set()
+        else:
+            threading.Thread(target=self.follow, args=(pipe, cores - beside), daemon=True).start()
+
+    def follow(self, pipe, more):
+        """Takes the names of those that are proved, and more processors after the last one."""
+        with open(pipe) as names:
+            for name in names:
+                self.proved[name.strip()].set()
+                if all(event.is_set() for event in self.proved.values()):
+                    break
+        self.free.release(more)
+
+
 class Crate:
     """A crate, and how the prover is called on it."""
 
-    def __init__(self, name, uses, built):
-        self.name, self.folder = name, f"{TOP}/crates/{name}"
+    def __init__(self, name, uses, built, gate):
+        self.name, self.folder, self.gate = name, f"{TOP}/crates/{name}", gate
         place = lambda it: f"{built}/{it}" if built else f"{TOP}/crates/{it}/out/rlib"
         kit = os.path.dirname(subprocess.run(["rt", "doc"], capture_output=True, text=True, check=True).stdout.strip())
         rlibs = f"{kit}/rlibs"
@@ -102,7 +128,7 @@ class Crate:
         libraries = [f"std={rlibs}/std.rlib"]
         for it in uses[name]:
             libraries.append(f"{it}={place(it)}/{it}.rlib" if it in uses else f"{it}={rlibs}/{it}.rlib")
-        self.missing = [it for it in sorted(below) if not os.path.isdir(f"{place(it)}/{it}.rlib")]
+        self.below = {it: f"{place(it)}/{it}.rlib" for it in sorted(below)}
         folders = [rlibs, *sorted(place(it) for it in below)]
         root = "src/main.rt" if os.path.isfile(f"{self.folder}/src/main.rt") else "src/lib.rt"
         self.words = [f"{kit}/bin/rattle", "check", "--crate-name", name, root, "--links", f"{name}=", "--jobs", "1"]
@@ -139,8 +165,8 @@ class Crate:
     def check(self, room, kept, edits, functions, is_bare=False):
         """What the prover says of these functions, with the edits, over what was kept; if it is bare, with the contracts
         of all others alone, and else with the bodies and proofs of those that they call."""
-        if self.missing:
-            raise Unusable(f"{self.missing[0]} isn't built")
+        if missing := [it for it, library in self.below.items() if not os.path.isdir(library)]:
+            raise Unusable(f"{missing[0]} isn't built")
         with tempfile.TemporaryDirectory(dir=room) as copy:
             for part in PARTS:
                 if os.path.isdir(f"{self.folder}/{part}"):
@@ -153,9 +179,10 @@ class Crate:
             if is_bare:
                 self.take_others(copy, functions)
             only = [word for function in sorted(functions) for word in ("--only", function)]
-            ran = subprocess.run(
-                [*self.words, "--incremental", kept, *only], cwd=copy, stdin=subprocess.DEVNULL,
-                stdout=subprocess.PIPE, stderr=subprocess.STDOUT, text=True, errors="replace")
+            with self.gate.free:
+                ran = subprocess.run(
+                    [*self.words, "--incremental", kept, *only], cwd=copy, stdin=subprocess.DEVNULL,
+                    stdout=subprocess.PIPE, stderr=subprocess.STDOUT, text=True, errors="replace")
             noted = [f"noted {named_at(copy, file, int(line))}: {goal}" for file, line, goal in NOTED.findall(ran.stdout)]
         if found := UNUSABLE.search(ran.stdout):
             raise Unusable(found[0])
@@ -483,6 +510,7 @@ def try_whole(kept, crate, several, alone):
 
 def lines_of(pool, crate, names, options, kept):
     """What came of these edits of the crate. What is wrong with one is told by each round, and said once."""
+    crate.gate.proved[crate.name].wait()
     begun, lines, faults = time.monotonic(), {}, set()
 
     def gather(*tasks):
@@ -497,7 +525,7 @@ def lines_of(pool, crate, names, options, kept):
         edits = [Edit(crate, name) for name in names]
     except Failed as fault:
         return [(crate.name, f"FAILED: {fault}")]
-    if not options.proved:
+    if not (options.proved or options.gate):
         gather(pool.submit(begin, crate, edits, kept))
     if faults:
         return [*faults]
@@ -515,11 +543,13 @@ def lines_of(pool, crate, names, options, kept):
 
 
 def options_of(words):
-    """What the words ask for: where the libraries are, where the count goes, what needn't be tried, and what is."""
+    """What the words ask for: where the libraries are, where the count goes, what is proved or will be, and what is
+    tried."""
     parser = argparse.ArgumentParser()
     parser.add_argument("--libraries")
     parser.add_argument("--count")
     parser.add_argument("--proved", action="store_true")
+    parser.add_argument("--gate")
     parser.add_argument("--all", action="store_true")
     parser.add_argument("names", nargs="*")
     return parser.parse_args(words)
@@ -565,7 +595,8 @@ def main():
         wanted = wanted_by(options)
         if not wanted:
             raise Failed("there is no edit")
-        refused, failed = try_all({name: Crate(name, uses, options.libraries) for name in wanted}, wanted, options)
+        gate = Gate(uses, options.gate)
+        refused, failed = try_all({name: Crate(name, uses, options.libraries, gate) for name in wanted}, wanted, options)
     except Failed as fault:
         print(f"FAILED: {fault}")
         refused, failed = 0, 1

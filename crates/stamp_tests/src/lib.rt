@@ -17,15 +17,9 @@ mod history_reading_tests;
 #[cfg(test)]
 mod history_tests;
 #[cfg(test)]
-mod judge_tests;
-#[cfg(test)]
-mod late_tests;
-#[cfg(test)]
 mod machine_tests;
 #[cfg(test)]
 mod migration_tests;
-#[cfg(test)]
-mod online_tests;
 #[cfg(test)]
 mod plain_lock;
 #[cfg(test)]
@@ -40,7 +34,5 @@ mod script_tests;
 mod serve_tests;
 #[cfg(test)]
 mod text_tests;
-#[cfg(test)]
-mod watch_tests;
 #[cfg(test)]
 mod writing_tests;

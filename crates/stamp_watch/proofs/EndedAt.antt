@@ -10,7 +10,7 @@ use Rattle.std.proofs.lemmas.List.{drop-append-le, drop-take, length-append, len
 use Rattle.std.proofs.lemmas.List.{take-append-drop}
 use Rattle.std.proofs.lemmas.List.Elements.{All-cons, All-nil}
 use Rattle.std.proofs.lemmas.List.Sums.{fold-append}
-use Rattle.std.proofs.lemmas.Option.{get_or_from_slice_get, none-some, same_Some, slice_get_within}
+use Rattle.std.proofs.lemmas.Option.{IfSome_then, get_or_from_slice_get, none-some, same_Some, slice_get_within}
 use Rattle.std.proofs.Math.Seq.{drop-append_seam, take-append-add}
 use Rattle.stamp_core.specs.Limits.{Bounds}
 use Rattle.stamp_core.specs.declared.call.Call.{Call}
@@ -176,11 +176,6 @@ module _ (past items : List Event) (whole : AreOfLock (past ++ items)) (at : ℕ
       (λ (call : EndedCall). IsEndedAt (past ++ items) (length past + at) call)
   kept_event = by_event (slice_get items at) refl
 
-match_so : {A : Type 0} (P Q : A → Type 0) (o : Option A) → ((x : A) → P x → Q x) → MatchOption o ⊤ P →
-    MatchOption o ⊤ Q
-match_so P Q None goes is = tt
-match_so P Q (Some x) goes is = goes x is
-
 -- so it is when more comes
 pub ended_more : (xs ys : List Event) (k : ℕ) (call : EndedCall) → IsEndedAt xs k call → IsEndedAt (xs ++ ys) k call
 ended_more xs ys k call is = record {
@@ -245,14 +240,12 @@ kept_ended limits run course number is = by (nat_le course.first number) refl
         MatchOption (if b then ended_at course.events.items (number - course.first) else None) ⊤
         (λ (call : EndedCall). IsEndedAt run number call)
     by false below = tt
-    by true behind = match_so (λ (call : EndedCall). IsEndedAt (is.past ++ course.events.items)
-        (length is.past + (number - course.first)) call) (λ (call : EndedCall). IsEndedAt run number call)
-        (ended_at course.events.items (number - course.first))
+    by true behind = IfSome_then (ended_at course.events.items (number - course.first))
+        (kept_event is.past course.events.items is.whole (number - course.first))
         (λ call ended. subst (λ (n : ℕ). IsEndedAt run n call) here
         (subst (λ (xs : List Event). IsEndedAt xs (length is.past + (number - course.first)) call)
         (append_assoc is.past course.events.items is.more ∙ sym is.run_is)
         (ended_more (is.past ++ course.events.items) is.more (length is.past + (number - course.first)) call ended)))
-        (kept_event is.past course.events.items is.whole (number - course.first))
       where
         here : length is.past + (number - course.first) ≡ number
         here = let place : course.first ≡ length is.past = is.place in
@@ -271,8 +264,7 @@ pub later_ended : (limits : Bounds) (run : List Event) (delay : Delay) (number :
     MatchOption delay.first_late ⊤ (λ (first : ℕ). number < first) →
     IfSome (ended_from delay.judge.course.first delay.judge.course.events.items number)
     (λ (call : EndedCall). IsEndedAt run number call)
-later_ended limits run delay number is before = match_so (λ (call : EndedCall). IsEndedAt is.given number call)
-    (λ (call : EndedCall). IsEndedAt run number call)
-    (ended_from delay.judge.course.first delay.judge.course.events.items number)
-    (λ call ended. same_ended run is.given delay.first_late number call is.same before ended)
+later_ended limits run delay number is before =
+    IfSome_then (ended_from delay.judge.course.first delay.judge.course.events.items number)
     (kept_ended limits is.given delay.judge.course number is.keeps)
+    (λ call ended. same_ended run is.given delay.first_late number call is.same before ended)

@@ -1,7 +1,6 @@
 -- A judge that is given one event more.
 use Rattle.std.proofs.Common.{ℕ, ◌≡◌, ◌+◌, ◌*◌, ◌^◌, ◌<◌, ◌≤◌, List, [], ◌∷◌, ◌++◌, length, Option, Some, None, sym}
-use Rattle.std.proofs.Common.{◌∙◌}
-use Rattle.std.proofs.Common.{ap, subst, arith}
+use Rattle.std.proofs.Common.{◌∙◌, ap, subst, arith}
 use Rattle.std.specs.Prelude.{⊤, MatchOption}
 use Rattle.std.proofs.lemmas.List.{drop_all, length-append}
 use Rattle.stamp_core.specs.Limits.{Bounds}
@@ -200,4 +199,16 @@ one_longer_room old then_course space longer = record {
       let more : length then_course.events.items ≡ length old.course.events.items + 1 = longer.longer in
       let room : old.course.first + length old.course.events.items + 1 < 2 ^ 64 = space.room in
       omega (arith, first, more, room);
+}
+
+-- a judge of some run, then, is one of that run and the event
+pub known_then : (old new : Judge) (e : Event) → IsJudgeOfSome old →
+    ((limits : Bounds) (most ahead : ℕ) (run : List Event) → IsJudge limits most ahead run old →
+    IsJudge limits most ahead (run ++ e ∷ []) new) → IsJudgeOfSome new
+known_then old new e some goes = record {
+  limits = some.limits;
+  most = some.most;
+  ahead = some.ahead;
+  run = some.run ++ e ∷ [];
+  judge_of = goes some.limits some.most some.ahead some.run some.judge_of;
 }

@@ -14,7 +14,7 @@ use Rattle.stamp_watch.specs.Course.{KeepsEndOf}
 use Rattle.stamp_watch.specs.Delay.{IsDelayed, IsSmallDelay}
 use Rattle.stamp_watch.specs.Judging.{AreBusyLanes}
 use Rattle.stamp_watch.specs.Late.{IsLate, IsLateVerdict, IsLateFound}
-use Rattle.stamp_watch.specs.LateJudge.{EndsInRunLate, IsLateJudge, IsLateUnderWay, KeepsEndLate}
+use Rattle.stamp_watch.specs.LateJudge.{EndsInRunLate, IsLateJudge, IsLateJudgeOfSome, IsLateUnderWay, KeepsEndLate}
 use Rattle.stamp_watch.specs.PossibleLate.{KeepsLater}
 use Rattle.stamp_watch.specs.Verdict.{AreOfLock}
 use Rattle.stamp_watch.specs.inner.Delay.{IsFindingOf, IsLateRest, IsReady, IsReadyFor}
@@ -208,3 +208,15 @@ pub broken_told : (delay : Delay) (f : LateVerdict) (place : ℕ) → KeepsEndLa
     KeepsEndLate delay (broken_off_there f place)
 broken_told delay (finding.Is v) place tells = keeps_broken delay.judge.course v place tells
 broken_told delay (finding.Late k) place tells = tt
+
+-- a judge of some run, given one event more, is one of that run and the event
+pub late_known_then : (old new : LateJudge) (e : Event) → IsLateJudgeOfSome old →
+    ((limits : Bounds) (most ahead : ℕ) (run : List Event) → IsLateJudge limits most ahead run old →
+    IsLateJudge limits most ahead (run ++ e ∷ []) new) → IsLateJudgeOfSome new
+late_known_then old new e some goes = record {
+  limits = some.limits;
+  most = some.most;
+  ahead = some.ahead;
+  run = some.run ++ e ∷ [];
+  judge_of = goes some.limits some.most some.ahead some.run some.judge_of;
+}

@@ -16,47 +16,67 @@ use Rattle.stamp_cli.specs.declared.faults.ServeFault.TheVariants.{Memory, ReadF
 use Rattle.stamp_cli.proofs.MadeSoFar.{all_taken, fails_of_none, last_tells, none_passes, taken_with_last}
 use Rattle.stamped_watch.specs.declared.finding.Finding.{Finding}
 use Rattle.stamped_watch.specs.declared.orders.Watching.{Watching}
+use Rattle.stamped_watch.specs.declared.stream_judge.StreamJudge.{StreamJudge}
 use Rattle.stamped_watch.specs.Finding.{IsFindingOf, IsFoundOf, IsSoFar}
 use Rattle.stamped_watch.specs.Served.{HasReadOn, IsFoundOfSource, IsReadInNeed}
+use Rattle.stamped_watch.specs.inner.Served.{IsFedSoFar}
 
-module _ (left mid left' : Option (List ℕ)) (old before new : Results) (bytes more : List ℕ) (one : Result ℕ Error)
-    (so_far : Makes old before (length bytes)) (took : Consumes left mid bytes) (added : new ≡ before ++ one ∷ [])
-    (takes : Consumes mid left' more) (many : length more ≡ bytes_of one) where
+-- one read more, of these bytes, behind reads that each took some
+pub record ReadsOnceMore (left mid left' : Option (List ℕ)) (old before new : Results) (bytes more : List ℕ)
+    (one : Result ℕ Error) : Type 0 where
+  pub so_far : Makes old before (length bytes)
+  pub took : Consumes left mid bytes
+  pub added : new ≡ before ++ one ∷ []
+  pub takes : Consumes mid left' more
+  pub many : length more ≡ bytes_of one
+
+-- the judge was fed what came before
+pub reads_once : {left mid left' : Option (List ℕ)} {old before new : Results} {more : List ℕ} {one : Result ℕ Error}
+    {asked : Watching} {judge : StreamJudge} {chunk : List ℕ} (is : IsFedSoFar asked left mid old before judge chunk) →
+    new ≡ before ++ one ∷ [] → Consumes mid left' more → length more ≡ bytes_of one →
+    ReadsOnceMore left mid left' old before new is.bytes more one
+reads_once is added takes many =
+    record { so_far = is.reads; took = is.took; added = added; takes = takes; many = many }
+
+module _ {left mid left' : Option (List ℕ)} {old before new : Results} {bytes more : List ℕ} {one : Result ℕ Error}
+    (is : ReadsOnceMore left mid left' old before new bytes more one) where
   pub all_took : Consumes left left' (bytes ++ more)
-  all_took = Consumes-trans left mid left' bytes more took takes
+  all_took = Consumes-trans left mid left' bytes more is.took is.takes
 
   pub all_counted : length (bytes ++ more) ≡ taken_since old new
   all_counted = let long = length-append bytes more in
-      let taken = taken_with_last old before new (length bytes) one so_far added in omega (arith, long, taken, many)
+      let taken = taken_with_last old before new (length bytes) one is.so_far is.added in
+      let many : length more ≡ bytes_of one = is.many in omega (arith, long, taken, many)
 
   -- however it goes on
   pub has_read_on : {A E : Type 0} (fault : E) (result : Result A E) →
       ((result ≡ Err fault) ↔ (is_err one ≡ true)) → HasReadOn fault left left' old new result
   has_read_on fault result fails = record {
-    made = so_far.made ++ one ∷ [];
-    added = added ∙ ap (λ (rs : Results). rs ++ one ∷ []) so_far.added ∙ append_assoc old so_far.made (one ∷ []);
-    to_end = subst EachTakes (sym front) so_far.each;
+    made = is.so_far.made ++ one ∷ [];
+    added = is.added ∙ ap (λ (rs : Results). rs ++ one ∷ []) is.so_far.added ∙
+        append_assoc old is.so_far.made (one ∷ []);
+    to_end = subst EachTakes (sym front) is.so_far.each;
     bytes = bytes ++ more;
     took = all_took;
     count = all_counted;
-    failed = rw (last_tells is_err old before new (length bytes) one fails_of_none so_far added) fails;
+    failed = rw (last_tells is_err old before new (length bytes) one fails_of_none is.so_far is.added) fails;
   }
     where
-      low : length (so_far.made ++ one ∷ []) - 1 ≡ length so_far.made
-      low = let long = length-append so_far.made (one ∷ []) in omega (arith, long)
+      low : length (is.so_far.made ++ one ∷ []) - 1 ≡ length is.so_far.made
+      low = let long = length-append is.so_far.made (one ∷ []) in omega (arith, long)
 
-      front : take (length (so_far.made ++ one ∷ []) - 1) (so_far.made ++ one ∷ []) ≡ so_far.made
-      front = ap (λ (n : ℕ). take n (so_far.made ++ one ∷ [])) low ∙ take-append_seam so_far.made (one ∷ [])
+      front : take (length (is.so_far.made ++ one ∷ []) - 1) (is.so_far.made ++ one ∷ []) ≡ is.so_far.made
+      front = ap (λ (n : ℕ). take n (is.so_far.made ++ one ∷ [])) low ∙ take-append_seam is.so_far.made (one ∷ [])
 
   in_need : (asked : Watching) → IsSoFar asked.most asked.ahead bytes None → IsReadInNeed asked old new (bytes ++ more)
   in_need asked going = record {
     earlier = before;
     last = one;
-    reads_are = added;
+    reads_are = is.added;
     before = bytes;
     after = more;
     bytes_are = refl;
-    count = sym (all_taken old before (length bytes) so_far);
+    count = sym (all_taken old before (length bytes) is.so_far);
     so_far = going;
   }
 
@@ -80,12 +100,12 @@ module _ (left mid left' : Option (List ℕ)) (old before new : Results) (bytes 
     took = all_took;
     count = all_counted;
     needed = in_need asked going;
-    found = inr (record { last = (so_far.made, last); at_end = at_end; found = found });
+    found = inr (record { last = (is.so_far.made, last); at_end = at_end; found = found });
   }
     where
-      last : drop (length old) new ≡ so_far.made ++ Ok 0 ∷ []
-      last = rw (added, so_far.added, append_assoc, drop-append_seam)
-          (ap (λ (r : Result ℕ Error). so_far.made ++ r ∷ []) none)
+      last : drop (length old) new ≡ is.so_far.made ++ Ok 0 ∷ []
+      last = rw (is.added, is.so_far.added, append_assoc, drop-append_seam)
+          (ap (λ (r : Result ℕ Error). is.so_far.made ++ r ∷ []) none)
 
 -- memory is not the fault of reading
 pub not_of_reading : {A : Type 0} (result : Result A ServeFault) → IsErrAnd result (λ e. e ≡ Memory) →

@@ -57,7 +57,7 @@ pub record EndsThere (bytes : List ℕ) (k : ℕ) (ended : EndedCall) : Type 0 w
 abbrev pub IsCallTold : List ℕ → Finding → Option EndedCall → Type 0
 IsCallTold bytes (Stuck k) None = ⊥
 IsCallTold bytes (Stuck k) (Some ended) = EndsThere bytes k ended
-IsCallTold bytes finding ended = Unit {0}
+IsCallTold bytes finding ended = ended ≡ None
 
 -- the note tells of the finding, unless memory for it was refused
 abbrev pub IsNote : Watching → Finding → Option EndedCall → Option (List Reply) → Option (List ℕ) → Type 0

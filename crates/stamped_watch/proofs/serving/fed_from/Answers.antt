@@ -12,7 +12,7 @@ use Rattle.stamped_watch.specs.declared.finding.Finding.{Finding}
 use Rattle.stamped_watch.specs.Finding.{IsFindingOf, IsSoFar}
 use Rattle.stamped_watch.specs.StreamJudge.{EndsInStream, KeepsCall, KeepsFed}
 use Rattle.stamped_watch.proofs.ReadingOn.{all_counted, all_took, found_at_end, found_of_all, has_read_on, makes_none}
-use Rattle.stamped_watch.proofs.ReadingOn.{not_of_reading}
+use Rattle.stamped_watch.proofs.ReadingOn.{not_of_reading, reads_once}
 use Rattle.stamped_watch.proofs.Ending.{in_form}
 use Rattle.stamped_watch.proofs.Streaming.{fed_short}
 use Rattle.stamped_watch.proofs.Taking.{keeps_fed, there_fed}
@@ -37,23 +37,18 @@ source-init g c = record {
 pub returns-in_default-clause-told : goal.returns-in_default-clause-told
 returns-in_default-clause-told g c =
     let inv = c.source.invariant.fed_so in
-    has_told c.args.asked _ _ _ _ (g.T.Sink.sent c.args.told.now)
-    (g.T.Sink.sent c.source.told) _ _ (inv.bytes ++ []) _
-    (all_took _ (g.S.Source.left c.source.source) _ _ (g.S.Source.reads c.source.source) _ inv.bytes [] _ inv.reads
-    inv.took c.in_default.ensures.kept (Consumes-kept _ _ _ [] (Consumes-nil (g.S.Source.left c.source.source))
-    c.in_default.ensures.bytes) refl)
-    (all_counted _ (g.S.Source.left c.source.source) _ _ (g.S.Source.reads c.source.source) _ inv.bytes [] _ inv.reads
-    inv.took c.in_default.ensures.kept (Consumes-kept _ _ _ [] (Consumes-nil (g.S.Source.left c.source.source))
-    c.in_default.ensures.bytes) refl)
+    let once = reads_once inv c.in_default.ensures.kept (Consumes-kept _ _ _ []
+    (Consumes-nil (g.S.Source.left c.source.source)) c.in_default.ensures.bytes) refl in
+    has_told c.args.asked _ _ _ _ (g.T.Sink.sent c.args.told.now) (g.T.Sink.sent c.source.told) _ _
+    (inv.bytes ++ []) _ (all_took once) (all_counted once)
     (tells_more c.args.asked inv.bytes [] _ _ _ _ c.source.invariant.told.tells) tt
 
 pub returns-in_default-clause-reads : goal.returns-in_default-clause-reads
 returns-in_default-clause-reads g c =
     let inv = c.source.invariant.fed_so in
-    has_read_on _ (g.S.Source.left c.source.source) _ _ (g.S.Source.reads c.source.source) _ inv.bytes [] _ inv.reads
-    inv.took c.in_default.ensures.kept
-    (Consumes-kept _ _ _ [] (Consumes-nil (g.S.Source.left c.source.source)) c.in_default.ensures.bytes) refl _ _
-    ((λ same. refl), (λ same. refl))
+    let once = reads_once inv c.in_default.ensures.kept (Consumes-kept _ _ _ []
+    (Consumes-nil (g.S.Source.left c.source.source)) c.in_default.ensures.bytes) refl in
+    has_read_on once _ _ ((λ same. refl), (λ same. refl))
 
 pub end-requires : goal.end-requires
 end-requires g c = let inv = c.source.invariant.fed_so in
@@ -62,26 +57,21 @@ end-requires g c = let inv = c.source.invariant.fed_so in
 pub returns-in_err-end-clause-reads : goal.returns-in_err-end-clause-reads
 returns-in_err-end-clause-reads g c =
     let inv = c.source.invariant.fed_so in
-    has_read_on _ (g.S.Source.left c.source.source) _ _ (g.S.Source.reads c.source.source) _ inv.bytes
-    (take c.in-Ok.taken c.read.new.buffer) _ inv.reads inv.took c.in-Ok.ensures.kept c.in-Ok.ensures.bytes.0
-    (sym c.in-Ok.ensures.bound.1) _ _
-    (not_of_reading c.from_residual.result c.from_residual.ensures.1)
+    let once = reads_once inv c.in-Ok.ensures.kept c.in-Ok.ensures.bytes.0 (sym c.in-Ok.ensures.bound.1) in
+    has_read_on once _ _ (not_of_reading c.from_residual.result c.from_residual.ensures.1)
 
 pub returns-then-taken-eq0-clause-reads : goal.returns-then-taken-eq0-clause-reads
 returns-then-taken-eq0-clause-reads g c =
     let inv = c.source.invariant.fed_so in
-    has_read_on _ (g.S.Source.left c.source.source) _ _ (g.S.Source.reads c.source.source) _ inv.bytes
-    (take c.in-Ok.taken c.read.new.buffer) _ inv.reads inv.took c.in-Ok.ensures.kept c.in-Ok.ensures.bytes.0
-    (sym c.in-Ok.ensures.bound.1) _ _
-    ((λ same. absurd (cc)), (λ same. absurd (cc)))
+    let once = reads_once inv c.in-Ok.ensures.kept c.in-Ok.ensures.bytes.0 (sym c.in-Ok.ensures.bound.1) in
+    has_read_on once _ _ ((λ same. absurd (cc)), (λ same. absurd (cc)))
 
 pub returns-then-taken-eq0-clause-found : goal.returns-then-taken-eq0-clause-found
 returns-then-taken-eq0-clause-found g c =
     let inv = c.source.invariant.fed_so in
+    let once = reads_once inv c.in-Ok.ensures.kept c.in-Ok.ensures.bytes.0 (sym c.in-Ok.ensures.bound.1) in
     let none : take c.in-Ok.taken c.read.new.buffer ≡ [] = rw c.if-taken-eq0.true refl in
-    found_at_end _ (g.S.Source.left c.source.source) _ _ (g.S.Source.reads c.source.source) _ inv.bytes
-    (take c.in-Ok.taken c.read.new.buffer) _ inv.reads inv.took c.in-Ok.ensures.kept c.in-Ok.ensures.bytes.0
-    (sym c.in-Ok.ensures.bound.1) c.args.asked c.in_ok-end.field-0
+    found_at_end once c.args.asked c.in_ok-end.field-0
     (in_form c.args.asked.most c.args.asked.ahead inv.bytes c.source.judge inv.fed inv.none)
     (ap Ok c.if-taken-eq0.true) (c.in-Ok.ensures.bytes.1 c.if-taken-eq0.true (grind (arith, common_steps)))
     (subst (λ (xs : List ℕ). IsFindingOf c.args.asked.most c.args.asked.ahead xs c.in_ok-end.field-0)
@@ -105,25 +95,21 @@ feed-requires-clause-before g c =
 pub returns-in_err-finding-clause-reads : goal.returns-in_err-finding-clause-reads
 returns-in_err-finding-clause-reads g c =
     let inv = c.source.invariant.fed_so in
-    has_read_on _ (g.S.Source.left c.source.source) _ _ (g.S.Source.reads c.source.source) _ inv.bytes
-    (take c.in-Ok.taken c.read.new.buffer) _ inv.reads inv.took c.in-Ok.ensures.kept c.in-Ok.ensures.bytes.0
-    (sym c.in-Ok.ensures.bound.1) _ _
+    let once = reads_once inv c.in-Ok.ensures.kept c.in-Ok.ensures.bytes.0 (sym c.in-Ok.ensures.bound.1) in
+    has_read_on once _ _
     (not_of_reading c.from_residual-in_err-finding.result c.from_residual-in_err-finding.ensures.1)
 
 pub returns-in-Some-clause-reads : goal.returns-in-Some-clause-reads
 returns-in-Some-clause-reads g c =
     let inv = c.source.invariant.fed_so in
-    has_read_on _ (g.S.Source.left c.source.source) _ _ (g.S.Source.reads c.source.source) _ inv.bytes
-    (take c.in-Ok.taken c.read.new.buffer) _ inv.reads inv.took c.in-Ok.ensures.kept c.in-Ok.ensures.bytes.0
-    (sym c.in-Ok.ensures.bound.1) _ _
-    ((λ same. absurd (cc)), (λ same. absurd (cc)))
+    let once = reads_once inv c.in-Ok.ensures.kept c.in-Ok.ensures.bytes.0 (sym c.in-Ok.ensures.bound.1) in
+    has_read_on once _ _ ((λ same. absurd (cc)), (λ same. absurd (cc)))
 
 pub returns-in-Some-clause-found : goal.returns-in-Some-clause-found
 returns-in-Some-clause-found g c =
     let inv = c.source.invariant.fed_so in
-    found_of_all _ (g.S.Source.left c.source.source) _ _ (g.S.Source.reads c.source.source) _ inv.bytes
-    (take c.in-Ok.taken c.read.new.buffer) _ inv.reads inv.took c.in-Ok.ensures.kept c.in-Ok.ensures.bytes.0
-    (sym c.in-Ok.ensures.bound.1) c.args.asked c.in-Some.finding
+    let once = reads_once inv c.in-Ok.ensures.kept c.in-Ok.ensures.bytes.0 (sym c.in-Ok.ensures.bound.1) in
+    found_of_all once c.args.asked c.in-Some.finding
     (in_form c.args.asked.most c.args.asked.ahead inv.bytes c.source.judge inv.fed inv.none)
     (subst (λ (o : Option Finding). IsSoFar c.args.asked.most c.args.asked.ahead
     (inv.bytes ++ take c.in-Ok.taken c.read.new.buffer) o) c.in-Some.is
@@ -160,28 +146,18 @@ source-preserved g c =
 pub returns-in_err-end-clause-told : goal.returns-in_err-end-clause-told
 returns-in_err-end-clause-told g c =
     let inv = c.source.invariant.fed_so in
+    let once = reads_once inv c.in-Ok.ensures.kept c.in-Ok.ensures.bytes.0 (sym c.in-Ok.ensures.bound.1) in
     has_told c.args.asked _ _ _ _ (g.T.Sink.sent c.args.told.now) _ _ _
-    (inv.bytes ++ take c.in-Ok.taken c.read.new.buffer) _
-    (all_took _ (g.S.Source.left c.source.source) _ _ (g.S.Source.reads c.source.source) _ inv.bytes
-    (take c.in-Ok.taken c.read.new.buffer) _ inv.reads inv.took c.in-Ok.ensures.kept c.in-Ok.ensures.bytes.0
-    (sym c.in-Ok.ensures.bound.1))
-    (all_counted _ (g.S.Source.left c.source.source) _ _ (g.S.Source.reads c.source.source) _ inv.bytes
-    (take c.in-Ok.taken c.read.new.buffer) _ inv.reads inv.took c.in-Ok.ensures.kept c.in-Ok.ensures.bytes.0
-    (sym c.in-Ok.ensures.bound.1))
+    (inv.bytes ++ take c.in-Ok.taken c.read.new.buffer) _ (all_took once) (all_counted once)
     (tells_more c.args.asked inv.bytes (take c.in-Ok.taken c.read.new.buffer) _ _ _ _ c.source.invariant.told.tells)
     (all_of_err _ _ c.from_residual.result c.from_residual.ensures.1)
 
 pub returns-then-taken-eq0-clause-told : goal.returns-then-taken-eq0-clause-told
 returns-then-taken-eq0-clause-told g c =
     let inv = c.source.invariant.fed_so in
+    let once = reads_once inv c.in-Ok.ensures.kept c.in-Ok.ensures.bytes.0 (sym c.in-Ok.ensures.bound.1) in
     has_told c.args.asked _ _ _ _ (g.T.Sink.sent c.args.told.now) _ _ _
-    (inv.bytes ++ take c.in-Ok.taken c.read.new.buffer) _
-    (all_took _ (g.S.Source.left c.source.source) _ _ (g.S.Source.reads c.source.source) _ inv.bytes
-    (take c.in-Ok.taken c.read.new.buffer) _ inv.reads inv.took c.in-Ok.ensures.kept c.in-Ok.ensures.bytes.0
-    (sym c.in-Ok.ensures.bound.1))
-    (all_counted _ (g.S.Source.left c.source.source) _ _ (g.S.Source.reads c.source.source) _ inv.bytes
-    (take c.in-Ok.taken c.read.new.buffer) _ inv.reads inv.took c.in-Ok.ensures.kept c.in-Ok.ensures.bytes.0
-    (sym c.in-Ok.ensures.bound.1))
+    (inv.bytes ++ take c.in-Ok.taken c.read.new.buffer) _ (all_took once) (all_counted once)
     (tells_more c.args.asked inv.bytes (take c.in-Ok.taken c.read.new.buffer) _ _ _ _ c.source.invariant.told.tells)
     (told_to_end c.args.asked inv.bytes (take c.in-Ok.taken c.read.new.buffer) c.source.telling _ _ _ _
     c.source.invariant.told (rw c.if-taken-eq0.true refl))
@@ -189,14 +165,9 @@ returns-then-taken-eq0-clause-told g c =
 pub returns-in_err-finding-clause-told : goal.returns-in_err-finding-clause-told
 returns-in_err-finding-clause-told g c =
     let inv = c.source.invariant.fed_so in
+    let once = reads_once inv c.in-Ok.ensures.kept c.in-Ok.ensures.bytes.0 (sym c.in-Ok.ensures.bound.1) in
     has_told c.args.asked _ _ _ _ (g.T.Sink.sent c.args.told.now) _ _ _
-    (inv.bytes ++ take c.in-Ok.taken c.read.new.buffer) _
-    (all_took _ (g.S.Source.left c.source.source) _ _ (g.S.Source.reads c.source.source) _ inv.bytes
-    (take c.in-Ok.taken c.read.new.buffer) _ inv.reads inv.took c.in-Ok.ensures.kept c.in-Ok.ensures.bytes.0
-    (sym c.in-Ok.ensures.bound.1))
-    (all_counted _ (g.S.Source.left c.source.source) _ _ (g.S.Source.reads c.source.source) _ inv.bytes
-    (take c.in-Ok.taken c.read.new.buffer) _ inv.reads inv.took c.in-Ok.ensures.kept c.in-Ok.ensures.bytes.0
-    (sym c.in-Ok.ensures.bound.1))
+    (inv.bytes ++ take c.in-Ok.taken c.read.new.buffer) _ (all_took once) (all_counted once)
     (c.feed.ensures.told c.args.asked inv.bytes (g.T.Sink.sent c.args.told.now) (g.T.Sink.writes c.args.told.now)
     inv.fed c.source.invariant.told).tells
     (all_of_err _ _ c.from_residual-in_err-finding.result c.from_residual-in_err-finding.ensures.1)
@@ -204,14 +175,9 @@ returns-in_err-finding-clause-told g c =
 pub returns-in-Some-clause-told : goal.returns-in-Some-clause-told
 returns-in-Some-clause-told g c =
     let inv = c.source.invariant.fed_so in
+    let once = reads_once inv c.in-Ok.ensures.kept c.in-Ok.ensures.bytes.0 (sym c.in-Ok.ensures.bound.1) in
     has_told c.args.asked _ _ _ _ (g.T.Sink.sent c.args.told.now) _ _ _
-    (inv.bytes ++ take c.in-Ok.taken c.read.new.buffer) _
-    (all_took _ (g.S.Source.left c.source.source) _ _ (g.S.Source.reads c.source.source) _ inv.bytes
-    (take c.in-Ok.taken c.read.new.buffer) _ inv.reads inv.took c.in-Ok.ensures.kept c.in-Ok.ensures.bytes.0
-    (sym c.in-Ok.ensures.bound.1))
-    (all_counted _ (g.S.Source.left c.source.source) _ _ (g.S.Source.reads c.source.source) _ inv.bytes
-    (take c.in-Ok.taken c.read.new.buffer) _ inv.reads inv.took c.in-Ok.ensures.kept c.in-Ok.ensures.bytes.0
-    (sym c.in-Ok.ensures.bound.1))
+    (inv.bytes ++ take c.in-Ok.taken c.read.new.buffer) _ (all_took once) (all_counted once)
     (c.feed.ensures.told c.args.asked inv.bytes (g.T.Sink.sent c.args.told.now) (g.T.Sink.writes c.args.told.now)
     inv.fed c.source.invariant.told).tells
     ((c.feed.ensures.told c.args.asked inv.bytes (g.T.Sink.sent c.args.told.now) (g.T.Sink.writes c.args.told.now)
@@ -220,14 +186,11 @@ returns-in-Some-clause-told g c =
 pub returns-then-taken-eq0-clause-keeps : goal.returns-then-taken-eq0-clause-keeps
 returns-then-taken-eq0-clause-keeps g c =
     let inv = c.source.invariant.fed_so in
+    let once = reads_once inv c.in-Ok.ensures.kept c.in-Ok.ensures.bytes.0 (sym c.in-Ok.ensures.bound.1) in
     record {
       bytes = inv.bytes ++ take c.in-Ok.taken c.read.new.buffer;
-      took = all_took _ (g.S.Source.left c.source.source) _ _ (g.S.Source.reads c.source.source) _ inv.bytes
-          (take c.in-Ok.taken c.read.new.buffer) _ inv.reads inv.took c.in-Ok.ensures.kept c.in-Ok.ensures.bytes.0
-          (sym c.in-Ok.ensures.bound.1);
-      count = all_counted _ (g.S.Source.left c.source.source) _ _ (g.S.Source.reads c.source.source) _ inv.bytes
-          (take c.in-Ok.taken c.read.new.buffer) _ inv.reads inv.took c.in-Ok.ensures.kept c.in-Ok.ensures.bytes.0
-          (sym c.in-Ok.ensures.bound.1);
+      took = all_took once;
+      count = all_counted once;
       keeps = let none : take c.in-Ok.taken c.read.new.buffer ≡ [] = rw c.if-taken-eq0.true refl in
           subst (λ (xs : List ℕ). KeepsFed c.args.asked.ahead xs c.end.new.self)
           (sym (append-nil inv.bytes) ∙ ap (λ (xs : List ℕ). inv.bytes ++ xs) (sym none))
@@ -241,14 +204,11 @@ returns-then-taken-eq0-clause-keeps g c =
 pub returns-in-Some-clause-keeps : goal.returns-in-Some-clause-keeps
 returns-in-Some-clause-keeps g c =
     let inv = c.source.invariant.fed_so in
+    let once = reads_once inv c.in-Ok.ensures.kept c.in-Ok.ensures.bytes.0 (sym c.in-Ok.ensures.bound.1) in
     record {
       bytes = inv.bytes ++ take c.in-Ok.taken c.read.new.buffer;
-      took = all_took _ (g.S.Source.left c.source.source) _ _ (g.S.Source.reads c.source.source) _ inv.bytes
-          (take c.in-Ok.taken c.read.new.buffer) _ inv.reads inv.took c.in-Ok.ensures.kept c.in-Ok.ensures.bytes.0
-          (sym c.in-Ok.ensures.bound.1);
-      count = all_counted _ (g.S.Source.left c.source.source) _ _ (g.S.Source.reads c.source.source) _ inv.bytes
-          (take c.in-Ok.taken c.read.new.buffer) _ inv.reads inv.took c.in-Ok.ensures.kept c.in-Ok.ensures.bytes.0
-          (sym c.in-Ok.ensures.bound.1);
+      took = all_took once;
+      count = all_counted once;
       keeps = keeps_fed c.args.asked.most c.args.asked.ahead _ c.feed.new.judge
           (c.in_ok-finding.ensures.fed c.args.asked.most c.args.asked.ahead inv.bytes inv.fed);
       there = there_fed c.args.asked.most c.args.asked.ahead _ c.feed.new.judge

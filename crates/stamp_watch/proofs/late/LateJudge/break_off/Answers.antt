@@ -3,7 +3,8 @@ use Rattle.stamp_watch.specs.declared.late_verdict.LateVerdict.{LateVerdict}
 use Rattle.stamp_watch.specs.Late.{IsLateFound}
 use Rattle.stamp_watch.specs.LateJudge.{EndsInRunLate, KeepsEndLate}
 use Rattle.stamp_watch.proofs.EndedLate.{broken_in_run, more_in_run}
-use Rattle.stamp_watch.proofs.JudgingLate.{broken_told, few_wait, has_found, late_broken, late_way, ready_now}
+use Rattle.stamp_watch.proofs.JudgingLate.{broken_told, few_wait, has_found, late_broken, late_known_then}
+use Rattle.stamp_watch.proofs.JudgingLate.{late_way, ready_now}
 use Rattle.stamp_watch.proofs.PossibleLate.{keeps_beside}
 use Rattle.stamp_watch.proofs.late.LateJudge.break_off.Goals as goal
 
@@ -39,12 +40,4 @@ returns-clause-given c limits most ahead run is = has_found limits most ahead (r
     (returns-clause-found c limits most ahead run is)
 
 pub returns-clause-known : goal.returns-clause-known
-returns-clause-known c =
-    let some = c.requires.some in
-    record {
-      limits = some.limits;
-      most = some.most;
-      ahead = some.ahead;
-      run = some.run ++ c.args.event.now ∷ [];
-      judge_of = returns-clause-given c some.limits some.most some.ahead some.run some.judge_of;
-    }
+returns-clause-known c = late_known_then c.args.self.now _ c.args.event.now c.requires.some (returns-clause-given c)

@@ -1,5 +1,6 @@
 use Rattle.std.proofs.Common.{[], ◌∷◌, ◌++◌, ◌∙◌, refl}
-use Rattle.stamp_watch.proofs.JudgingLate.{few_wait, late_finds, late_goes_on, late_way, ready_for, whole_then}
+use Rattle.stamp_watch.proofs.JudgingLate.{few_wait, late_finds, late_goes_on, late_known_then, late_way}
+use Rattle.stamp_watch.proofs.JudgingLate.{ready_for, whole_then}
 use Rattle.stamp_watch.proofs.late.LateJudge.take.Goals as goal
 
 pub push-requires-clause-ready : goal.push-requires-clause-ready
@@ -26,15 +27,8 @@ returns-in_default-clause-given c limits most ahead run is = late_goes_on limits
     c.requires.room.room
 
 pub returns-in_default-clause-known : goal.returns-in_default-clause-known
-returns-in_default-clause-known c =
-    let some = c.requires.some in
-    record {
-      limits = some.limits;
-      most = some.most;
-      ahead = some.ahead;
-      run = some.run ++ c.args.event.now ∷ [];
-      judge_of = returns-in_default-clause-given c some.limits some.most some.ahead some.run some.judge_of;
-    }
+returns-in_default-clause-known c = late_known_then c.args.self.now _ c.args.event.now c.requires.some
+    (returns-in_default-clause-given c)
 
 pub returns-clause-found : goal.returns-clause-found
 returns-clause-found c limits most ahead run is = c.finding-finding.ensures.found limits most ahead
@@ -63,12 +57,4 @@ returns-clause-given c limits most ahead run is = late_finds limits most ahead r
     c.requires.busy))) refl (returns-clause-found c limits most ahead run is)
 
 pub returns-clause-known : goal.returns-clause-known
-returns-clause-known c =
-    let some = c.requires.some in
-    record {
-      limits = some.limits;
-      most = some.most;
-      ahead = some.ahead;
-      run = some.run ++ c.args.event.now ∷ [];
-      judge_of = returns-clause-given c some.limits some.most some.ahead some.run some.judge_of;
-    }
+returns-clause-known c = late_known_then c.args.self.now _ c.args.event.now c.requires.some (returns-clause-given c)

@@ -3,7 +3,7 @@ use Rattle.stamp_watch.specs.declared.verdict.Verdict.{Verdict}
 use Rattle.stamp_watch.specs.Judging.{IsFound}
 use Rattle.stamp_watch.specs.Course.{KeepsEndOf}
 use Rattle.stamp_watch.proofs.KeepingEnds.{keeps_broken}
-use Rattle.stamp_watch.proofs.GoingOn.{course_on, course_room, found_broken, judge_broken}
+use Rattle.stamp_watch.proofs.GoingOn.{course_on, course_room, found_broken, judge_broken, known_then}
 use Rattle.stamp_watch.proofs.Kept.{kept_beside}
 use Rattle.stamp_watch.proofs.online.Judge.break_off.Goals as goal
 
@@ -32,15 +32,7 @@ returns-clause-given c limits most ahead run is = judge_broken limits most ahead
     (keeps_broken c.args.self.now.course c.in_ok-rest.rest c.count.result c.in_ok-rest.ensures.tells))
 
 pub returns-clause-known : goal.returns-clause-known
-returns-clause-known c =
-    let some = c.requires.some in
-    record {
-      limits = some.limits;
-      most = some.most;
-      ahead = some.ahead;
-      run = some.run ++ c.args.event.now ∷ [];
-      judge_of = returns-clause-given c some.limits some.most some.ahead some.run some.judge_of;
-    }
+returns-clause-known c = known_then c.args.self.now _ c.args.event.now c.requires.some (returns-clause-given c)
 
 pub returns-clause-kept : goal.returns-clause-kept
 returns-clause-kept c limits most ahead run is keeps =

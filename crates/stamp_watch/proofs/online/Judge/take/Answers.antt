@@ -1,5 +1,5 @@
 use Rattle.std.proofs.Common.{refl, [], ◌∷◌, ◌++◌}
-use Rattle.stamp_watch.proofs.GoingOn.{found_then, judge_then, one_longer_room, then_of}
+use Rattle.stamp_watch.proofs.GoingOn.{found_then, judge_then, known_then, one_longer_room, then_of}
 use Rattle.stamp_watch.proofs.online.Judge.take.Goals as goal
 
 pub go_on-requires-clause-on : goal.go_on-requires-clause-on
@@ -33,15 +33,7 @@ returns-clause-given c limits most ahead run is = judge_then limits most ahead r
     c.in_ok-found.ensures.tells
 
 pub returns-clause-known : goal.returns-clause-known
-returns-clause-known c =
-    let some = c.requires.some in
-    record {
-      limits = some.limits;
-      most = some.most;
-      ahead = some.ahead;
-      run = some.run ++ c.args.event.now ∷ [];
-      judge_of = returns-clause-given c some.limits some.most some.ahead some.run some.judge_of;
-    }
+returns-clause-known c = known_then c.args.self.now _ c.args.event.now c.requires.some (returns-clause-given c)
 
 pub returns-clause-kept : goal.returns-clause-kept
 returns-clause-kept c limits most ahead run is keeps = c.in_ok-found.ensures.kept limits (run ++ c.args.event.now ∷ [])

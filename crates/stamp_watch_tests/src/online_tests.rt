@@ -2,9 +2,9 @@ ghost use Rattle.std.specs.Prelude.{IfOk, OnOk};
 ghost use Rattle.stamp_watch.specs.Judge.{HasFoundNothing, IsJudgeOfSome};
 ghost use Rattle.stamp_watch.specs.Possible.{IsKeeping};
 
-use crate::fixtures::limits;
+use crate::fixtures::{limits, of_lock};
 use stamp_core::{Call, LockReply, Reply};
-use stamp_watch::{Event, Judge, StreamEvent, Verdict, Why, judge_run};
+use stamp_watch::{Event, Judge, Verdict, Why, judge_run};
 use std::test::Fail;
 
 /// The judge of a lock for up to 127 readers and 1,000 write acquisitions.
@@ -21,9 +21,7 @@ fn pushed(judge: &mut Judge, events: &[Event]) -> Result<Option<Verdict>, Fail>
 {
     let mut found = None;
     for event in events {
-        let Some(small) = StreamEvent::of(event) else {
-            return Err(Fail::from("not of a lock"));
-        };
+        let small = of_lock(event)?;
         if judge.is_full() {
             return Err(Fail::from("full"));
         }
@@ -194,9 +192,7 @@ fn kept(judge: &mut Judge, events: &[Event]) -> Result<(), Fail>
     ensures keeping { OnOk result (IsKeeping judge.new) }
 {
     for event in events {
-        let Some(small) = StreamEvent::of(event) else {
-            return Err(Fail::from("not of a lock"));
-        };
+        let small = of_lock(event)?;
         if judge.is_full() {
             return Err(Fail::from("full"));
         }
@@ -236,9 +232,7 @@ fn going(judge: &mut Judge, event: &Event) -> Result<(), Fail>
     ensures known { OnOk result (IsJudgeOfSome judge.new) }
     ensures none { OnOk result (HasFoundNothing judge.new) }
 {
-    let Some(small) = StreamEvent::of(event) else {
-        return Err(Fail::from("not of a lock"));
-    };
+    let small = of_lock(event)?;
     if judge.is_full() {
         return Err(Fail::from("full"));
     }

@@ -1,7 +1,7 @@
 ghost use Rattle.std.specs.Prelude.{IfOk, OnOk};
 ghost use Rattle.stamp_watch.specs.LateJudge.{IsLateJudgeOfSome};
 
-use crate::fixtures::limits;
+use crate::fixtures::{limits, of_lock};
 use stamp_core::{Call, Reply};
 use stamp_watch::{EndedCall, Event, LateJudge, LateVerdict, LockCall, StreamEvent, Verdict};
 use std::test::Fail;
@@ -13,9 +13,7 @@ fn pushed(judge: &mut LateJudge, events: &[Event]) -> Result<Option<LateVerdict>
 {
     let mut found = None;
     for event in events {
-        let Some(small) = StreamEvent::of(event) else {
-            return Err(Fail::from("not of a lock"));
-        };
+        let small = of_lock(event)?;
         if judge.is_full() {
             return Err(Fail::from("full"));
         }

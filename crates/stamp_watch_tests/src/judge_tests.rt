@@ -31,7 +31,7 @@ fn a_run_with_no_events_is_explained(rt: HostRuntime) -> Result<(), Fail> {
 
 // The stamps are those of Java's lock: 256 at first, a writer is 128, a reader 1.
 #[test]
-fn the_calls_of_one_thread_are_explained(rt: HostRuntime) -> Result<(), Fail> {
+fn the_reading_calls_of_one_thread_are_explained(rt: HostRuntime) -> Result<(), Fail> {
     let reading = [
         calls(0, Call::Optimistic),
         stamps(0, 256),
@@ -55,6 +55,11 @@ fn the_calls_of_one_thread_are_explained(rt: HostRuntime) -> Result<(), Fail> {
         says(0, Reply::No),
     ];
     assert!(rt; verdict(&rt, 100, &reading)? == Verdict::Explained);
+    Ok(())
+}
+
+#[test]
+fn the_writing_calls_of_one_thread_are_explained(rt: HostRuntime) -> Result<(), Fail> {
     let writing = [
         calls(5, Call::TryWrite),
         stamps(5, 384),
@@ -78,6 +83,11 @@ fn the_calls_of_one_thread_are_explained(rt: HostRuntime) -> Result<(), Fail> {
         says(5, Reply::No),
     ];
     assert!(rt; verdict(&rt, 100, &writing)? == Verdict::Explained);
+    Ok(())
+}
+
+#[test]
+fn the_conversions_of_one_thread_are_explained(rt: HostRuntime) -> Result<(), Fail> {
     let converting = [
         calls(63, Call::Optimistic),
         stamps(63, 256),
