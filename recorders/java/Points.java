@@ -4,10 +4,10 @@ import java.io.Writer;
 import java.nio.charset.StandardCharsets;
 
 /**
- * An example of guarded words: {@code Points ROUNDS [forgets]}. Two threads move a point, and two ask where it is.
- * Then the observed history is written to standard output. Both coordinates are recorded as the words of calls
- * {@code get} and {@code put}, so with {@code forgets}, where a read is not validated, some get has a reply that no
- * order explains: the coordinates of two places.
+ * An example of guarded words: {@code Points ROUNDS [forgets]}. Four threads ask where a point is, and every fourth
+ * time they move it. Then the observed history is written to standard output. Both coordinates are recorded as the
+ * words of calls {@code get} and {@code put}, so with {@code forgets}, where a read is not validated, some get has a
+ * reply that no order explains: the coordinates of two places.
  */
 public final class Points {
     private final ObservedStampedLock lock;
@@ -54,14 +54,13 @@ public final class Points {
         }
     }
 
-    /** Lets four threads make so many calls each. */
+    /** Lets four threads do so many rounds each: they read often, and write seldom. */
     void run(int rounds) throws InterruptedException {
         Thread[] threads = new Thread[4];
         for (int i = 0; i < threads.length; i++) {
-            boolean moves = i % 2 == 0;
             threads[i] = new Thread(() -> {
                 for (int round = 0; round < rounds; round++) {
-                    if (moves) {
+                    if (round % 4 == 0) {
                         move(1, 2);
                     } else {
                         distanceFromOrigin();

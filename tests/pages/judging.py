@@ -81,7 +81,7 @@ def try_java(room):
     room.must_be_right()
     room.must(LIVE[0])
     room.must(LIVE[1], r"ok 1\d{6}\n")
-    for _ in range(5):
+    for _ in range(20):
         room.must(FORGETS)
         found = room.judged()
         if found:

@@ -89,9 +89,7 @@ public final class RecordedRuns {
     private static void hanging(Path file) throws Exception {
         ObservedStampedLock lock = new ObservedStampedLock().withShutdownHook(file);
         call(lock);
-        long stamp = lock.writeLock();
-        System.out.println("hanging");
-        lock.unlockRead(lock.readLock() + stamp);
+        Hanging.hang(lock);
     }
 
     /** The program exits while calls go on. */
@@ -273,14 +271,16 @@ public final class RecordedRuns {
     private static void crowd() throws Exception {
         ObservedStampedLock lock = new ObservedStampedLock();
         long stamp = lock.writeLock();
+        CountDownLatch begun = new CountDownLatch(100);
         List<Thread> readers = new ArrayList<>();
         for (int i = 0; i < 100; i++) {
             readers.add(start(() -> lock.get(() -> {
+                begun.countDown();
                 lock.unlockRead(lock.readLock());
                 return new long[] {1};
             })));
         }
-        Thread.sleep(200);
+        begun.await();
         lock.put(() -> { }, 1);
         lock.unlockWrite(stamp);
         join(readers);

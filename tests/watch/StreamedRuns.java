@@ -252,9 +252,7 @@ public final class StreamedRuns {
     /** Some calls, and then two threads that wait for each other. */
     private void hanging(int calls) throws InterruptedException {
         join(startCalling(4, calls, false));
-        long stamp = lock.writeLock();
-        System.out.println("hanging");
-        lock.unlockRead(lock.readLock() + stamp);
+        Hanging.hang(lock);
     }
 
     /** Histories while calls go on, each in a line. */

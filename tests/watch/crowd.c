@@ -22,9 +22,11 @@ static void *read_once(void *unused) {
     return NULL;
 }
 
-static void *wait_for_ever(void *unused) {
-    (void)unused;
-    made(OBSERVED_WRITE_LOCK, 0);
+/* Waits for write mode for ever, and tells once the call is recorded. */
+static void *wait_for_ever(void *begun) {
+    int lane = observed_begin(&run, OBSERVED_WRITE_LOCK, 0);
+    atomic_store((atomic_int *)begun, 1);
+    observed_return(&run, lane, OBSERVED_WRITE_LOCK, call_lock(&lock, OBSERVED_WRITE_LOCK + 1, 0));
     return NULL;
 }
 
@@ -35,6 +37,7 @@ static void rest(long milliseconds) {
 
 int main(void) {
     pthread_t threads[THREADS], waiting;
+    atomic_int begun = 0;
     atomic_init(&lock.word, stamped_opening(lock.limits.layout));
     if (observed_start(&run, 1, 1, STAMPED_READERS_1, STAMPED_VERSIONS_1)) abort();
     uint64_t stamp = made(OBSERVED_WRITE_LOCK, 0);
@@ -46,7 +49,7 @@ int main(void) {
     if (!made(OBSERVED_UNLOCK_WRITE, stamp)) abort();
     for (int i = 0; i < THREADS; i++) pthread_join(threads[i], NULL);
     made(OBSERVED_WRITE_LOCK, 0);
-    if (pthread_create(&waiting, NULL, wait_for_ever, NULL)) abort();
-    rest(100);
+    if (pthread_create(&waiting, NULL, wait_for_ever, &begun)) abort();
+    while (!atomic_load(&begun)) rest(1);
     return observed_stop(&run);
 }

@@ -29,7 +29,7 @@ class Java:
 
     def __init__(self, room, explain):
         self.room, self.explain = room, explain
-        sources = sorted(glob.glob("recorders/java/*.java")) + ["tests/watch/StreamedRuns.java"]
+        sources = [*sorted(glob.glob("recorders/java/*.java")), "tests/watch/Hanging.java", "tests/watch/StreamedRuns.java"]
         subprocess.run(["javac", "-d", room, *sources], check=True)
 
     def words(self, *words):
@@ -175,7 +175,6 @@ def try_hanging(java):
     """A run that hangs and is terminated: the hook writes all that was called, the call that hangs too."""
     with started(java.words("StreamedRuns", "hanging", java.file("hanging"), 2000), stdout=subprocess.PIPE) as process:
         wants("hanging", process.stdout.readline() == b"hanging\n", "not begun")
-        time.sleep(0.1)
         process.send_signal(signal.SIGTERM)
     history = java.judge("hanging", java.read("hanging"))
     last = history["entries"][-2:]
