@@ -6,8 +6,8 @@ import java.nio.charset.StandardCharsets;
 /**
  * An example of guarded words: {@code Points ROUNDS [forgets]}. Four threads ask where a point is, and every fourth
  * time they move it. Then the observed history is written to standard output. Both coordinates are recorded as the
- * words of calls {@code get} and {@code put}, so with {@code forgets}, where a read is not validated, some get has a
- * reply that no order explains: the coordinates of two places.
+ * words of calls {@code get} and {@code put}, so with {@code forgets}, where a read is not validated, nearly each run
+ * has a get with a reply that no order explains: the coordinates of two places.
  */
 public final class Points {
     private final ObservedStampedLock lock;

@@ -29,7 +29,8 @@ class Java:
 
     def __init__(self, room, explain):
         self.room, self.explain = room, explain
-        sources = [*sorted(glob.glob("recorders/java/*.java")), "tests/watch/Hanging.java", "tests/watch/StreamedRuns.java"]
+        runs = [f"tests/watch/{name}.java" for name in ("Hanging", "StreamedRuns")]
+        sources = [*sorted(glob.glob("recorders/java/*.java")), *runs]
         subprocess.run(["javac", "-d", room, *sources], check=True)
 
     def words(self, *words):

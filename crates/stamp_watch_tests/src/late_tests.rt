@@ -1,7 +1,7 @@
 ghost use Rattle.std.specs.Prelude.{IfOk, OnOk};
 ghost use Rattle.stamp_watch.specs.LateJudge.{IsLateJudgeOfSome};
 
-use crate::fixtures::{limits, of_lock};
+use crate::fixtures::{limits, not_full, of_lock};
 use stamp_core::{Call, Reply};
 use stamp_watch::{EndedCall, Event, LateJudge, LateVerdict, LockCall, StreamEvent, Verdict};
 use std::test::Fail;
@@ -13,11 +13,8 @@ fn pushed(judge: &mut LateJudge, events: &[Event]) -> Result<Option<LateVerdict>
 {
     let mut found = None;
     for event in events {
-        let small = of_lock(event)?;
-        if judge.is_full() {
-            return Err(Fail::from("full"));
-        }
-        found = judge.push(&small)?;
+        not_full(judge.is_full())?;
+        found = judge.push(&of_lock(event)?)?;
     }
     Ok(found)
 }
@@ -170,9 +167,7 @@ fn events_wait_only_while_a_call_is_open(rt: HostRuntime) -> Result<(), Fail> {
 fn a_judge_of_late_calls_tells_how_far_it_is(rt: HostRuntime) -> Result<(), Fail> {
     let mut judge = LateJudge::new(rt.alloc(), limits(127, 1000)?, 100, 1_000)?;
     assert!(rt; judge.count() == 0);
-    if judge.is_full() {
-        return Err(Fail::from("full"));
-    }
+    not_full(judge.is_full())?;
     let None = judge.push(&StreamEvent::begins(1, LockCall::IsWriteLocked))? else {
         return Err(Fail::from("found"));
     };

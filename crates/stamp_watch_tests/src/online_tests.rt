@@ -2,7 +2,7 @@ ghost use Rattle.std.specs.Prelude.{IfOk, OnOk};
 ghost use Rattle.stamp_watch.specs.Judge.{HasFoundNothing, IsJudgeOfSome};
 ghost use Rattle.stamp_watch.specs.Possible.{IsKeeping};
 
-use crate::fixtures::{limits, of_lock};
+use crate::fixtures::{limits, not_full, of_lock};
 use stamp_core::{Call, LockReply, Reply};
 use stamp_watch::{Event, Judge, Verdict, Why, judge_run};
 use std::test::Fail;
@@ -21,11 +21,8 @@ fn pushed(judge: &mut Judge, events: &[Event]) -> Result<Option<Verdict>, Fail>
 {
     let mut found = None;
     for event in events {
-        let small = of_lock(event)?;
-        if judge.is_full() {
-            return Err(Fail::from("full"));
-        }
-        found = judge.push(&small)?;
+        not_full(judge.is_full())?;
+        found = judge.push(&of_lock(event)?)?;
     }
     Ok(found)
 }
@@ -192,11 +189,8 @@ fn kept(judge: &mut Judge, events: &[Event]) -> Result<(), Fail>
     ensures keeping { OnOk result (IsKeeping judge.new) }
 {
     for event in events {
-        let small = of_lock(event)?;
-        if judge.is_full() {
-            return Err(Fail::from("full"));
-        }
-        judge.push(&small)?;
+        not_full(judge.is_full())?;
+        judge.push(&of_lock(event)?)?;
     }
     Ok(())
 }
@@ -232,11 +226,8 @@ fn going(judge: &mut Judge, event: &Event) -> Result<(), Fail>
     ensures known { OnOk result (IsJudgeOfSome judge.new) }
     ensures none { OnOk result (HasFoundNothing judge.new) }
 {
-    let small = of_lock(event)?;
-    if judge.is_full() {
-        return Err(Fail::from("full"));
-    }
-    match judge.push(&small)? {
+    not_full(judge.is_full())?;
+    match judge.push(&of_lock(event)?)? {
         None => Ok(()),
         Some(_) => Err(Fail::from("found")),
     }

@@ -2,7 +2,7 @@ import org.junit.jupiter.api.Test;
 
 /**
  * An example of a test in JUnit that records a run, and fails with what the judge says of it. With
- * {@code -Dpoints.forget=true} it does: a read is not validated then.
+ * {@code -Dpoints.forget=true} it does nearly each time: a read is not validated then.
  */
 class PointsTest {
     @Test
