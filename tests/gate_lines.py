@@ -9,6 +9,8 @@ proved is there at once.
 A library is taken when its crate is proved, and not at the end: `rt ci` moves what stood in crates/*/out aside when it
 begins, and gives that back over its own when it ends, also what other commands had built there of other texts.
 
+A crate fails if its check counts other functions that may wait than crates.txt says, which `rt ci` doesn't compare.
+
 The last two lines of a gate that passes speak of the gate alone, so they are kept from the page: how many things passed
 and failed goes to the file FOLDER/gate. After a minute without a line, one says how far it is."""
 import os
@@ -44,13 +46,20 @@ def say_to(pipe, what):
         file.write(f"{what}\n")
 
 
+def number_in(pattern, line):
+    found = re.search(pattern, line)
+    return int(found[1]) if found else 0
+
+
 class Gate:
     """How far it is: the crates that are proved, and what is still to be built."""
 
     def __init__(self, folder, programs):
         with open("crates.txt") as file:
-            self.names = [line.split()[0].rstrip(":") for line in file if re.match(r"\w", line)]
-        self.folder, self.programs = folder, {*programs}
+            lines = [line for line in file if re.match(r"\w", line)]
+        self.names = [line.split()[0].rstrip(":") for line in lines]
+        self.may_wait = {name: number_in(r"\bmay_wait=(\d+)", line) for name, line in zip(self.names, lines)}
+        self.folder, self.programs, self.at, self.miscounted = folder, {*programs}, None, 0
         self.proved, self.start = set(), time.monotonic()
 
     def tell(self, text):
@@ -61,15 +70,26 @@ class Gate:
         last = re.fullmatch(r"(\d+) passed, (\d+) failed", line)
         if last:
             with open(f"{self.folder}/gate", "w") as file:
-                file.write(f"{last[1]} {last[2]}\n")
+                file.write(f"{last[1]} {int(last[2]) + self.miscounted}\n")
             return
         if line.startswith("rt: ok; "):
             return
         self.tell(line)
+        self.count(line)
         proved = re.fullmatch(r"rt: (\w+) (?:proved|is kept: .*)", line)
         if proved and proved[1] not in self.proved:
             self.proved.add(proved[1])
             self.hand_on(proved[1])
+
+    def count(self, line):
+        """Compares what the last line of a crate's check counts; its tests may wait as they like."""
+        begun = re.fullmatch(r"== (\w+)(: its tests)?", line)
+        if begun:
+            self.at = None if begun[2] else begun[1]
+        counted = number_in(r" may-wait=(\d+)", line)
+        if line.startswith("logic=proved") and self.at and counted != self.may_wait.get(self.at):
+            self.tell(f"FAILED: crates.txt has may_wait={self.may_wait.get(self.at)} of {self.at}, and its check counts {counted}")
+            self.miscounted += 1
 
     def hand_on(self, name):
         """Takes the library of this crate, which is proved, and says what is there since."""

@@ -425,7 +425,7 @@ BAD_WORDS = [
 
 
 def ended(program, text, words):
-    ran = subprocess.run([program, *words], input=text, capture_output=True, timeout=60)
+    ran = subprocess.run([program, *words], input=text, capture_output=True, timeout=3600)
     return ran.returncode, ran.stdout, ran.stderr
 
 
@@ -567,7 +567,7 @@ def shown(browser, page, room, words):
     with open(path, "w", encoding="utf-8") as file:
         file.write(page)
     words = ["--headless", "--no-sandbox", "--disable-gpu", "--virtual-time-budget=3000", "--dump-dom", *words]
-    ran = subprocess.run([browser, *words, f"file://{path}"], capture_output=True, timeout=60)
+    ran = subprocess.run([browser, *words, f"file://{path}"], capture_output=True, timeout=3600)
     return ran.stdout.decode()
 
 

@@ -11,7 +11,7 @@ ENDS = b"ok 18000\n"
 
 
 def output_of(words, text=b"", status=0):
-    run = subprocess.run(words, input=text, capture_output=True, timeout=120)
+    run = subprocess.run(words, input=text, capture_output=True, timeout=3600)
     if run.returncode != status:
         sys.exit(f"{words} ended with status {run.returncode}: {run.stderr}")
     return run.stdout

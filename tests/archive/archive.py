@@ -295,7 +295,7 @@ def build_and_run(name, command):
     done = subprocess.run(command, capture_output=True, text=True, check=False)
     if done.returncode:
         fail(f"{name} doesn't compile:\n{done.stdout}{done.stderr}")
-    run = subprocess.run([command[command.index("-o") + 1]], capture_output=True, text=True, timeout=120, check=False)
+    run = subprocess.run([command[command.index("-o") + 1]], capture_output=True, text=True, timeout=3600, check=False)
     same(f"{name}: status and output", (run.returncode, run.stdout), (0, "40000\n"))
     print(f"{name}: built without a warning, and prints 40000")
 

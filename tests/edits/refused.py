@@ -1,41 +1,43 @@
-"""Tries wrong bodies, many over one load of the libraries: the prover must refuse each.
+"""Tries wrong bodies, many over one load of the libraries: the prover must refuse each, and prove its twin.
 
     refused.py [--libraries FOLDER] [--proved | --gate PIPE] [--count FILE] [--all]
         [CRATE | CRATE/NAME.edit | CRATE/more/NAME.edit ..]
 
 Without --all, or an edit's own name, those of the folders `more` are left out: `./test` tries one for each public
-function that a wrong body can be made of, but for most of those that only hand a call on, and those of the faults that
-a lock, a judge or a picture must not have; the others take as long again.
+function that a wrong body can be made of, but for most of those that only hand a call on, those of the faults that a
+lock, a judge or a picture must not have, and those that a page names; the others take as long again.
 
-An edit is a file tests/edits/CRATE/NAME.edit or tests/edits/CRATE/more/NAME.edit, in the form of the kit's must-fail
-edits: a line `file:`, then pairs of lines `old:` and `new:`. A function is proved from the contracts of those that it
-calls, so edits of several functions are tried in one copy of the crate, and of all other functions no more is left
-in it than their contracts: the prover says of an edited function which of its own goals aren't proved. Edits of one
-function are tried one after another. Where it says only that a function calls one which isn't proved, the edit is
-tried once more with the bodies and proofs of all that the function calls. An edit that changes the bodies of several
-functions is tried alone, and so is one with a line `by: FUNCTION`, which names a function that must not be proved with
-it: what it changes is no body.
+The head of edits.py says what an edit is. A function is proved from the contracts of those that it calls, so edits of
+several functions are tried in one copy of the crate, and of all other functions no more is left in it than their
+contracts: the prover says of an edited function which of its own goals aren't proved. Edits of one function are tried
+one after another. Where it says only that a function calls one which isn't proved, the edit is tried once more with the
+bodies and proofs of all that the function calls. An edit that changes the bodies of several functions is tried alone,
+and so is one with a line `by:`.
 
 Before that, the same functions are tried without an edit, in the same form, and what was proved is begun with: one that
 isn't proved then, for its own sake, fails the crate. With --proved that is left out, for crates that a gate has just
 proved as they are: of all that a proof may name, a copy lacks no more than the contracts' proofs of other functions, and
-an edit whose proof lacks a name shows nothing. Another function that isn't proved for its own sake beside an edit fails
-the crate, too. With --gate it is left out, too, and a crate is begun with once a gate has proved it, which says so by a
+an edit whose proof lacks a name shows nothing. Another function that isn't proved for its own sake beside edits fails
+them, too. With --gate it is left out, too, and a crate is begun with once a gate has proved it, which says so by a
 line with the crate's name in PIPE. Until that has proved all crates, half of the processors are used.
 
 An edit is refused if the prover doesn't prove the edited function for its own sake, and names a goal of its contract,
 or a fault in the function's proof by hand. One that is tried alone is refused if one of its functions isn't proved so.
 It fails if the function is proved, if it can't be applied or compiled, and if it shows nothing of the contract: where
 the goals that aren't proved are only that a number fits, an index is within or a divisor isn't 0; where the prover
-doesn't cover the form of the new body; and where a proof by hand only lacks names that the edit took away. Change a
-value then, and keep the form and the names. Where only the invariant of a loop isn't proved, which is a part of the
-present proof, or only what a call requires, the line says so. An edit without a line `by:` must lie in a body.
+doesn't cover the form of the new body; where a proof by hand only lacks names that the edit took away; and where its
+twin isn't proved, so that the right body in this form is refused, too. Change a value then, and keep the form and the
+names. Where only the invariant of a loop isn't proved, which is a part of the present proof, or only what a call
+requires, the line says so, and where the edit owes a twin. Twins are tried as edits are, in rounds of their own. Where
+something is wrong with one of a round, each half is tried, and so on, until each that can't be is told by its name.
 
 The libraries are those of FOLDER, each in a folder of its crate's name, and else those in crates/*/out. Where they
-can't be used together, that is one failure, and nothing is tried. What `rt check` kept is begun with, if there is any.
-How many were refused and how many failed is the last line, and goes to the file FILE. No edit at all fails."""
+can't be used together, or one in crates/*/out is older than its crate's text, that is one failure, and nothing is
+tried. What `rt check` kept is begun with, if there is any. How many were refused and how many failed is the last line,
+and goes to the file FILE. No edit at all fails."""
 import argparse
 import concurrent.futures
+import copy
 import os
 import re
 import shutil
@@ -45,13 +47,11 @@ import tempfile
 import threading
 import time
 
-FOLDER = os.path.dirname(os.path.abspath(__file__))
-TOP = os.path.dirname(os.path.dirname(FOLDER))
+from edits import FOLDER, FUNCTION, TOP, Edit, Failed, body_at, function_at, place_of, text_of
+
 PARTS = ("src", "specs", "proofs")
 # So many edits of a crate one process tries at most: those of larger crates are the end of the gate.
 MOST = 24
-FUNCTION = re.compile(r'^( *)(?:pub(?:\([a-z]+\))? )?(?:extern "C" )?fn (\w+)', re.M)
-IMPL = re.compile(r"^impl(?:<((?:[^<>{]|<[^<>{]*>)*)>)? (?:([\w:]+)(?:<(\w*)[^{]*>)? for )?([^{]+?) *(?:where [^{]*)?\{", re.M)
 STATED = re.compile(r"^fn (\S+): (.*)$", re.M)
 # What the prover says of libraries that were built of different texts.
 UNUSABLE = re.compile(r"^.*error\[unusable-built-library\].*$", re.M)
@@ -59,6 +59,11 @@ UNUSABLE = re.compile(r"^.*error\[unusable-built-library\].*$", re.M)
 LACKS_NAMES = "only the names are missing that the edit took away"
 NOT_COVERED = "the prover doesn't cover the form of the new body"
 SAFE = "only a number may not fit, or an index not be within, in the new body"
+# What it says of a function whose own goals are all proved, and of one of whose goals some weren't tried.
+UNPROVED_CALLS = "no proof: it calls "
+WAITING = re.compile(r"^note: `search` has not tried the goals of `([^`]+)`", re.M)
+# What the compiler says of a text that it doesn't take.
+ERROR = re.compile(r"^.*\berror\[[\w-]+\].*$", re.M)
 # The goals that `search` left open, one of them, and those that no contract states.
 GOALS = re.compile(r"`search` did not prove ((?:`[^`]+`(?:, )?)+)")
 GOAL = re.compile(r"`([^`]+)`")
@@ -74,10 +79,6 @@ ANSWER = re.compile(r": error: `([^`]+)`: ")
 # What a proof says that cites a name which the edit took away, or a declaration that was rejected for one.
 NAMES = re.compile(r"has no field|is not in scope|has no `|was not admitted|rattle does not read"
                    r"|is not admitted: rejected|, which was rejected, ")
-
-
-class Failed(Exception):
-    """What is wrong with an edit or a crate."""
 
 
 class Unusable(Exception):
@@ -128,13 +129,25 @@ class Crate:
         libraries = [f"std={rlibs}/std.rlib"]
         for it in uses[name]:
             libraries.append(f"{it}={place(it)}/{it}.rlib" if it in uses else f"{it}={rlibs}/{it}.rlib")
-        self.below = {it: f"{place(it)}/{it}.rlib" for it in sorted(below)}
+        self.below, self.is_by_hand = {it: f"{place(it)}/{it}.rlib" for it in sorted(below)}, not built
         folders = [rlibs, *sorted(place(it) for it in below)]
         root = "src/main.rt" if os.path.isfile(f"{self.folder}/src/main.rt") else "src/lib.rt"
         self.words = [f"{kit}/bin/rattle", "check", "--crate-name", name, root, "--links", f"{name}=", "--jobs", "1"]
         self.words += [word for it in libraries for word in ("--extern", it)]
         self.words += [word for it in folders for word in ("-L", f"dependency={it}")]
         self.words += ["--antt-project", f"{kit}/rattle/logic/antt-project.json", "--logic-built", f"{kit}/logic_built"]
+
+    def hold_libraries(self):
+        """Raises what is wrong with the libraries below: one that isn't there, or was built of other texts than there
+        are, by hand. `rt` stamps a library when it is built."""
+        for it, library in self.below.items():
+            if not os.path.isdir(library):
+                raise Unusable(f"{it} isn't built")
+            stamp = f"{os.path.dirname(library)}/stamp"
+            texts = [f"{at}/{name}" for part in PARTS for at, _, names in os.walk(f"{TOP}/crates/{it}/{part}") for name in names]
+            newer = [text for text in texts if not os.path.isfile(stamp) or os.path.getmtime(stamp) < os.path.getmtime(text)]
+            if self.is_by_hand and newer:
+                raise Unusable(f"{it} is older than {os.path.relpath(min(newer), TOP)}, and `rt check` builds it anew")
 
     def sources(self):
         """The files of its code, by their path below the crate."""
@@ -165,8 +178,6 @@ class Crate:
     def check(self, room, kept, edits, functions, is_bare=False):
         """What the prover says of these functions, with the edits, over what was kept; if it is bare, with the contracts
         of all others alone, and else with the bodies and proofs of those that they call."""
-        if missing := [it for it, library in self.below.items() if not os.path.isdir(library)]:
-            raise Unusable(f"{missing[0]} isn't built")
         with tempfile.TemporaryDirectory(dir=room) as copy:
             for part in PARTS:
                 if os.path.isdir(f"{self.folder}/{part}"):
@@ -193,74 +204,6 @@ class Crate:
         return self.check(room, kept, edits, {function for edit in edits for function in edit.functions}, is_bare)
 
 
-class Edit:
-    """A wrong body: the places that it changes, and the functions that it is refused by, by the ends of their paths. Its
-    name is its path below the crate's folder."""
-
-    def __init__(self, crate, name):
-        self.name, self.pairs, by, old, file, text = name, [], set(), None, None, None
-        for key, value in self.lines(f"{FOLDER}/{crate.name}/{name}"):
-            if (key == "new") != (old is not None):
-                raise Failed(f"{self.name}: an old text and a new one stand in pairs")
-            if key == "file":
-                file, text = value, text_of(f"{crate.folder}/{value}")
-            elif key == "by":
-                by.add(value)
-            elif key == "old":
-                old = value
-                if not text or text.count(old) != 1:
-                    raise Failed(f"{self.name}: its text stands in {file} {text.count(old) if text else 0} times: {old}")
-            else:
-                self.pairs.append((file, text.index(old), old, value))
-                old = None
-        if not self.pairs or old is not None:
-            raise Failed(f"{self.name}: an old text and a new one are missing")
-        edited = set() if by else {self.edited(crate, *pair) for pair in self.pairs}
-        self.functions = sorted(by or edited)
-        self.is_alone = bool(by) or len(edited) > 1
-
-    def lines(self, path):
-        """The keys and values of its lines. A space behind a key is no part of the value."""
-        for line in text_of(path).split("\n"):
-            key, colon, value = line.partition(":")
-            if line and (key not in ("file", "by", "old", "new") or not colon):
-                raise Failed(f"{self.name}: what is this line: {line}")
-            if line:
-                yield key, value.removeprefix(" ").strip() if key in ("file", "by") else value.removeprefix(" ")
-
-    def edited(self, crate, file, at, old, _new):
-        """The function whose body has this place."""
-        text = text_of(f"{crate.folder}/{file}")
-        function = function_at(file, text[: at + len(old)])
-        begin = [found.start() for found in FUNCTION.finditer(text[: at + len(old)])][-1]
-        indent = re.match(" *", text[begin:])[0]
-        opened = re.compile(rf"^{indent}(?:\S.*)?[{{;}}]$", re.M).search(text, begin)
-        if opened and at < opened.end() and opened[0].endswith("{"):
-            raise Failed(f"{self.name}: it changes what stands before the body of {function}: {old}")
-        return function
-
-
-def text_of(path):
-    """The text of a file of the repository."""
-    if not os.path.isfile(path):
-        raise Failed(f"there is no file {os.path.relpath(path, TOP)}")
-    with open(path, encoding="utf-8") as file:
-        return file.read()
-
-
-def function_at(file, before):
-    """The function that a file's text ends in: the end of its path, as the prover prints it."""
-    found, impl = [*FUNCTION.finditer(before)], [*IMPL.finditer(before)]
-    module = file.removeprefix("src/").removesuffix(".rt").replace("/", "::")
-    if not found:
-        raise Failed(f"{file}: no function stands before an edit")
-    name = found[-1][2]
-    if found[-1][1] and impl:
-        parameters, trait, of_trait, of = impl[-1].groups(default="")
-        return f"{in_part(of, before) or type_name(of, parameters)}{trait.split('::')[-1]}{of_trait}::{name}"
-    return name if module in ("lib", "main") else f"{module}::{name}"
-
-
 def named_at(folder, file, line):
     """The function that stands at a line of a file below the folder, if one does: what is derived stands at its type."""
     text = text_of(f"{folder}/{file}")
@@ -271,45 +214,13 @@ def named_at(folder, file, line):
     return function_at(file, text[: end + 1]) if closed and begin <= closed.start() else "no function"
 
 
-def type_name(of, parameters):
-    """A type as the prover prints it in a path: `Option<Stamp>` as OptionStamp, without the impl's parameters, and
-    a pair of those as Tuple2."""
-    pair = re.fullmatch(r"\(\w+(?:, \w+)+\)", of)
-    if pair:
-        return f"Tuple{of.count(',') + 1}"
-    dropped = re.findall(r"(?:const )?(\w+)", parameters.split(":")[0]) + re.findall(r", *(?:const )?(\w+)", parameters)
-    words = re.findall(r"\(\)|'\w+|\w+", of)
-    kept = [word for word in words if word[0] != "'" and word not in dropped]
-    return "".join("Unit" if word == "()" else word[0].upper() + word[1:] for word in kept)
-
-
-def in_part(of, before):
-    """A type of which the impl gives some arguments and leaves others to their defaults, as the prover prints it;
-    nothing for any other."""
-    name, _, given = of.removesuffix(">").partition("<")
-    declared = re.search(rf"^pub struct {name}<((?:[^<>{{]|<[^<>]*>)*)>", before, re.M)
-    outside = lambda text: re.sub(r"<[^<>]*>", "", text).split(",")
-    is_part = given and declared and len(outside(given)) < len(outside(declared[1]))
-    return "+".join([name, *re.findall(r"\w+", given)]) if is_part else ""
-
-
-def place_of(file, function):
-    """The folder of a function's proof, below `proofs`."""
-    module, place = file.removeprefix("src/").removesuffix(".rt"), function.replace("::", "/")
-    is_whole = module in ("lib", "main") or place.startswith(f"{module}/")
-    return place if is_whole else f"{module}/{place}"
-
-
 def without_body(text, at):
     """The text, where the function whose name ends there has a body that calls nothing, if its body has lines of its
-    own: they stand between two braces at the ends of lines that are indented as the function is."""
+    own."""
     begin = text.rfind("\n", 0, at) + 1
+    body = body_at(text, begin)
     indent = re.match(" *", text[begin:])[0]
-    opened = re.compile(rf"^{indent}(?:\S.*)?[{{;}}]$", re.M).search(text, begin)
-    if not opened or not opened[0].endswith("{"):
-        return text
-    closed = re.compile(rf"^{indent}}}$", re.M).search(text, opened.end())
-    return f"{text[: opened.end()]}\n{indent}    loop {{}}\n{text[closed.start() :]}"
+    return f"{text[: body[0]]}\n{indent}    loop {{}}\n{text[body[1] :]}" if body else text
 
 
 def owner_of(function):
@@ -375,8 +286,8 @@ def named(function, stated):
 def stated_by(said):
     """What the prover says of each function."""
     stated = dict(STATED.findall(said))
-    if re.search(r"\berror\[[\w-]+\]", said) or not stated:
-        raise Failed(f"an edit doesn't compile: {said[:600]}")
+    if (error := ERROR.search(said)) or not stated:
+        raise Failed(f"it doesn't compile: {error[0] if error else said[:600]}")
     return stated
 
 
@@ -404,9 +315,10 @@ def judged(crate, edits, said, calls, is_bare):
     edited = {named(edit.functions[0], stated): edit for edit in edits}
     unproved = {function for function, word in stated.items() if not word.startswith("proved")}
     below = {it: unproved & {*re.findall(r"`([\w:+]+)`", stated[it])} - {it} for it in unproved}
+    waiting = {*WAITING.findall(said)}
     for function in unproved:
         if not is_bare and owner_of(function) not in edited and ("did not prove" in stated[function] or not below[function]):
-            raise Failed(f"{function} isn't edited, and it is: {stated[function]}")
+            raise Failed(f"{function} isn't edited, and with it {function} is {stated[function]}")
     told = {}
     for function, edit in edited.items():
         own = {it for it in unproved if owner_of(it) == function}
@@ -416,6 +328,8 @@ def judged(crate, edits, said, calls, is_bare):
         whys = [why for why in (why_of(it, crate, said) for it in sorted(own)) if why]
         if whys or any(not below[it] - own for it in own):
             told[edit.name] = verdict_on(whys, stated[min(own)], said)
+        elif edit.is_twin and is_bare and all(stated[it].startswith(UNPROVED_CALLS) and it not in waiting for it in own):
+            told[edit.name] = f"NOT REFUSED: {function} is proved with it, but for the bodies of those that it calls"
         else:
             owners = {owner_of(other) for it in own for other in below[it]}
             calls[edit.functions[0]] = {edited[it].functions[0] for it in owners & {*edited}} or {edit.functions[0]}
@@ -437,14 +351,10 @@ def try_without_edits(crate, room, kept, functions, is_bare):
 
 
 def edits_of(crate, more):
-    """The crate's edits, by their path below its folder, which has nothing else."""
+    """The crate's edits, by their path below its folder, and whatever else is there, which is none."""
     folder = f"{FOLDER}/{crate}"
-    rooms = [room for room in ("", "more/") if os.path.isdir(f"{folder}/{room}")]
-    found = [room + name for room in rooms for name in os.listdir(f"{folder}/{room}")]
-    for name in found:
-        if not (name == "more" and os.path.isdir(f"{folder}/more")) and not name.endswith(".edit"):
-            raise Failed(f"tests/edits/{crate}/{name} is no edit")
-    return sorted(it for it in found if it.endswith(".edit") and (more or not it.startswith("more/")))
+    rooms = [room for room in ("", "more/") if os.path.isdir(f"{folder}/{room}") and (more or not room)]
+    return sorted(room + name for room in rooms for name in os.listdir(f"{folder}/{room}") if room or name != "more")
 
 
 def take_kept(begun_with, kept):
@@ -486,9 +396,27 @@ def apart(begun_with, trying, crate, *edits):
 
 
 def try_round(kept, crate, edits):
-    """Tries the edits of a round, over the contracts of all other functions, and gives what came of those judged."""
+    """Tries the edits of a round, over the contracts of all other functions, and gives what came of those judged. Where
+    something is wrong with one, each half of the round is tried."""
     with tempfile.TemporaryDirectory() as room:
-        return judged(crate, edits, crate.tried(room, kept, edits, is_bare=True), {}, is_bare=True)
+        try:
+            return judged(crate, edits, crate.tried(room, kept, edits, is_bare=True), {}, is_bare=True)
+        except Failed as fault:
+            if len(edits) == 1:
+                return {edits[0].name: f"FAILED: {fault}"}
+    half = len(edits) // 2
+    return try_round(kept, crate, edits[:half]) | try_round(kept, crate, edits[half:])
+
+
+def try_together(room, kept, crate, edits, calls):
+    """Tries edits with the bodies and proofs of all that their functions call, and gives what came of those judged.
+    Where something is wrong with one, each is tried for itself."""
+    try:
+        return judged(crate, edits, crate.tried(room, kept, edits), calls, is_bare=False)
+    except Failed as fault:
+        if len(edits) == 1:
+            return {edits[0].name: f"FAILED: {fault}"}
+    return {name: what for it in edits for name, what in try_together(room, kept, crate, [it], calls).items()}
 
 
 def try_whole(kept, crate, several, alone):
@@ -497,49 +425,78 @@ def try_whole(kept, crate, several, alone):
     with tempfile.TemporaryDirectory() as room:
         while several:
             now = round_of(several, calls)
-            told = judged(crate, now, crate.tried(room, kept, now), calls, is_bare=False) if now else {}
+            told = try_together(room, kept, crate, now, calls) if now else {}
             if not told:
                 # Each calls another of them by way of a function that isn't edited.
                 alone, several = alone + several, []
             lines |= told
             several = [it for it in several if it.name not in told]
         for edit in alone:
-            lines |= judged_alone(crate, edit, crate.tried(room, kept, [edit]))
+            try:
+                lines |= judged_alone(crate, edit, crate.tried(room, kept, [edit]))
+            except Failed as fault:
+                lines[edit.name] = f"FAILED: {fault}"
+    return lines
+
+
+def read(crate, names):
+    """The edits of these names, and what is wrong with the others."""
+    edits, lines = [], {}
+    for name in names:
+        try:
+            if not name.endswith(".edit"):
+                raise Failed("it is no edit")
+            edits.append(Edit(crate, name))
+        except Failed as fault:
+            lines[name] = f"FAILED: {fault}"
+    return edits, lines
+
+
+def twin_of(edit):
+    """The edit's twin, as an edit that must be proved."""
+    twin = copy.copy(edit)
+    twin.name, twin.pairs, twin.is_twin = f"the twin of {edit.name}", edit.twins, True
+    return twin
+
+
+def with_twins(lines, edits):
+    """What came of edits: one that is refused shows nothing if its twin is, too."""
+    for edit in edits:
+        twin = lines.pop(f"the twin of {edit.name}", "NOT REFUSED")
+        if not lines[edit.name].startswith("refused"):
+            continue
+        if not twin.startswith("NOT REFUSED"):
+            lines[edit.name] = f"{'FAILED' if twin.startswith('FAILED') else 'SHOWS NOTHING'}: its twin: {twin}"
+        elif edit.owes_twin():
+            lines[edit.name] += " (it owes a twin)"
     return lines
 
 
 def lines_of(pool, crate, names, options, kept):
-    """What came of these edits of the crate. What is wrong with one is told by each round, and said once."""
+    """What came of these edits of the crate."""
     crate.gate.proved[crate.name].wait()
-    begun, lines, faults = time.monotonic(), {}, set()
-
-    def gather(*tasks):
-        for task in tasks:
-            try:
-                lines.update(task.result())
-            except Failed as fault:
-                faults.add((crate.name, f"FAILED: {fault}"))
-
+    crate.hold_libraries()
+    begun = time.monotonic()
+    edits, lines = read(crate, names)
+    gather = lambda *tasks: [lines.update(task.result()) for task in tasks]
     take_kept(f"{crate.folder}/out/incremental", kept)
-    try:
-        edits = [Edit(crate, name) for name in names]
-    except Failed as fault:
-        return [(crate.name, f"FAILED: {fault}")]
     if not (options.proved or options.gate):
-        gather(pool.submit(begin, crate, edits, kept))
-    if faults:
-        return [*faults]
-    several, alone = [it for it in edits if not it.is_alone], [it for it in edits if it.is_alone]
-    rounds = rounds_of(several)
+        try:
+            gather(pool.submit(begin, crate, edits, kept))
+        except Failed as fault:
+            return [(crate.name, f"FAILED: {fault}")]
+    tried = edits + [twin_of(it) for it in edits if it.twins]
+    several, alone = [it for it in tried if not it.is_alone], [it for it in tried if it.is_alone]
+    # Twins have rounds of their own: there all functions are proved, so that none calls one that isn't.
+    rounds = rounds_of([it for it in several if it in edits]) + rounds_of([it for it in several if it not in edits])
     # The others begin with what the first leaves there.
     gather(*[pool.submit(try_round, kept, crate, now) for now in rounds[:1]])
     gather(*[pool.submit(apart, kept, try_round, crate, now) for now in rounds[1:]],
            *[pool.submit(apart, kept, try_whole, crate, [], [edit]) for edit in alone])
-    left = [it for it in several if it.name not in lines] if not faults else []
-    gather(pool.submit(try_whole, kept, crate, left, []))
-    seconds = round(time.monotonic() - begun)
-    print(f"{crate.name}: {len(lines)} edits tried, in {len(rounds)} rounds and {seconds} seconds", flush=True)
-    return sorted({*faults, *((f"{crate.name}/{name}", what) for name, what in lines.items())})
+    gather(pool.submit(try_whole, kept, crate, [it for it in several if it.name not in lines], []))
+    seconds, twins = round(time.monotonic() - begun), len(tried) - len(edits)
+    print(f"{crate.name}: {len(edits)} edits and {twins} twins tried, in {len(rounds)} rounds and {seconds} seconds", flush=True)
+    return sorted((f"{crate.name}/{name}", what) for name, what in with_twins(lines, edits).items())
 
 
 def options_of(words):

@@ -1,4 +1,4 @@
-"""Fails unless each public function of the libraries has a wrong body that each `./test` tries.
+"""Fails unless each public function of the libraries has a wrong body that each `./test` tries, and each can be applied.
 
     uncovered.py
 
@@ -8,8 +8,12 @@ is another library's. A function has a wrong body if an edit of tests/edits/CRAT
 folder `more`, which `./test` leaves out, count only for a method of `stamped_lock` that is one expression: most of those
 hand a call on to the layer below, and some of them say for all that such a body is refused."""
 import glob
+import os
 import re
 import sys
+import types
+
+from edits import Edit, Failed
 
 IMPL = re.compile(r"^impl(?:<(?:[^<>{]|<[^<>{]*>)*>)? (?:[\w:<>]+ for )?(\w+)[^{]*\{$.*?^\}$", re.M | re.S)
 # The library whose methods of one expression may have their wrong body in `more`.
@@ -53,17 +57,26 @@ def is_one_expression(text):
     return not STATEMENT.search(text, opened.end())
 
 
-def edited(folder, crate):
-    """The places that the edits of a folder change, by the file, and the functions that an edit's lines `by:` name."""
-    for path in glob.glob(f"tests/edits/{folder}/*.edit"):
-        text, file = text_of(path), None
+def read_all():
+    """The edits that can be applied, by their crate and folder, and what is wrong with the others."""
+    edits, faults = {}, []
+    for path in sorted(glob.glob("tests/edits/*/**/*.edit", recursive=True)):
+        crate, name = path.removeprefix("tests/edits/").split("/", 1)
+        try:
+            edit = Edit(types.SimpleNamespace(name=crate, folder=f"crates/{crate}"), name)
+            edits.setdefault(os.path.dirname(f"{crate}/{name}"), []).append(edit)
+        except Failed as fault:
+            faults.append(f"{path}: {fault}")
+    return edits, faults
+
+
+def places_in(crate, edits):
+    """The places that edits of a crate change, by the file, and the functions that an edit's lines `by:` name."""
+    for edit in edits:
         # the prover writes a type of one impl as `Type+Argument`
-        by = {f"::{re.sub(r'[+][A-Za-z]+', '', name)}" for name in re.findall(r"^by: (\S+)$", text, re.M)}
-        for key, value in re.findall(r"^(file|old): (.*)$", text, re.M):
-            if key == "file":
-                file = f"crates/{crate}/{value.strip()}"
-            else:
-                yield file, text_of(file).index(value), by
+        by = {f"::{re.sub(r'[+][A-Za-z]+', '', name)}" for name in edit.by}
+        for file, at, _, _ in edit.pairs:
+            yield f"crates/{crate}/{file}", at, by
 
 
 def is_covered(path, begin, end, name, places):
@@ -73,12 +86,13 @@ def is_covered(path, begin, end, name, places):
 
 
 def main():
-    count, missing = 0, []
+    count, missing, (edits, faults) = 0, [], read_all()
     for root in sorted(glob.glob("crates/*/src/lib.rt")):
         crate = root.split("/")[1]
         if crate.endswith("_tests"):
             continue
-        names, places, more = exported(crate), [*edited(crate, crate)], [*edited(f"{crate}/more", crate)]
+        names = exported(crate)
+        places, more = ([*places_in(crate, edits.get(folder, []))] for folder in (crate, f"{crate}/more"))
         for path in sorted(glob.glob(f"crates/{crate}/src/*.rt")):
             text = text_of(path)
             for begin, end, name, is_public in functions_of(text):
@@ -87,8 +101,8 @@ def main():
                     hands_on = crate == HANDS_ON and is_one_expression(text[begin:end])
                     if not is_covered(path, begin, end, name, places + more if hands_on else places):
                         missing.append(f"{crate}: {name} ({path.split('/')[-1]})")
-    if missing:
-        sys.exit("\n".join(f"no wrong body: {it}" for it in missing))
+    if faults or missing:
+        sys.exit("\n".join(faults + [f"no wrong body: {it}" for it in missing]))
     print(f"each of {count} public functions has a wrong body")
 
 

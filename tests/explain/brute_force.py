@@ -224,7 +224,7 @@ def change(chance, entries):
 
 
 def output_of(words, text):
-    run = subprocess.run(words, input=text.encode(), capture_output=True, timeout=60)
+    run = subprocess.run(words, input=text.encode(), capture_output=True, timeout=3600)
     return run.returncode, run.stdout.decode(), run.stderr.decode()
 
 

@@ -18,7 +18,7 @@ CALLS = {"try_write", "try_read", "write_lock", "read_lock", "optimistic", "vali
 
 
 def output_of(words, text=b""):
-    return subprocess.run(words, input=text, capture_output=True, timeout=300).stdout
+    return subprocess.run(words, input=text, capture_output=True, timeout=3600).stdout
 
 
 def explained(explain, history):

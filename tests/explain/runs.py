@@ -40,7 +40,7 @@ def calls_of(chance, thread, count, width):
 
 
 def output_of(words, text):
-    run = subprocess.run(words, input=text, capture_output=True, timeout=300)
+    run = subprocess.run(words, input=text, capture_output=True, timeout=3600)
     if run.returncode != 0:
         sys.exit(f"{words} ended with status {run.returncode}: {run.stdout[:200]} {run.stderr}")
     return run.stdout

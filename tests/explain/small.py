@@ -3,13 +3,13 @@
     small.py EXPLAIN STAMPED [CALLS [SEED]]
 
 Run at the top of the repository; it wants cc. Runs of planted.c with 4 threads and at most CALLS calls (20,000 if
-not said) with each planted bug, and runs of `stamped run` with as many calls of a lock and a record, of which a reply
-near the end is changed. The same again where each call has a lane of its own, as calls of many short-lived threads
-have. A small history has under 60 entries and is stuck at its last one: at the same call, with the same reply and the same
-possible ones, but for the versions of stamps, of which each has as many less. Where the call takes a stamp that a call
-before it was answered, so it does in the small history, one of its own thread if one of this was; and it isn't answered
-0 where it was answered a stamp. No other entry can be left out, and no two, so that it is still stuck so, by a stamp of
-the past."""
+not said) with each planted bug, the same on each machine and all stuck; and runs of `stamped run` with as many calls of
+a lock and a record, of which a reply near the end is changed. The same again where each call has a lane of its own, as
+calls of many short-lived threads have. A small history has under 60 entries and is stuck at its last one: at the same
+call, with the same reply and the same possible ones, but for the versions of stamps, of which each has as many less.
+Where the call takes a stamp that a call before it was answered, so it does in the small history, one of its own thread
+if one of this was; and it isn't answered 0 where it was answered a stamp. No other entry can be left out, and no two,
+so that it is still stuck so, by a stamp of the past."""
 import itertools
 import json
 import os
@@ -32,7 +32,7 @@ PATTERNS = [
 
 
 def output_of(words, text=b""):
-    ran = subprocess.run(words, input=text, capture_output=True, timeout=600)
+    ran = subprocess.run(words, input=text, capture_output=True, timeout=3600)
     return ran.returncode, ran.stdout, ran.stderr.decode()
 
 
@@ -239,10 +239,10 @@ def main():
     chance = random.Random(seed)
     for name, runs in {**planted_runs(calls, seed), **changed_runs(stamped, calls, seed)}.items():
         runs = [*runs, *(in_lanes(run, chance) for run in runs)]
-        made = [small for small in (made_small(explain, run, name) for run in runs) if small]
-        if not made:
-            sys.exit(f"{name}: no run is stuck")
-        print(f"small: {name}: {'; '.join(made)}")
+        made = [made_small(explain, run, name) for run in runs]
+        if not any(made) or (name in BUGS and not all(made)):
+            sys.exit(f"{name}: runs that are not stuck: {made.count(None)} of {len(made)}")
+        print(f"small: {name}: {'; '.join(filter(None, made))}")
 
 
 main()

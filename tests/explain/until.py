@@ -28,7 +28,7 @@ CASES = [
 
 
 def output_of(words, text):
-    return subprocess.run(words, input=text, capture_output=True, text=True, timeout=60).stdout
+    return subprocess.run(words, input=text, capture_output=True, text=True, timeout=3600).stdout
 
 
 def main():

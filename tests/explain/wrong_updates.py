@@ -69,7 +69,7 @@ def runs_in(top):
             with open(f"{cases}/{name}-{run}", "w", encoding="utf-8") as case:
                 case.write(f"{readers}\n")
     ran = subprocess.run(["rt", "try", "--cases", cases, "--", THREADS, ROUNDS], cwd=f"{top}/crates/observed_handles",
-                         stdin=subprocess.DEVNULL, capture_output=True, text=True, timeout=600)
+                         stdin=subprocess.DEVNULL, capture_output=True, text=True)
     printed = re.findall(r"^== (\w+)-\d+\n(.*)$", ran.stdout, re.M)
     runs = {name: [text for case, text in printed if case == name] for name in UPDATES}
     if ran.returncode != 0 or any(len(texts) != RUNS for texts in runs.values()):
@@ -78,7 +78,7 @@ def runs_in(top):
 
 
 def output_of(words, text):
-    return subprocess.run(words, input=text.encode(), capture_output=True, timeout=300).stdout.decode()
+    return subprocess.run(words, input=text.encode(), capture_output=True, timeout=3600).stdout.decode()
 
 
 def judged(explain, stamped, run):

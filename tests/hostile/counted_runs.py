@@ -31,7 +31,7 @@ class CountedRuns:
             marker, left = os.path.join(room, "refused"), os.path.join(room, "left")
             env = dict(os.environ, LD_PRELOAD=self.shims, REFUSED=marker, LEFT=left)
             env.update({name: str(number) for name, number in refused.items()})
-            ran = subprocess.run(words, input=text, capture_output=True, env=env, timeout=60)
+            ran = subprocess.run(words, input=text, capture_output=True, env=env, timeout=3600)
             if number_in(left) != 0:
                 sys.exit(f"{words} of {text[:400]}, {refused}: blocks left: {number_in(left)}")
             name = os.path.basename(words[0])

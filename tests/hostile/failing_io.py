@@ -14,6 +14,7 @@ import tempfile
 from counted_runs import CountedRuns
 
 REPLAY = b'{"calls":[["try_read"],["to_write",257]],"readers":1,"versions":1}'
+OBSERVING = b'{"calls":[["optimistic"],["validate",256]],"readers":127,"versions":1000}'
 SCRIPT = b'{"readers":1,"steps":[0,0],"threads":[[["try_write"]]],"versions":1,"width":0}'
 ENTRY = b'{"call":["try_write"],"first":0,"last":1,"point":1,"reply":%s,"thread":0}'
 HISTORY = b'{"entries":[' + ENTRY + b'],"format":%s,"readers":1%s,"versions":1,"width":0}'
@@ -23,6 +24,7 @@ NEW = (HISTORY % (b"196608", b"2", b"")).replace(b'"readers"', b'"layout":2,"rea
 WRONG = HISTORY % (b"640", b"1", b"")
 TABLE = [
     (["replay"], REPLAY, b'{"replies":[257,384],"word":384}', 0),
+    (["replay"], OBSERVING, b'{"replies":[256,"yes"],"word":256}', 0),
     (["run"], SCRIPT, OLD, 0),
     (["run", "--report"], SCRIPT, TOLD, 0),
     (["check"], OLD, b"ok 1", 0),
@@ -144,7 +146,7 @@ def witness_of(runs, watch):
 def without_errors(explain):
     """Where nothing can be written to standard error, a stuck history is told as ever on standard output."""
     for words in [f"exec {explain} 2>/dev/full", f"exec {explain} 2>&-"]:
-        ran = subprocess.run(["bash", "-c", words], input=STUCK, stdout=subprocess.PIPE, timeout=60)
+        ran = subprocess.run(["bash", "-c", words], input=STUCK, stdout=subprocess.PIPE, timeout=3600)
         assert_ended([words], (ran.returncode, ran.stdout), (1, b"stuck 0\n"), "no line on standard error")
 
 

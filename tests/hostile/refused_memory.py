@@ -4,9 +4,9 @@
 
 With ample memory each ends as the table says. A refused run of `stamped`, `stamped_explain`, `stamped_watch`
 or `stamped_picture` ends with the memory line (or with none, where memory for the line is refused too),
-status 1 and nothing on standard output, or as with ample memory; of a stuck history or stream also without its
-line on standard error. One of TRIAL ends with status 1 and no output, or as with ample memory. A refused step of
-a schedule is made again there, so some refused runs end as with ample memory.
+status 1 and nothing on standard output, or as with ample memory; where a note or a witness is due, also with a line
+that there was no memory for it. One of TRIAL ends with status 1 and no output, or as with ample memory. A refused
+step of a schedule is made again there, so some refused runs end as with ample memory.
 
 No run leaves a block: what a refused call was given by value, or had made, is dropped. With a word
 of REFUSALS, TRIAL makes calls that are refused for another cause than want of memory.
@@ -118,9 +118,13 @@ def bad_line(program):
     return 2, b"", line_of(program, "bad command line")
 
 
+def no_note(program):
+    return line_of(program, "no memory for the note")
+
+
 def drawn(picture, text, status, *words):
     """What the program draws, or tells of itself, with ample memory; tests/pictures.py looks at pictures."""
-    ran = subprocess.run([picture, *words], input=text, capture_output=True, timeout=60)
+    ran = subprocess.run([picture, *words], input=text, capture_output=True, timeout=3600)
     return status, ran.stdout, b""
 
 
@@ -146,6 +150,7 @@ def main():
     told, untold, unwatched, undrawn = (
         [(1, b"", line_of(it, "memory")), (1, b"", b"")] for it in (stamped, explain, watch, picture)
     )
+    unwitnessed = [(1, b"stuck 4\n", line_of(watch, "no memory for the witness") + UNREAD_LINE)]
     table = [
         ([stamped, "replay"], REPLAY, (0, REPLIES, b""), told),
         ([stamped, "replay"], WAITS, (1, b"", b"stamped: call 1 waits\n"), told),
@@ -166,15 +171,17 @@ def main():
     ]
     table += [
         ([explain], OBSERVED % b"384", (0, FOUND, b""), untold),
-        ([explain, "--most", "9"], OBSERVED % b"385", (1, b"stuck 1\n", STUCK_LINE), [*untold, (1, b"stuck 1\n", b"")]),
+        ([explain, "--most", "9"], OBSERVED % b"385", (1, b"stuck 1\n", STUCK_LINE),
+         [*untold, (1, b"stuck 1\n", no_note(explain))]),
         ([explain, "--most", "1"], OBSERVED % b"384", (1, b"undecided 0\n", b""), untold),
         ([explain], OVERLAPPING, (1, b"bad 1 overlap\n", b""), untold),
         ([explain], NO_THREAD, (1, b"", b"stamped_explain: not a history: top\n"), untold),
         ([explain, "--judge"], OBSERVED % b"384", (0, b"ok 2\n", b""), untold),
-        ([explain, "--told", "--most", "9"], OBSERVED % b"384", (0, FOUND, TRIED_LINE), [*untold, (0, FOUND, b"")]),
-        ([explain, "--small"], OBSERVED % b"385", (1, SMALL, STUCK_LINE), [*untold, (1, SMALL, b"")]),
+        ([explain, "--told", "--most", "9"], OBSERVED % b"384", (0, FOUND, TRIED_LINE),
+         [*untold, (0, FOUND, no_note(explain))]),
+        ([explain, "--small"], OBSERVED % b"385", (1, SMALL, STUCK_LINE), [*untold, (1, SMALL, no_note(explain))]),
         ([explain, "--judge", "--small"], WRONG_GET % BESIDE, (1, WRONG_GET % b"", WRONG_GET_LINE),
-         [*untold, (1, WRONG_GET % b"", b"")]),
+         [*untold, (1, WRONG_GET % b"", no_note(explain))]),
         ([explain, "--judge"], b"", NO_INPUT, untold),
         ([explain, "--help"], b"", drawn(explain, b"", 0, "--help"), untold),
         ([explain, "--most"], b"", bad_line(explain), untold),
@@ -182,8 +189,9 @@ def main():
         ([explain, b"\xff"], b"", bad_line(explain), untold),
         ([watch], WRITTEN, (0, b"ok 1\n", b""), unwatched),
         ([watch], WRITTEN[:-1], (1, b"bad 1 cut\n", b""), unwatched),
-        *(([watch, *words], UNREAD, (1, b"stuck 4\n", UNREAD_LINE), [*unwatched, (1, b"stuck 4\n", b"")])
-          for words in (["--most", "9"], ["--witness", "/dev/null"])),
+        *(([watch, *words], UNREAD, (1, b"stuck 4\n", UNREAD_LINE),
+           [*unwatched, (1, b"stuck 4\n", no_note(watch)), *more])
+          for words, more in ([["--most", "9"], []], [["--witness", "/dev/null"], unwitnessed])),
         ([watch], b"stmp", (1, b"bad header cut\n", b""), unwatched),
         ([watch, "--help"], b"", drawn(watch, b"", 0, "--help"), unwatched),
         ([watch, "--most"], b"", bad_line(watch), unwatched),
@@ -199,7 +207,7 @@ def main():
         ([picture, "--text", "--width", "0"], b"", bad_line(picture), undrawn),
     ]
     right = b"", (0, b"right\n", b""), [(1, b"", b"")]
-    table += [([trial, word], *right) for word in [*REFUSALS, "make", "check", "migrate"]]
+    table += [([trial, word], *right) for word in [*REFUSALS, "worked", "make", "check", "migrate"]]
     table += [([trial], *right)]
     trials = {}
     for words, text, wanted, refusals in table:
@@ -207,7 +215,7 @@ def main():
         print(f"{[os.path.basename(words[0]), *words[1:]]}: {count} allocations refused, one in each run")
         if words[0] == trial:
             trials[words[-1]] = count, borne
-    if trials[trial][1] <= trials["make"][1]:
+    if min(trials[trial][1], trials["worked"][1]) <= trials["make"][1]:
         sys.exit(f"{trial}: no refused step was made again")
     if not 0 < trials["make"][0] == trials["check"][0] == trials["migrate"][0]:
         sys.exit(f"{trial}: judging or migrating took memory: {trials}")

@@ -37,7 +37,7 @@ def printed_by(command, programs, room):
     words = command
     for name, program in programs.items():
         words = words.replace(name, program)
-    run = subprocess.run(["bash", "-c", words], cwd=room, capture_output=True, text=True, timeout=120)
+    run = subprocess.run(["bash", "-c", words], cwd=room, capture_output=True, text=True, timeout=3600)
     return run.stdout + run.stderr
 
 

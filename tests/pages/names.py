@@ -49,7 +49,7 @@ def faults_of(page, words):
     with open(os.path.join(TOP, page), encoding="utf-8") as file:
         prose, spans = spans_of(file.read())
     known = set().union(*words.values()) | ELSEWHERE
-    for name in sorted({it for span in spans for it in re.findall(r"[A-Za-z_]\w{3,}", span)} - known):
+    for name in sorted({it for span in spans for it in re.findall(r"\b[A-Za-z_]\w{3,}", span)} - known):
         yield f"{page}: nothing is named {name}"
     for name, where in re.findall(r"`([A-Z]\w+|\w+_\w+)` \(`([\w/]+\.(?:antt|rt))`", prose):
         if not any(name in words[path] for path in words if path.endswith(f"/{where}")):

@@ -156,7 +156,7 @@ BAD = [
 
 def expect(program, words, text, written, said, status):
     """The program writes this line and says that one, if they are not empty, and ends so."""
-    run = subprocess.run([program, *words], input=text.encode(), capture_output=True, timeout=60)
+    run = subprocess.run([program, *words], input=text.encode(), capture_output=True, timeout=3600)
     found = (run.stdout.decode(), run.stderr.decode(), run.returncode)
     wanted = (written + "\n" * bool(written), f"stamped_explain: {said}\n" * bool(said), status)
     if found != wanted:
@@ -228,7 +228,7 @@ def try_forms(program):
         if most is None:
             expect(program, words, STUCK, SMALL[0][2] if "--small" in words else "stuck 2", STUCK_NOTE, 1)
         tried += 1
-    helped = subprocess.run([program, "--help"], input=SEEN.encode(), capture_output=True, timeout=60)
+    helped = subprocess.run([program, "--help"], input=SEEN.encode(), capture_output=True, timeout=3600)
     if helped.returncode or helped.stderr or not all(it.encode() in helped.stdout for it in HELPED):
         sys.exit(f"--help gives {helped}")
     for words in BAD:

@@ -39,7 +39,7 @@ UNTOLD = [([], b"", 2), (["check", "check"], b"", 2), (["check"], b"[", 1), (["r
 def line_of(program, words, text, **source):
     """The one line that is printed, without its end. The text is the input, or another source is in its place."""
     given = text if isinstance(text, bytes) else text.encode()
-    run = subprocess.run([program, *words], **(source or {"input": given}), capture_output=True, timeout=60)
+    run = subprocess.run([program, *words], **(source or {"input": given}), capture_output=True, timeout=3600)
     out, told = run.stdout.decode(), run.stderr.decode()
     line = told or out
     is_refused = line.startswith("stamped: ")
@@ -123,7 +123,7 @@ def try_untold(program):
     for words, text, status in UNTOLD:
         for end in ["2>/dev/full", "2>&-"]:
             run = subprocess.run(["bash", "-c", f'exec "$@" {end}', "-", program, *words], input=text,
-                                 stdout=subprocess.PIPE, timeout=60)
+                                 stdout=subprocess.PIPE, timeout=3600)
             if (run.returncode, run.stdout) != (status, b""):
                 sys.exit(f"{words} {end}: status {run.returncode}, output {run.stdout[:200]!r}")
     print(f"lines that can't be written: {2 * len(UNTOLD)} end with their status")

@@ -6,8 +6,8 @@ import java.util.concurrent.locks.StampedLock;
 
 /**
  * Threads make calls of one load on an observed lock, which are written to a file or a pipe as a stream:
- * {@code Loads LOAD THREADS CALLS FILE}. So many calls are made in all, or some more. {@code 600s} in place of their
- * number makes calls for so many seconds. The loads:
+ * {@code Loads LOAD THREADS CALLS FILE}. So many calls are made in all, or up to four more by each thread. {@code 600s}
+ * in place of their number makes calls for so many seconds. The loads:
  *
  * <ul>
  * <li>{@code mixed}: all calls at random, those of {@link ObservedRun}; not for so many seconds.
@@ -16,7 +16,8 @@ import java.util.concurrent.locks.StampedLock;
  * <li>{@code convert}: conversions of all kinds.
  * <li>{@code waits}: a quarter of the threads hold write mode for long, one reads, one tries to, and one asks.
  * <li>{@code stampless}: the views, which give no stamps, and questions.
- * <li>{@code wrong}: as {@code read}, of a lock by which every optimistic read is valid.
+ * <li>{@code wrong}: as {@code read}, of a lock by which every optimistic read is valid. At the end one is that a write
+ *     came in between, and then the run waits until its standard input ends.
  * </ul>
  */
 public final class Loads {
@@ -84,9 +85,14 @@ public final class Loads {
             }
             return 2;
         }
-        stamp = lock.readLock();
-        lock.unlockRead(stamp);
-        return 4;
+        lock.unlockRead(lock.readLock());
+        return stamp == 0 ? 3 : 4;
+    }
+
+    private void readWrongly() {
+        long stamp = lock.tryOptimisticRead();
+        lock.unlockWrite(lock.writeLock());
+        lock.validate(stamp);
     }
 
     private int write(Random random) {
@@ -115,7 +121,7 @@ public final class Loads {
                 if (reading != 0) {
                     lock.validate(lock.tryConvertToOptimisticRead(reading));
                 }
-                yield 4;
+                yield reading != 0 ? 4 : 2;
             }
             default -> {
                 long writing = lock.writeLock();
@@ -132,7 +138,7 @@ public final class Loads {
             change();
             lock.unlock(lock.tryConvertToReadLock(writing));
         }
-        return 4;
+        return writing != 0 ? 4 : 2;
     }
 
     private int waits(Random random, int role) {
@@ -148,6 +154,7 @@ public final class Loads {
                     spin(100);
                     lock.unlockRead(stamp);
                 }
+                return stamp != 0 ? 2 : 1;
             }
             case 2 -> {
                 lock.isWriteLocked();
@@ -163,27 +170,32 @@ public final class Loads {
     }
 
     private int stampless(Random random) {
-        switch (random.nextInt(6)) {
+        return switch (random.nextInt(5)) {
             case 0 -> hold(lock.asWriteLock(), 0);
             case 1 -> tryToHold(lock.asWriteLock());
             case 2 -> tryToHold(lock.asReadLock());
-            case 3 -> lock.isReadLocked();
-            case 4 -> lock.getReadLockCount();
+            case 3 -> {
+                lock.isReadLocked();
+                lock.getReadLockCount();
+                yield 2;
+            }
             default -> hold(lock.asReadLock(), random.nextInt(8) == 0 ? 50 : 0);
-        }
-        return 2;
+        };
     }
 
-    private static void hold(Lock view, int rounds) {
+    private static int hold(Lock view, int rounds) {
         view.lock();
         spin(rounds);
         view.unlock();
+        return 2;
     }
 
-    private static void tryToHold(Lock view) {
-        if (view.tryLock()) {
+    private static int tryToHold(Lock view) {
+        boolean isHeld = view.tryLock();
+        if (isHeld) {
             view.unlock();
         }
+        return isHeld ? 2 : 1;
     }
 
     public static void main(String[] words) throws IOException, InterruptedException {
@@ -209,6 +221,10 @@ public final class Loads {
             }
             for (Thread thread : started) {
                 thread.join();
+            }
+            if (load.equals("wrong")) {
+                loads.readWrongly();
+                System.in.read();
             }
         }
     }

@@ -2,6 +2,7 @@ import java.io.IOException;
 import java.io.OutputStreamWriter;
 import java.io.Writer;
 import java.nio.charset.StandardCharsets;
+import java.util.concurrent.CountDownLatch;
 import java.util.concurrent.ExecutorService;
 import java.util.concurrent.Executors;
 import java.util.concurrent.TimeUnit;
@@ -11,9 +12,9 @@ import java.util.concurrent.locks.StampedLock;
 
 /**
  * A cache of a quote that is slow to fetch, asked for by short-lived threads of pools, as a user of the recorder has
- * it: {@code PriceCache right|upgrade|reader SEED}. With {@code upgrade} its lock lets go of read mode before it takes
- * write mode. With {@code reader} a reader forgets to validate. Prints how many threads there were, and the observed
- * history.
+ * it: {@code PriceCache right|upgrade|reader}. With {@code upgrade} its lock lets go of read mode before it takes
+ * write mode. With {@code reader} a reader forgets to validate. Threads meet where the bugs show. Prints how many
+ * threads there were, and the observed history.
  */
 public final class PriceCache {
     private static final int POOLS = 12;
@@ -21,18 +22,45 @@ public final class PriceCache {
     private static final int ASKED_EACH = 3;
     private static final int FRESH_FOR = 12;
 
-    /** A lock for which an upgrade seldom fails: where others read, it releases the mode and acquires the other one. */
+    /**
+     * A lock for which an upgrade seldom fails: where others read, it releases the mode and acquires the other one. The
+     * first two upgrades meet: while both threads read, the first one releases, and acquires once another has written.
+     */
     private static final class EagerLock extends StampedLock {
         private static final long serialVersionUID = 1;
+        private final transient AtomicInteger upgrades = new AtomicInteger();
+        private final transient CountDownLatch both = new CountDownLatch(2);
+        private final transient CountDownLatch released = new CountDownLatch(1);
+        private final transient CountDownLatch written = new CountDownLatch(1);
 
         @Override
         public long tryConvertToWriteLock(long stamp) {
+            int number = upgrades.incrementAndGet();
+            both.countDown();
+            if (number == 2) {
+                StayingLock.pass(released);
+            }
+            if (number == 1) {
+                StayingLock.pass(both);
+            }
             long converted = super.tryConvertToWriteLock(stamp);
             if (converted != 0 || !isReadLocked()) {
                 return converted;
             }
             super.unlockRead(stamp);
+            if (number == 1) {
+                released.countDown();
+                StayingLock.pass(written);
+            }
             return super.writeLock();
+        }
+
+        @Override
+        public void unlock(long stamp) {
+            super.unlock(stamp);
+            if (isWriteLockStamp(stamp)) {
+                written.countDown();
+            }
         }
     }
 
@@ -112,6 +140,16 @@ public final class PriceCache {
         }
     }
 
+    /** Fetches a quote, whether or not the one that is kept is old. */
+    private void renew() {
+        long stamp = lock.writeLock();
+        try {
+            keep(market.fetch(), clock.incrementAndGet() + FRESH_FOR);
+        } finally {
+            lock.unlock(stamp);
+        }
+    }
+
     private long[] keep(long[] fetched, long until) {
         lock.put(() -> {
             bid = fetched[0];
@@ -139,17 +177,21 @@ public final class PriceCache {
                 pool.execute(this::ask);
             }
             pool.shutdown();
-            pool.awaitTermination(1, TimeUnit.MINUTES);
+            pool.awaitTermination(Long.MAX_VALUE, TimeUnit.NANOSECONDS);
         }
         return threads.get();
     }
 
     public static void main(String[] words) throws InterruptedException, IOException {
-        ObservedStampedLock lock = new ObservedStampedLock().withDelays(Long.parseLong(words[1]));
+        MeetingLock lock = new MeetingLock();
+        lock.withDelays(1);
+        PriceCache cache = new PriceCache(lock, words[0].equals("reader"));
         if (words[0].equals("upgrade")) {
             lock.withLock(new EagerLock());
+        } else {
+            lock.meet(cache::renew);
         }
-        int threads = new PriceCache(lock, words[0].equals("reader")).askFromPools();
+        int threads = cache.askFromPools();
         System.out.println(threads + " threads");
         try (Writer out = new OutputStreamWriter(System.out, StandardCharsets.US_ASCII)) {
             lock.writeTo(out);

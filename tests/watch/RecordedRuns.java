@@ -16,6 +16,11 @@ import java.util.concurrent.locks.StampedLock;
  */
 public final class RecordedRuns {
     private static final int THROWN_AT = 5;
+    /** Once so many levels were filled with calls, the stack is filled no more. */
+    private static final long MOST_LEVELS = 40_000;
+
+    /** The level at which the last call was made. */
+    private static volatile long deepest;
 
     /** A lock some of whose calls throw. */
     private static final class ThrowingLock extends StampedLock {
@@ -92,21 +97,26 @@ public final class RecordedRuns {
         Hanging.hang(lock);
     }
 
-    /** The program exits while calls go on. */
+    /** The program exits while a call stays, and four threads make so many more. */
     private static void exiting(Path file) throws Exception {
-        ObservedStampedLock lock = new ObservedStampedLock().withShutdownHook(file);
+        StayingLock made = new StayingLock();
+        ObservedStampedLock lock = new ObservedStampedLock().withShutdownHook(file).withLock(made);
+        start(lock::isWriteLocked);
         CountDownLatch begun = new CountDownLatch(4);
+        CountDownLatch leaving = new CountDownLatch(1);
         for (int i = 0; i < 4; i++) {
             start(() -> {
                 call(lock);
                 begun.countDown();
-                while (true) {
+                StayingLock.pass(leaving);
+                for (int round = 0; round < 1000; round++) {
                     call(lock);
-                    Thread.yield();
                 }
             });
         }
+        made.awaitCall();
         begun.await();
+        leaving.countDown();
         System.exit(3);
     }
 
@@ -140,6 +150,7 @@ public final class RecordedRuns {
 
     /** Calls until the stack is full. They change nothing, since the JDK's lock is not made for this. */
     private static long deepen(ObservedStampedLock lock, long depth) {
+        deepest = depth;
         lock.validate(lock.tryOptimisticRead());
         return deepen(lock, depth + 1) + 1;
     }
@@ -154,16 +165,18 @@ public final class RecordedRuns {
         for (int i = 0; i < 20_000; i++) {
             lock.validate(lock.tryOptimisticRead());
         }
+        AtomicInteger filled = new AtomicInteger();
         start(() -> {
-            for (int i = 0; i < 40; i++) {
+            for (long left = MOST_LEVELS; left > 0 && filled.get() < 40; left -= deepest) {
                 try {
-                    deepenFrom(lock, i);
+                    deepenFrom(lock, filled.getAndIncrement());
                 } catch (StackOverflowError full) {
                     lock.unlockWrite(lock.writeLock());
                 }
             }
         }).join();
         System.out.println(lock.isRecording() + " " + lock.failure());
+        System.out.println(filled);
         write(lock);
     }
 
@@ -299,14 +312,20 @@ public final class RecordedRuns {
         }
     }
 
-    /** How often another thread's call comes next, of two threads on one core. */
-    private static void switches(boolean isDelaying) throws Exception {
+    /** The example of points, in whose first read another thread moves the point. */
+    private static void points(boolean forgets) throws Exception {
+        MeetingLock lock = new MeetingLock();
+        Points points = new Points(lock, forgets);
+        lock.meet(() -> points.move(1, 2));
+        points.run(200);
+        write(lock);
+    }
+
+    /** Two threads called {@code caller}, for a count of how often they give way to others. */
+    private static void yielding(boolean isDelaying) throws Exception {
         ObservedStampedLock lock = new ObservedStampedLock();
         if (isDelaying) {
             lock.withDelays(1);
-        }
-        for (int i = 0; i < 3000; i++) {
-            lock.isReadLocked();
         }
         Runnable calls = () -> {
             for (int i = 0; i < 3000; i++) {
@@ -331,7 +350,8 @@ public final class RecordedRuns {
             case "closing" -> closing(Path.of(words[1]));
             case "crowd" -> crowd();
             case "planted" -> planted();
-            case "switches" -> switches(words.length > 1);
+            case "points" -> points(words.length > 1);
+            case "yielding" -> yielding(words.length > 1);
             default -> throw new IllegalArgumentException(words[0]);
         }
     }

@@ -20,6 +20,9 @@ import java.util.concurrent.locks.LockSupport;
  * What a case tells goes to standard output.
  */
 public final class StreamedRuns {
+    /** How many calls that may wait are recorded at once. */
+    private static final int LANES = 32;
+
     private final ObservedStampedLock lock;
     private final AtomicBoolean isOver = new AtomicBoolean();
     private final LongAdder made = new LongAdder();
@@ -133,6 +136,12 @@ public final class StreamedRuns {
         return started;
     }
 
+    private static void awaitWaiting(List<Thread> threads, int number) throws InterruptedException {
+        while (threads.stream().filter(it -> it.getState() == Thread.State.WAITING).count() < number) {
+            Thread.sleep(1);
+        }
+    }
+
     private void awaitCalls(int calls) throws InterruptedException {
         while (made.sum() < calls) {
             Thread.sleep(1);
@@ -174,8 +183,22 @@ public final class StreamedRuns {
         }
     }
 
+    /** Calls that give up, since their time is over or their thread is interrupted. */
+    private void giveUp() throws InterruptedException {
+        long stamp = lock.writeLock();
+        start(() -> {
+            gets(() -> lock.tryReadLock(1, TimeUnit.MICROSECONDS));
+            Thread.currentThread().interrupt();
+            gets(lock::writeLockInterruptibly);
+            Thread.currentThread().interrupt();
+            gets(lock::readLockInterruptibly);
+        }).join();
+        lock.unlockWrite(stamp);
+    }
+
     /** Timed and interruptible calls, and a thread that interrupts. */
     private void timed(int threads, int calls) throws InterruptedException {
+        giveUp();
         List<Thread> started = new ArrayList<>();
         for (int i = 0; i < threads; i++) {
             Random random = new Random(i);
@@ -204,7 +227,7 @@ public final class StreamedRuns {
         for (int i = 0; i < threads; i++) {
             started.add(start(() -> gets(lock::readLock)));
         }
-        Thread.sleep(100);
+        awaitWaiting(started, LANES);
         boolean[] got = new boolean[3];
         Thread timed = start(() -> {
             got[0] = gets(() -> lock.tryReadLock(10, TimeUnit.MILLISECONDS));
@@ -219,17 +242,23 @@ public final class StreamedRuns {
         join(started);
     }
 
-    /** Ends the recording while calls go on, and makes calls after that. */
+    /** Ends the recording while a call stays and others go on, and makes calls after that. */
     private void closed(int threads) throws InterruptedException, IOException {
-        List<Thread> started = startCalling(threads, 80_000, true);
+        StayingLock made = new StayingLock();
+        lock.withLock(made);
+        Thread staying = start(lock::isWriteLocked);
+        made.awaitCall();
+        List<Thread> started = startCalling(threads, 40_000, true);
         awaitCalls(500);
         lock.close();
-        long begin = System.nanoTime();
-        for (Random random = new Random(0); System.nanoTime() - begin < 10_000_000;) {
+        Random random = new Random(0);
+        for (int i = 0; i < 1000; i++) {
             call(random);
         }
         isOver.set(true);
         join(started);
+        made.letGo();
+        staying.join();
         System.out.println(lock.isRecording() ? "recording" : "closed");
     }
 
@@ -308,7 +337,10 @@ public final class StreamedRuns {
                 System.exit(0);
             }
             case "delayed" -> join(run.startCalling(4, 4000, false));
-            case "endless" -> join(run.startCalling(number, Integer.MAX_VALUE, true));
+            case "killed" -> {
+                run.startCalling(number, 40_000, true);
+                Thread.currentThread().join();
+            }
             case "hanging" -> run.hanging(number);
             case "looked" -> run.looked(number, 4);
             case "most" -> run.most(8, 3 * number);

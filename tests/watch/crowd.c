@@ -1,6 +1,6 @@
-/* 80 threads wait for read mode of a lock that is held, more than the recorder has lanes. Two calls are withdrawn
-   meanwhile, as if they gave up. Then the lock is released, and all read. At the end one call is under way. The stream
-   goes to standard output. */
+/* 80 threads wait for read mode of a lock that is held, more than the recorder has lanes. Once all lanes are taken in
+   which calls may wait, two calls are withdrawn, as if they gave up. Then the lock is released, and all read. At the
+   end one call is under way. The stream goes to standard output. */
 #include "lock.h"
 #include "observed_lock.h"
 
@@ -30,8 +30,15 @@ static void *wait_for_ever(void *begun) {
     return NULL;
 }
 
-static void rest(long milliseconds) {
-    struct timespec time = {0, milliseconds * 1000000};
+static int has_room(void) {
+    for (int i = 0; i < OBSERVED_MAY_WAIT; i++) {
+        if (!atomic_load(&run.lanes[i].taken)) return 1;
+    }
+    return 0;
+}
+
+static void rest(void) {
+    struct timespec time = {0, 1000000};
     nanosleep(&time, NULL);
 }
 
@@ -44,12 +51,12 @@ int main(void) {
     for (int i = 0; i < THREADS; i++) {
         if (pthread_create(&threads[i], NULL, read_once, NULL)) abort();
     }
-    rest(100);
+    while (has_room()) rest();
     for (int i = 0; i < 2; i++) observed_withdraw(&run, observed_begin(&run, OBSERVED_TRY_READ, 0));
     if (!made(OBSERVED_UNLOCK_WRITE, stamp)) abort();
     for (int i = 0; i < THREADS; i++) pthread_join(threads[i], NULL);
     made(OBSERVED_WRITE_LOCK, 0);
     if (pthread_create(&waiting, NULL, wait_for_ever, &begun)) abort();
-    while (!atomic_load(&begun)) rest(1);
+    while (!atomic_load(&begun)) rest();
     return observed_stop(&run);
 }

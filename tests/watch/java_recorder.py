@@ -2,11 +2,12 @@
 
     java_recorder.py EXPLAIN
 
-Run at the top of the repository; it wants javac and java. Short-lived threads, a run that hangs or exits, calls that
-throw, a full stack and no memory leave a history that is explained and has all it should. Gets and puts are recorded
-as they were made. Wrong locks, and reads that aren't validated, are stuck where they are wrong. A run whose threads
-never met where that shows is rightly explained, so up to ATTEMPTS runs are made. Delays let threads meet. The example
-in JUnit is compiled against an annotation of the same name, and fails with what the judge says."""
+Run at the top of the repository; it wants cc, javac and java. Short-lived threads, a run that hangs or exits, calls
+that throw, a full stack and no memory leave a history that is explained and has all it should. Gets and puts are
+recorded as they were made. Wrong locks, and reads that aren't validated, are stuck where they are wrong: in these runs
+threads meet there. With delays a thread gives way to others before one call in eight. The example in JUnit is compiled
+against an annotation of the same name, and fails with what the judge says. Only its delays let threads meet, so up to
+ATTEMPTS runs are made."""
 import glob
 import json
 import os
@@ -16,7 +17,7 @@ import subprocess
 import sys
 import tempfile
 
-from streams import DONE, STAMP, YES, fail, kinds_of, run, started, verdict
+from streams import DONE, HANGING, STAMP, YES, fail, kinds_of, run, started, verdict
 
 TEST = "package org.junit.jupiter.api;\n@java.lang.annotation.Retention(java.lang.annotation.RetentionPolicy.RUNTIME)" \
        "\npublic @interface Test {\n}\n"
@@ -31,10 +32,13 @@ def wants(name, is_so, *told):
 
 
 class Java:
-    """The classes, and the judge."""
+    """The classes, what counts how often threads give way, and the judge."""
 
     def __init__(self, room, explain):
         self.room, self.explain, self.calls = room, os.path.abspath(explain), 0
+        self.yields = os.path.join(room, "yields.so")
+        subprocess.run(["cc", "-O1", "-shared", "-fPIC", "-o", self.yields, "tests/watch/count_yields.c", "-ldl"],
+                       check=True)
         annotation = os.path.join(room, "Test.java")
         with open(annotation, "w", encoding="utf-8") as file:
             file.write(TEST)
@@ -56,14 +60,6 @@ class Java:
         found = verdict(self.explain, history)
         wants(name, found == "explained", found)
         self.calls += len(history["entries"])
-
-    def first_wrong(self, name, *runs):
-        """What these runs print, up to the first that isn't explained: its lines and its history."""
-        for words in runs:
-            lines, history, _ = self.told(name, *words)
-            if verdict(self.explain, history) != "explained":
-                return lines, history
-        return fail(name, f"{len(runs)} runs are explained")
 
     def must_be_stuck(self, name, history, calls, note=""):
         """At one of these calls, with this in the note."""
@@ -88,8 +84,9 @@ def try_pool(java):
 
 
 def try_ended(java):
-    """A run that hangs is terminated, and one exits while calls go on: the hook leaves the history."""
-    for name, status in (("hanging", 143), ("exiting", 3)):
+    """A run that hangs is terminated, and one exits while calls go on: the hook leaves the history. It has the call
+    that never ends."""
+    for name, status, stays in (("hanging", 143, "read_lock"), ("exiting", 3, "is_write_locked")):
         path = os.path.join(java.room, name + ".json")
         with started(java.words("RecordedRuns", name, path), stdout=subprocess.PIPE) as process:
             if name == "hanging":
@@ -100,9 +97,8 @@ def try_ended(java):
             history = json.load(file)
         java.must_be_explained(name, history)
         wants(name, len(named(history, "validate")) >= (1 if name == "hanging" else 4), len(history["entries"]))
-        if name == "hanging":
-            last = history["entries"][-1]
-            wants(name, last["call"] == ["read_lock"] and "last" not in last, last)
+        open_calls = [entry["call"] for entry in history["entries"] if "last" not in entry]
+        wants(name, [stays] in open_calls and (name == "exiting" or len(open_calls) == 1), open_calls)
 
 
 def try_throwing(java):
@@ -118,11 +114,12 @@ def try_throwing(java):
 def try_want(java):
     """Where the stack is full, or there is no memory, recording may end; it tells so then."""
     for name, flags in (("overflowing", ("-Xmx256m",)), ("starving", ("-Xmx30m",))):
-        (line,), history, told = java.told(name, "RecordedRuns", name, flags=flags)
+        (line, *filled), history, told = java.told(name, "RecordedRuns", name, flags=flags)
         java.must_be_explained(name, history)
         error = "StackOverflowError" if name == "overflowing" else "OutOfMemoryError"
         is_told = line.startswith("false ") and error in line and error in told
-        has_all = name == "overflowing" and line == "true null" and len(named(history, "unlock_write")) == 40
+        has_all = line == "true null" and filled == [str(len(named(history, "unlock_write")))]
+        has_all = has_all and all("last" in entry for entry in history["entries"])
         wants(name, is_told or has_all, line, told, len(history["entries"]))
     (line,), history, _ = java.told("full", "RecordedRuns", "full")
     wants("full", line == "false java.lang.StackOverflowError" and len(history["entries"]) == 4, line, history)
@@ -175,38 +172,41 @@ def try_planted(java):
 
 
 def try_points(java):
-    """A read that isn't validated is stuck at a get, in nearly each run."""
-    _, history, _ = java.told("points", "Points", 200)
-    java.must_be_explained("points", history)
-    counts = [len(named(history, name)) for name in ("get", "put")]
-    wants("points", counts == [600, 200], counts)
-    _, history = java.first_wrong("points", *[("Points", 200, "forgets")] * ATTEMPTS)
+    """A read in which another thread moves the point, and which isn't validated, is stuck at a get."""
+    for words in (("Points", 200), ("RecordedRuns", "points")):
+        _, history, _ = java.told("points", *words)
+        java.must_be_explained("points", history)
+        counts = [len(named(history, name)) for name in ("get", "put")]
+        wants("points", counts == [600, 200 + (words[0] == "RecordedRuns")], counts)
+    _, history, _ = java.told("points", "RecordedRuns", "points", "forgets")
     java.must_be_stuck("points", history, ["get"], "get answered [")
 
 
 def try_cache(java):
     """A user's program with a pool of short-lived threads, a lock with a bug, and a read that isn't validated."""
     lock_calls = ["optimistic", "validate", "read_lock", "unlock_read", "to_write", "write_lock", "unlock"]
-    (right,), history, _ = java.told("cache", "PriceCache", "right", 0)
-    java.must_be_explained("cache", history)
-    for mode, calls in (("upgrade", lock_calls), ("reader", ["get"])):
-        (line,), history = java.first_wrong("cache", *[("PriceCache", mode, seed) for seed in range(ATTEMPTS)])
-        java.must_be_stuck(f"cache {mode}", history, calls)
-        wants("cache", min(int(it.split()[0]) for it in (right, line)) > 64, right, line)
+    for mode, calls in (("right", []), ("upgrade", lock_calls), ("reader", ["get"])):
+        (line,), history, _ = java.told("cache", "PriceCache", mode)
+        if mode == "right":
+            java.must_be_explained("cache", history)
+        else:
+            java.must_be_stuck(f"cache {mode}", history, calls)
+        wants("cache", line == "96 threads", line)
 
 
-def switches_of(java, *more):
-    """How often the next call is another lane's, of two threads on one core."""
-    core = min(os.sched_getaffinity(0))
-    words = ["taskset", "-c", str(core), *java.words("RecordedRuns", "switches", *more)]
-    lanes = [entry["thread"] for entry in json.loads(run(words).stdout)["entries"]]
-    wants("switches", len(lanes) == 9000, len(lanes))
-    return sum(one != other for one, other in zip(lanes, lanes[1:]))
+def yields_of(java, *more):
+    """How often two threads give way to others in 6000 calls."""
+    path = os.path.join(java.room, "yields")
+    made = subprocess.run(java.words("RecordedRuns", "yielding", *more), capture_output=True, timeout=HANGING,
+                          env={**os.environ, "LD_PRELOAD": java.yields, "YIELDS": path})
+    java.must_be_explained("yields", json.loads(made.stdout))
+    with open(path, encoding="ascii") as file:
+        return int(file.read())
 
 
 def try_delays(java):
-    without, with_delays = switches_of(java), switches_of(java, "delays")
-    wants("delays", with_delays > 100 + 4 * without, without, with_delays)
+    without, with_delays = yields_of(java), yields_of(java, "delays")
+    wants("delays", without == 0 and 600 <= with_delays <= 900, without, with_delays)
 
 
 def try_junit(java):

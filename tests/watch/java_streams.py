@@ -29,7 +29,7 @@ class Java:
 
     def __init__(self, room, explain):
         self.room, self.explain = room, explain
-        runs = [f"tests/watch/{name}.java" for name in ("Hanging", "StreamedRuns")]
+        runs = [f"tests/watch/{name}.java" for name in ("Hanging", "StayingLock", "StreamedRuns")]
         sources = [*sorted(glob.glob("recorders/java/*.java")), *runs]
         subprocess.run(["javac", "-d", room, *sources], check=True)
 
@@ -135,6 +135,8 @@ def try_closed(java):
     stream, made = java.case("closed", 6)
     history = java.judge("closed", stream)
     wants("closed", made.stdout == b"closed\n" and len(history["entries"]) > 20, made.stdout, len(history["entries"]))
+    wants("closed", any(entry["call"] == ["is_write_locked"] and "last" not in entry for entry in history["entries"]),
+          "the call that stays is not under way")
 
 
 def try_failing(java):
@@ -162,7 +164,7 @@ def try_slow(java):
 
 def try_killed(java):
     """Nothing but whole events are written until then."""
-    with started(java.words("StreamedRuns", "endless", java.file("killed"), 8)) as process:
+    with started(java.words("StreamedRuns", "killed", java.file("killed"), 8)) as process:
         while not os.path.exists(java.file("killed")) or os.path.getsize(java.file("killed")) < 2000 * EVENT:
             time.sleep(0.005)
             wants("killed", process.poll() is None, process.returncode)
@@ -185,9 +187,10 @@ def try_hanging(java):
 
 
 def try_exiting(java):
-    """A run that isn't closed, and ends before its slow stream is written."""
-    history = java.judge("exiting", java.case("exiting", 10000)[0])
-    wants("exiting", len(history["entries"]) >= 10000, len(history["entries"]))
+    """A run that isn't closed, and ends before its slow stream is written: in some writes of 2 ms, and not the 10 s for
+    which the hook waits."""
+    history = java.judge("exiting", java.case("exiting", 3000)[0])
+    wants("exiting", len(history["entries"]) >= 3000, len(history["entries"]))
     wants("exiting", all("last" in entry for entry in history["entries"]), "a call is under way")
 
 

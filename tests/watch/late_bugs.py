@@ -3,21 +3,20 @@
     late_bugs.py WATCH EXPLAIN [CALLS [SEED]]
 
 Run at the top of the repository; it wants cc. tests/explain/planted.c writes streams of 4 threads and CALLS calls
-(400,000 if not said). Those of the right lock must be explained. Each bug shows once nine tenths of the calls are made,
-and must be found behind the first wrong event. The entry is that of `stamped_explain`, too, which judges the end of the
-run: from the last moment before at which no call was open and no mode held, with as many versions less. A run in which
-the bug doesn't show, or of which one of the programs gives up, is made anew: where threads are held up for long, the
-end is long, and a search of it may be."""
+(400,000 if not said), the same on each machine. Those of the right lock must be explained. Each bug shows once nine
+tenths of the calls are made, and must be found behind the first wrong event. The entry is that of `stamped_explain`,
+too, which judges the end of the run: from the last moment before at which no call was open and no mode held, with as
+many versions less."""
 import os
 import subprocess
 import sys
 import tempfile
 
 import stream_ends
-from streams import EVENT, HEADER, fail, history_of, verdict
+from streams import EVENT, HANGING, HEADER, fail, history_of, verdict
 
 BUGS = ("upgrade", "version", "validate")
-RUNS, BEHIND = 30, 400
+BEHIND = 400
 
 
 def streamed(room, planted, bug, calls, seed):
@@ -25,14 +24,14 @@ def streamed(room, planted, bug, calls, seed):
     path = os.path.join(room, bug + ".events")
     with open(path, "wb") as file:
         made = subprocess.run([planted, bug, "4", str(calls), str(seed), str(calls * 9 // 10)], stdout=file,
-                              stderr=subprocess.PIPE, timeout=600)
+                              stderr=subprocess.PIPE, timeout=HANGING)
     if made.returncode != 0:
         fail(bug, made.returncode, made.stderr)
     return path, int(made.stderr)
 
 
 def judged(watch, path):
-    made = subprocess.run([watch, path], capture_output=True, timeout=600)
+    made = subprocess.run([watch, path], capture_output=True, timeout=HANGING)
     if made.returncode != (not made.stdout.startswith(b"ok ")):
         fail("status", made.returncode, made.stdout)
     return made.stdout.decode().removesuffix("\n")
@@ -47,12 +46,11 @@ def try_right(watch, room, planted, calls, seed):
     return many
 
 
-def found_by_both(watch, explain, bug, path, wrong):
-    """The event at which the stream is stuck, by both programs; None where one of them gives up, or it is explained."""
+def try_bug(watch, explain, room, planted, bug, calls, seed):
+    """Both programs find the bug, at the same event."""
+    path, wrong = streamed(room, planted, bug, calls, seed)
     found = judged(watch, path)
     word, _, number = found.partition(" ")
-    if word in ("ok", "undecided"):
-        return None
     if not wrong or word != "stuck" or int(number) < wrong:
         fail(bug, found, f"the first wrong event is {wrong} or later")
     with open(path, "rb") as file:
@@ -62,20 +60,9 @@ def found_by_both(watch, explain, bug, path, wrong):
     position = int(number) - place + stream_ends.BEFORE
     entry = next((i for i, entry in enumerate(end["entries"]) if entry.get("last") == position), None)
     told = verdict(explain, end)
-    if told.startswith(("undecided ", "no answer ")):
-        return None
     if told != f"stuck {entry}":
         fail(bug, found, f"as {len(end['entries'])} calls {told} and not stuck {entry}")
-    return int(number)
-
-
-def try_bug(watch, explain, room, planted, bug, calls, seed):
-    for number in range(RUNS):
-        path, wrong = streamed(room, planted, bug, calls, seed + 100 * number)
-        event = found_by_both(watch, explain, bug, path, wrong)
-        if event is not None:
-            return f"{bug} is stuck at event {event}, {event - wrong} behind the first that may be wrong"
-    fail(bug, f"{RUNS} runs", "it isn't found in any")
+    return f"{bug} is stuck at event {number}, {int(number) - wrong} behind the first that may be wrong"
 
 
 def main():

@@ -4,9 +4,9 @@
 
 Run at the top of the repository; it wants javac and java. Each load of Loads.java is run by 4, 16 and 64 threads with
 CALLS calls (20,000 if not said), which go to the judge through a FIFO, in turn by its name and as standard input. Each
-must be `ok` with the calls that were made, and a run of a wrong lock `stuck`, before it ends. With SECONDS one load of
-16 threads runs for so long besides. A line has the calls a second that were made and judged, the judge's processor time
-a call, and its peak memory, which is at least python's."""
+must be `ok` with the calls that were made, and a run of a wrong lock, which doesn't end by itself, `stuck`. With
+SECONDS one load of 16 threads runs for so long besides. A line has the calls a second that were made and judged, the
+judge's processor time a call, and its peak memory, which is at least python's."""
 import glob
 import os
 import subprocess
@@ -14,21 +14,24 @@ import sys
 import tempfile
 import time
 
+from streams import started
+
 LOADS, THREADS = ("mixed", "read", "write", "convert", "waits", "stampless"), (4, 16, 64)
-FEWEST = 0.8
 
 
 def judged(watch, classes, fifo, by_name, load, threads, calls):
     """The verdict and the note, the seconds of both and of the judge's processor, and its peak memory in KiB."""
     begin = time.monotonic()
     words = ["java", "-Xmx512m", "-Xss512k", "-cp", classes, "Loads", load, str(threads), calls, fifo]
-    with subprocess.Popen(words, stderr=subprocess.PIPE) as java:
+    with started(words, stdin=subprocess.PIPE, stderr=subprocess.PIPE) as java:
         with subprocess.Popen(["sh", "-c", 'exec "$0" "$1"' if by_name else 'exec "$0" < "$1"', watch, fifo],
                               stdout=subprocess.PIPE, stderr=subprocess.PIPE) as judge:
             line, note = judge.stdout.read().decode().strip(), judge.stderr.read().decode().strip()
             _, status, usage = os.wait4(judge.pid, 0)
             judge.returncode = os.waitstatus_to_exitcode(status)
         if not line.startswith("ok "):
+            if load == "wrong" and java.poll() is not None:
+                sys.exit(f"live: {line} is told once the run has ended")
             java.kill()
         told = java.stderr.read().decode().strip()
     if java.returncode != 0 and line.startswith("ok "):
@@ -43,15 +46,15 @@ def try_load(watch, classes, fifo, by_name, load, threads, calls):
     line, note, seconds, processor, memory = judged(watch, classes, fifo, by_name, load, threads, calls)
     word, _, number = line.partition(" ")
     many = int(number) if word == "ok" else 0
-    is_right = many > 0 and (calls.endswith("s") or FEWEST * int(calls) <= many <= int(calls) + 4 * threads)
+    is_right = many > 0 and (calls.endswith("s") or 0 <= many - int(calls) // threads * threads <= 4 * threads)
     told = f"{many / seconds / 1e6:.2f} million a second, {processor / many * 1e9:.0f} ns a call" if many else note
     print(f"live: {load}, {threads} threads: {line}; {told}; {memory} KiB", flush=True)
     return is_right
 
 
 def must_be_stuck(watch, classes, fifo):
-    """A wrong lock's run, which would go on for a minute."""
-    line, note, seconds, *_ = judged(watch, classes, fifo, True, "wrong", 16, "60s")
+    """A wrong lock's run, which goes on until it is killed."""
+    line, note, seconds, *_ = judged(watch, classes, fifo, True, "wrong", 16, "20000")
     if not line.startswith("stuck ") or ": validate " not in note or not note.endswith(" answered yes; possible: no"):
         sys.exit(f"live: a wrong lock: {line} after {seconds:.0f} s, {note}")
 

@@ -8,6 +8,8 @@ import threading
 TO_HISTORY, TO_STREAM = ([sys.executable, "-B", f"recorders/{name}.py"] for name in
                          ("stream_to_history", "history_to_stream"))
 HEADER, EVENT = 16, 16
+# Seconds after which a process is taken to hang: a hundred times what any of these takes beside other work.
+HANGING = 3600
 BEGINS, STAMP, YES, NO, DONE, MISMATCH, COUNT, WITHDRAWN = range(17), 32, 33, 34, 35, 36, 37, 48
 
 
@@ -16,14 +18,14 @@ def fail(name, *told):
 
 
 def run(words, text=b""):
-    return subprocess.run(words, input=text, capture_output=True, timeout=60)
+    return subprocess.run(words, input=text, capture_output=True, timeout=HANGING)
 
 
 @contextlib.contextmanager
 def started(words, **files):
-    """A process, which ends with the block, and is killed if it goes on for too long."""
+    """A process, which ends with the block, and is killed if it hangs."""
     with subprocess.Popen(words, **files) as process:
-        timer = threading.Timer(50, process.kill)
+        timer = threading.Timer(HANGING, process.kill)
         timer.start()
         try:
             yield process

@@ -98,8 +98,10 @@ def must_be_witness(name, explain, path, note):
 
 
 def try_changed(watch, explain, name, stream, path, lacking):
-    """Whether the stream with a reply changed is stuck. Where no witness of that was found, the note is kept."""
-    line, note = judged(watch, stream, "--witness", path)
+    """Whether the stream with a reply changed is stuck. Where no witness of that was found, that is told, and the note is
+    kept."""
+    line, told = judged(watch, stream, "--witness", path)
+    *lack, note = told.split("\n")
     history = history_of(name, stream)
     if line.startswith("ok "):
         must_be(name, verdict(explain, history), "explained")
@@ -114,9 +116,12 @@ def try_changed(watch, explain, name, stream, path, lacking):
         must_be(name, verdict(explain, history), f"stuck {entry_that_returns_at(history, number)}")
         must_tell(name, note, number, *told_by(explain, history))
     if os.path.exists(path):
-        must_be(name, kinds_of(stream)[number] == WITHDRAWN, False)
+        must_be(name, (kinds_of(stream)[number] == WITHDRAWN, lack), (False, []))
         must_be_witness(name, explain, path, note)
-    elif kinds_of(stream)[number] != WITHDRAWN:
+    elif kinds_of(stream)[number] == WITHDRAWN:
+        must_be(name, lack, ["stamped_watch: no witness of a withdrawn call"])
+    else:
+        must_be(name, lack, ["stamped_watch: no witness was found"])
         lacking.append(note)
     return True
 

@@ -1,7 +1,7 @@
 //! A book, which asks for memory as calls are made on it, and for a copy of its history.
 use crate::outcome::Outcome;
 use stamp_check::check;
-use stamp_core::{Call, Limits, Record, Reply};
+use stamp_core::{Call, Entry, Limits, Record, Reply};
 use stamp_threads::{Book, BookError};
 use std::alloc::Global;
 
@@ -62,6 +62,35 @@ pub(crate) fn book_outcome(alloc: Global, limits: Limits) -> Outcome {
     let is_copied = check(&record) == Ok(CALLS) && record.entries() == book.entries();
     let is_full = act_again(&mut book, &Call::TryRead) == Err(BookError::Full);
     Outcome::right_if(is_copied && is_full && book.word().bits() == 256)
+}
+
+/// Tries to write, and once more where memory was refused.
+fn write_again(book: &mut Book) -> Result<Reply, BookError> {
+    match book.act(0, Call::TryWrite) {
+        Err(BookError::Memory) => book.act(0, Call::TryWrite),
+        other => other,
+    }
+}
+
+/// A book that is full after its first call; the end is that of one that was never refused.
+pub(crate) fn book_of_one_outcome(alloc: Global, limits: Limits) -> Outcome {
+    let mut book = Book::new(alloc, limits, 1);
+    let is_written = write_again(&mut book) == Ok(Reply::Stamp(384));
+    let is_waiting = book.act(1, Call::ReadLock) == Err(BookError::Waits);
+    let is_full = book.act(1, Call::TryRead) == Err(BookError::Full);
+    let Ok(record) = record_again(&book) else {
+        return Outcome::Wrong;
+    };
+    let entry = Entry {
+        thread: 0,
+        call: Call::TryWrite,
+        reply: Reply::Stamp(384),
+        first: 0,
+        point: 0,
+        last: 0,
+    };
+    let is_recorded = check(&record) == Ok(1) && record.entries().first() == Some(&entry);
+    Outcome::right_if(is_written && is_waiting && is_full && is_recorded)
 }
 
 /// A book with an entry, on which a call waits.

@@ -2,8 +2,8 @@
 //! A run in which a call answers that memory was refused ends with status 1; each other answer
 //! than the right one is printed, and ends with status 0. With a word, `make`, `check` or `migrate`,
 //! it makes records, and does no more than that with them; with `large` it takes a large script through each
-//! call, and prints how much each answered; with one of `refusals` it makes calls that are refused for
-//! another cause.
+//! call, and prints how much each answered; with `worked` it makes the calls of worked examples; with one of
+//! `refusals` it makes calls that are refused for another cause.
 #![tactic(auto)]
 
 mod booking;
@@ -22,6 +22,7 @@ mod running;
 mod schedules;
 mod sharing;
 mod texts;
+mod worked;
 
 use crate::booking::book_outcome;
 use crate::fault_lines::fault_lines_outcome;
@@ -35,6 +36,7 @@ use crate::running::{running_lock_outcome, running_record_outcome};
 use crate::schedules::{are_runs_alike, is_judged, is_written};
 use crate::sharing::shared_outcome;
 use crate::texts::{BAD_REPLAY, BAD_SCRIPT, Reader, texts_outcome};
+use crate::worked::worked_outcome;
 use stamp_core::Limits;
 use std::process::ExitCode;
 use std::rt::Env;
@@ -84,6 +86,7 @@ fn outcome_given(rt: &(impl Env + Wait + Print + Eprint + AllocGlobal)) -> Outco
         "check" => task_outcome(rt.alloc(), Task::Check),
         "migrate" => task_outcome(rt.alloc(), Task::Migrate),
         "large" => large_outcome(rt),
+        "worked" => worked_outcome(rt.alloc()),
         other => refusal_outcome(rt.alloc(), limits, other),
     }
 }

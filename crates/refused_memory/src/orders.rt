@@ -1,7 +1,8 @@
 //! Orders that are served, and some that are refused: what was read and what was to be written is
 //! dropped.
 use crate::outcome::Outcome;
-use crate::pipes::{End, Input, Page};
+use crate::pipes::{End, Input, LARGE, Page};
+use crate::worked::{LOST, LOST_RUN};
 use stamp_cli::{Order, ReadSource, ServeFault, Verdict, WriteSink, serve};
 use stamp_core::Layout;
 use stamp_history::{Field, ReadError};
@@ -13,6 +14,7 @@ pub(crate) struct Case {
     order: Order,
     input: &'static [u8],
     end: End,
+    page: usize,
     is_shut: bool,
     line: &'static [u8],
     fault: Option<ServeFault>,
@@ -33,6 +35,7 @@ const REPLAYED: Case = Case {
     order: Order::Replay,
     input: REPLAY,
     end: End::Over,
+    page: LARGE,
     is_shut: false,
     line: b"{\"replies\":[257,384],\"word\":384}\n",
     fault: None,
@@ -52,6 +55,34 @@ pub(crate) const ANSWERED: [Case; 3] = [
     },
 ];
 
+/// The orders that read a script or a history.
+pub(crate) const SERVED: [Case; 4] = [
+    Case {
+        order: Order::Run,
+        input: LOST,
+        line: b"{\"entries\":[{\"call\":[\"try_write\"],\"first\":1,\"last\":2,\"point\":2,\"reply\":384,\"thread\":1},{\"call\":[\"unlock_write\",384],\"first\":3,\"last\":4,\"point\":4,\"reply\":\"done\",\"thread\":1},{\"call\":[\"try_write\"],\"first\":0,\"last\":6,\"point\":6,\"reply\":640,\"thread\":0}],\"format\":1,\"readers\":127,\"versions\":1000,\"width\":0}\n",
+        ..REPLAYED
+    },
+    Case {
+        order: Order::RunReported,
+        input: LOST,
+        line: b"{\"entries\":[{\"call\":[\"try_write\"],\"first\":1,\"last\":2,\"point\":2,\"reply\":384,\"thread\":1},{\"call\":[\"unlock_write\",384],\"first\":3,\"last\":4,\"point\":4,\"reply\":\"done\",\"thread\":1},{\"call\":[\"try_write\"],\"first\":0,\"last\":6,\"point\":6,\"reply\":640,\"thread\":0}],\"format\":1,\"readers\":127,\"report\":[[2,0],[2,0],[3,2]],\"versions\":1000,\"width\":0}\n",
+        ..REPLAYED
+    },
+    Case {
+        order: Order::Check,
+        input: LOST_RUN,
+        line: b"ok 3\n",
+        ..REPLAYED
+    },
+    Case {
+        order: Order::Migrate,
+        input: LOST_RUN,
+        line: b"{\"entries\":[{\"call\":[\"try_write\"],\"first\":1,\"last\":2,\"point\":2,\"reply\":196608,\"thread\":1},{\"call\":[\"unlock_write\",196608],\"first\":3,\"last\":4,\"point\":4,\"reply\":\"done\",\"thread\":1},{\"call\":[\"try_write\"],\"first\":0,\"last\":6,\"point\":6,\"reply\":327680,\"thread\":0}],\"format\":2,\"layout\":2,\"readers\":127,\"versions\":1000,\"width\":0}\n",
+        ..REPLAYED
+    },
+];
+
 /// One that is refused.
 const WAITS: Case = Case {
     input: WAITING,
@@ -60,7 +91,7 @@ const WAITS: Case = Case {
     ..REPLAYED
 };
 
-/// The line of the last two is longer than a page.
+/// The line of the last two is longer than their page.
 pub(crate) const REFUSED: [Case; 7] = [
     WAITS,
     Case {
@@ -88,12 +119,14 @@ pub(crate) const REFUSED: [Case; 7] = [
     Case {
         order: Order::Run,
         input: SCRIPT,
+        page: 64,
         fault: Some(ServeFault::WriteFault),
         ..WAITS
     },
     Case {
         order: Order::RunReported,
         input: SCRIPT,
+        page: 64,
         fault: Some(ServeFault::WriteFault),
         ..WAITS
     },
@@ -127,7 +160,7 @@ fn served_outcome(alloc: Global, case: &Case) -> Outcome {
         bytes: case.input,
         end: case.end,
     });
-    let mut sink = WriteSink::new(Page::new(case.is_shut));
+    let mut sink = WriteSink::new(Page::new(case.page, case.is_shut));
     let served = serve(alloc, case.order, &mut source, &mut sink);
     let page = sink.into_inner();
     match served {

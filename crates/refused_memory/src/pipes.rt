@@ -36,25 +36,30 @@ impl Read for Input<'_> {
     }
 }
 
-/// A bounded page, or one that is shut and takes nothing.
+/// The bytes that a page has at most.
+pub(crate) const LARGE: usize = 512;
+
+/// A page of so many bytes, or one that is shut and takes nothing.
 #[derive(Drop)]
 pub(crate) struct Page {
-    bytes: [u8; 64],
+    bytes: [u8; LARGE],
     len: usize,
+    most: usize,
     is_shut: bool,
 }
 
 impl Page {
-    pub(crate) fn new(is_shut: bool) -> Page {
+    pub(crate) fn new(most: usize, is_shut: bool) -> Page {
         Page {
-            bytes: [0; 64],
+            bytes: [0; LARGE],
             len: 0,
+            most,
             is_shut,
         }
     }
 
     pub(crate) fn written(&self) -> &[u8] {
-        &self.bytes[..self.len.min(64)]
+        &self.bytes[..self.len.min(LARGE)]
     }
 }
 
@@ -66,7 +71,7 @@ impl Write for Page {
         let Some(byte) = buf.first() else {
             return Ok(0);
         };
-        if self.len >= self.bytes.len() {
+        if self.len >= self.most.min(LARGE) {
             return Ok(0);
         }
         self.bytes[self.len] = *byte;

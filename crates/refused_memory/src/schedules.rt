@@ -19,7 +19,7 @@ const LONG_SCRIPT: &[u8] =
     br#"{"readers":127,"steps":[0,1,0,1,0,1,0,1,0,1,0,1,0,1,0,1,0,1,0,1,0,1,0,1,0,1,0,1,0,1,0,1,0,1,0,1,0,1,0,1,0,1,0,1,0,1,0,1],"threads":[[["try_read"],["unlock_read",[0,0]],["try_read"],["unlock_read",[0,2]],["try_read"],["unlock_read",[0,4]],["try_read"],["unlock_read",[0,6]],["try_read"],["unlock_read",[0,8]],["try_read"],["unlock_read",[0,10]]],[["put",[7,9]],["get"]]],"versions":1000,"width":2}"#;
 
 /// Makes a step, and once more where memory was refused.
-fn step_again(run: &mut Run, thread: u64) -> Result<Stepped, RunError>
+pub(crate) fn step_again(run: &mut Run, thread: u64) -> Result<Stepped, RunError>
     requires { thread < length run.old.script.threads }
     ensures { run.new.script ≡ run.old.script }
 {

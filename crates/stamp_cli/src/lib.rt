@@ -31,6 +31,6 @@ pub use line::{Line, Verdict, accepted, rejected};
 pub use orders::{CommandFault, Order, number_in, order_of};
 pub use output::write_text;
 pub use serving::{serve, serve_help};
-pub use shell::{Answered, Ending, Program, ending_of, run, status_after};
+pub use shell::{Answered, Ending, Lack, Program, ending_of, run, status_after};
 pub use sinks::{Sink, WriteSink};
 pub use sources::{ReadSource, Source};

@@ -1,10 +1,10 @@
 //! The shell of a program that answers its input: arguments, status, and lines on standard error.
 
-ghost use Rattle.std.specs.Prelude.{◌≡◌, ℕ, List, Result, Ok, Err, map, ⊤};
+ghost use Rattle.std.specs.Prelude.{◌≡◌, ℕ, List, Result, None, Ok, Err, map};
 ghost use Rattle.stamp_cli.specs.declared.orders.CommandFault.{CommandFault};
 ghost use Rattle.stamp_cli.specs.declared.shell.Answered.{Answered};
 ghost use Rattle.stamp_cli.specs.Shell as shell;
-ghost use Rattle.stamp_cli.specs.Shell.{EndsView, IsEndingOf};
+ghost use Rattle.stamp_cli.specs.Shell.{IsEndingOf, ProgramView};
 
 use crate::file_sink::FileSink;
 use crate::line::Verdict;
@@ -17,13 +17,41 @@ use std::process::ExitCode;
 use std::rt::{Env, Files};
 use std::{env, fs, io};
 
+/// Why there is no witness where one was due.
+#[derive(Clone, Copy, Debug, PartialEq, Eq)]
+pub enum Lack {
+    /// A call that was open for long began late.
+    BeganLate,
+    /// The call was withdrawn.
+    Withdrawn,
+    /// None was found.
+    NotFound,
+    /// Memory for it was refused.
+    Memory,
+}
+
 /// What a program has answered.
 #[derive(Drop)]
 pub struct Answered {
     /// What the line that was written says.
     pub verdict: Verdict,
-    /// A line for standard error, without its line feed, if there is one.
-    pub note: Option<String>,
+    /// A line for standard error, without its line feed, if one is due; or memory for it was refused.
+    pub note: Result<Option<String>, AllocError>,
+    /// Why there is no witness, if one was due.
+    pub no_witness: Option<Lack>,
+}
+
+impl Answered {
+    /// An answer with this verdict, with which no note and no witness are due.
+    pub fn alone(verdict: Verdict) -> Answered
+        ensures { result ≡ record { verdict = verdict; note = Ok None; no_witness = None } }
+    {
+        Answered {
+            verdict,
+            note: Ok(None),
+            no_witness: None,
+        }
+    }
 }
 
 /// How a program ends.
@@ -49,8 +77,8 @@ pub trait Program {
     // The order that arguments give.
     ghost order_in: { List (List ℕ) → Result Self.Order CommandFault };
 
-    // Whether serving an order may take a source and a sink from the first to the second, with this answer.
-    ghost serves: { Self.Order → EndsView → EndsView → Result Answered Self.Fault → Type 0 } = { λ _ _ _ _. ⊤ };
+    // Whether serving an order may take all ends of the program from the first to the second, with this answer.
+    ghost serves: { Self.Order → ProgramView → ProgramView → Result Answered Self.Fault → Type 0 };
 
     /// The order that these arguments give, the program's name not among them.
     fn order_of(arguments: &[&str]) -> Result<Self::Order, CommandFault>
@@ -62,56 +90,34 @@ pub trait Program {
         None
     }
 
-    /// Serves the order between a source and a sink.
-    fn answer<S: Source, K: Sink>(
-        alloc: Global,
-        order: Self::Order,
-        source: &mut S,
-        sink: &mut K,
-    ) -> Result<Answered, Self::Fault>
-        ensures { serves order
-            (record { left = S.left source.old; reads = S.reads source.old; sent = K.sent sink.old; writes = K.writes sink.old })
-            (record { left = S.left source.new; reads = S.reads source.new; sent = K.sent sink.new; writes = K.writes sink.new })
-            result };
-
-    /// Serves the order as `answer` does, and tells lines on the way. A program that says nothing here tells none.
-    fn answer_telling<S: Source, K: Sink, T: Sink>(
-        alloc: Global,
-        order: Self::Order,
-        source: &mut S,
-        sink: &mut K,
-        _told: &mut T,
-    ) -> Result<Answered, Self::Fault>
-        ensures { serves order
-            (record { left = S.left source.old; reads = S.reads source.old; sent = K.sent sink.old; writes = K.writes sink.old })
-            (record { left = S.left source.new; reads = S.reads source.new; sent = K.sent sink.new; writes = K.writes sink.new })
-            result }
-    {
-        Self::answer(alloc, order, source, sink)
-    }
-
     /// The file for a witness of what is answered, if these arguments name one. A program that says nothing here writes
     /// none.
     fn witness_in<'a>(_arguments: &[&'a str]) -> Option<&'a str> {
         None
     }
 
-    /// Serves the order as `answer_telling` does, and may write a witness. A program that says nothing here writes none.
-    fn answer_showing<S: Source, K: Sink, T: Sink, W: Sink>(
+    /// Serves the order between a source and a sink. What it tells on the way goes to the third end, and a witness of
+    /// what is answered to the last.
+    fn answer<S: Source, K: Sink, T: Sink, W: Sink>(
         alloc: Global,
         order: Self::Order,
         source: &mut S,
         sink: &mut K,
         told: &mut T,
-        _witness: &mut W,
+        witness: &mut W,
     ) -> Result<Answered, Self::Fault>
         ensures { serves order
-            (record { left = S.left source.old; reads = S.reads source.old; sent = K.sent sink.old; writes = K.writes sink.old })
-            (record { left = S.left source.new; reads = S.reads source.new; sent = K.sent sink.new; writes = K.writes sink.new })
-            result }
-    {
-        Self::answer_telling(alloc, order, source, sink, told)
-    }
+            (record {
+              ends = record { left = S.left source.old; reads = S.reads source.old; sent = K.sent sink.old; writes = K.writes sink.old };
+              told = record { sent = T.sent told.old; writes = T.writes told.old };
+              witness = record { sent = W.sent witness.old; writes = W.writes witness.old };
+            })
+            (record {
+              ends = record { left = S.left source.new; reads = S.reads source.new; sent = K.sent sink.new; writes = K.writes sink.new };
+              told = record { sent = T.sent told.new; writes = T.writes told.new };
+              witness = record { sent = W.sent witness.new; writes = W.writes witness.new };
+            })
+            result };
 
     /// The line that tells of arguments that give no order, without its line feed.
     fn bad_command_line() -> &'static str;
@@ -124,6 +130,16 @@ pub trait Program {
     /// The line that tells that the witness can't be written, or not all of it, without its line feed.
     fn unwritten_witness() -> &'static str {
         "the witness can't be written"
+    }
+
+    /// The line that tells why there is no witness, without its line feed.
+    fn no_witness(_lack: Lack) -> &'static str {
+        "there is no witness"
+    }
+
+    /// The line that tells that memory for a note was refused, without its line feed.
+    fn no_note() -> &'static str {
+        "no memory for the note"
     }
 
     /// The line that tells of a fault, without its line feed, if there is memory for it.
@@ -162,15 +178,23 @@ pub fn ending_of<P: Program, S: Source, K: Sink, T: Sink, W: Sink>(
         × (told.new ≡ told.old) × (witness.new ≡ witness.old) }
     ensures served { (order : P.Order) → P.order_in (map (λ arg. arg.now) arguments.now) ≡ Ok order →
         IsEndingOf (P.serves order
-        (record { left = S.left source.old; reads = S.reads source.old; sent = K.sent sink.old; writes = K.writes sink.old })
-        (record { left = S.left source.new; reads = S.reads source.new; sent = K.sent sink.new; writes = K.writes sink.new }))
+        (record {
+          ends = record { left = S.left source.old; reads = S.reads source.old; sent = K.sent sink.old; writes = K.writes sink.old };
+          told = record { sent = T.sent told.old; writes = T.writes told.old };
+          witness = record { sent = W.sent witness.old; writes = W.writes witness.old };
+        })
+        (record {
+          ends = record { left = S.left source.new; reads = S.reads source.new; sent = K.sent sink.new; writes = K.writes sink.new };
+          told = record { sent = T.sent told.new; writes = T.writes told.new };
+          witness = record { sent = W.sent witness.new; writes = W.writes witness.new };
+        }))
         result }
 {
     let order = match P::order_of(arguments) {
         Ok(order) => order,
         Err(CommandFault::Bad) => return Ending::BadCommandLine,
     };
-    match P::answer_showing(alloc, order, source, sink, told, witness) {
+    match P::answer(alloc, order, source, sink, told, witness) {
         Ok(answered) => Ending::Answered(answered),
         Err(fault) => Ending::Refused(fault),
     }
@@ -239,6 +263,19 @@ fn tell(rt: &impl Eprint, line: Option<String>) {
     }
 }
 
+/// Prints what is told beside an answer.
+fn tell_beside<P: Program>(rt: &impl Eprint, answered: Answered) {
+    if let Some(lack) = answered.no_witness {
+        let _ = rt.eprintln(P::no_witness(lack));
+    }
+    match answered.note {
+        Ok(note) => tell(rt, note),
+        Err(AllocError) => {
+            let _ = rt.eprintln(P::no_note());
+        }
+    }
+}
+
 /// Runs a program between its input and standard output: what it does is that of `ending_of`, and its status that of
 /// `status_after`. The input is standard input, or the file that its arguments name.
 pub fn run<P: Program, R: Env + Files + Input + Print + Eprint + AllocGlobal>(rt: &R) -> ExitCode {
@@ -254,7 +291,7 @@ pub fn run<P: Program, R: Env + Files + Input + Print + Eprint + AllocGlobal>(rt
         Ending::Unopened => {
             let _ = rt.eprintln(P::unopened_file());
         }
-        Ending::Answered(answered) => tell(rt, answered.note),
+        Ending::Answered(answered) => tell_beside::<P>(rt, answered),
         Ending::Refused(fault) => tell(rt, P::fault_line(rt.alloc(), &fault)),
     }
     ExitCode::from(status)

@@ -1,10 +1,14 @@
 -- When an observed history is stuck at a given call.
-use Rattle.std.specs.Prelude.{ℕ, ◌≡◌, ◌≤◌, Some}
+use Rattle.std.specs.Prelude.{ℕ, ◌≡◌, ◌≤◌, List, length, Some}
 use Rattle.stamp_core.specs.Limits.{Bounds, units}
+use Rattle.stamp_core.specs.Word.{LockWord}
 use Rattle.stamp_explain.specs.declared.observed.Observation.{Observation}
 use Rattle.stamp_explain.specs.declared.observed.Returned.{Returned}
 use Rattle.stamp_explain.specs.Cut.{IsStuck}
 use Rattle.stamp_explain.specs.Observed.{ObservedHistory, IsObserved, IsReturnAt}
+use Rattle.stamp_observed.specs.declared.behind.SearchEnd.{SearchEnd}
+use Rattle.stamp_observed.specs.declared.behind.SearchEnd.TheVariants.{Small, NotFound}
+use Rattle.stamp_observed.specs.declared.behind.Sought.{Sought}
 use Rattle.stamp_observed.specs.Small.{IsCutThere, IsRenumbered}
 
 -- a history of a lock alone, under these limits, is stuck at the return of a call that is this one with stamps
@@ -26,3 +30,23 @@ pub record IsStuckWith (limits : Bounds) (e : Observation) (small : ObservedHist
 pub record IsStuckWithFew (limits : Bounds) (most : ℕ) (e : Observation) (small : ObservedHistory) : Type 0 where
   pub stuck : IsStuckWith limits e small
   pub few : stuck.versions ≤ most
+
+-- a history was sought that is stuck at this call, behind this word, of so many other calls, by searches that give up
+-- so
+pub record IsSought (limits : Bounds) (word : LockWord) (others : List Observation) (e : Observation) (most : ℕ)
+    (sought : Sought) : Type 0 where
+  pub limits_are : sought.limits ≡ limits
+  pub word_is : sought.word ≡ word
+  pub others_are : sought.others ≡ length others
+  pub ended_is : sought.ended ≡ e
+  pub most_is : sought.most ≡ most
+
+-- one was found; or none was, which was sought so
+abbrev pub IsFoundBehind : Bounds → LockWord → List Observation → Observation → ℕ → SearchEnd →
+    Type 0
+IsFoundBehind limits word others e most (Small small) = IsStuckWith limits e small
+IsFoundBehind limits word others e most (NotFound sought) = IsSought limits word others e most sought
+
+abbrev pub IfSmall : SearchEnd → (ObservedHistory → Type 0) → Type 0
+IfSmall (Small small) P = P small
+IfSmall (NotFound sought) P = Unit {0}

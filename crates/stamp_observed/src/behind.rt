@@ -2,7 +2,7 @@
 ghost use Rattle.std.specs.Prelude.{◌+◌, IfOk, IfSome, IsTrue, length};
 ghost use Rattle.stamp_core.specs.LockEvent.{write_count};
 ghost use Rattle.stamp_core.specs.Word.{HoldsForEvents};
-ghost use Rattle.stamp_observed.specs.Behind.{IsStuckWith, IsStuckWithFew};
+ghost use Rattle.stamp_observed.specs.Behind.{IfSmall, IsFoundBehind, IsStuckWith, IsStuckWithFew};
 ghost use Rattle.stamp_observed.specs.inner.Behind.{IsFaultWith, IsStuckBehind, LeavesOutFew};
 
 use crate::candidate::{Candidate, history_of};
@@ -25,6 +25,27 @@ struct StuckHistory {
     last: u64,
     /// How many versions are left out.
     versions: u64,
+}
+
+/// What was sought and not found: a small history that is stuck where a call returned, behind a word of the lock.
+/// `small_behind` alone makes one.
+#[derive(Drop)]
+pub struct Sought {
+    limits: Limits,
+    word: Word,
+    /// How many other calls there were.
+    others: usize,
+    ended: Observation,
+    most: u64,
+}
+
+/// How a search for a small history ends.
+#[derive(Drop)]
+pub enum SearchEnd {
+    /// This one is found.
+    Small(Observed),
+    /// None is.
+    NotFound(Sought),
 }
 
 /// Whether those that are left out, and those that can be left out once more, are no more versions than this.
@@ -161,17 +182,8 @@ fn any_stuck_behind(
     Ok(None)
 }
 
-/// A small history, without a record, that begins where the lock has this word, and is stuck at the return of a call:
-/// it is by the same thread, with the same call and reply, stamps count versions from a later one on, and nothing is
-/// later, as `small_of` says. No more versions are left out than the word has write acquisitions, and one for each
-/// call here. It is judged by `explain`, and made small. It refuses only for want of memory.
-///
-/// Tested, not proved: it is made of this call and others, which needn't be over by then, at positions from there on;
-/// calls that bring a new lock to the word come before them. There is none where the call hasn't returned, where the lock
-/// can't be brought to the word, where the calls are none that an observer may tell, or too many, and where they are
-/// explained behind the word, stuck at another return, or a search gives up on them once it has looked at more than
-/// `most` configurations.
-pub fn small_behind(
+/// The small history, if one is found.
+fn small_if_any(
     alloc: Global,
     limits: Limits,
     word: Word,
@@ -194,4 +206,38 @@ pub fn small_behind(
         return Ok(None);
     }
     Ok(Some(small_of(alloc, &stuck.history, stuck.place, most)?))
+}
+
+/// A small history, without a record, that begins where the lock has this word, and is stuck at the return of a call:
+/// it is by the same thread, with the same call and reply, stamps count versions from a later one on, and nothing is
+/// later, as `small_of` says. No more versions are left out than the word has write acquisitions, and one for each
+/// call here. It is judged by `explain`, and made small. It refuses only for want of memory.
+///
+/// Tested, not proved: when one is found. It is made of this call and others, which needn't be over by then, at positions
+/// from there on; calls that bring a new lock to the word come before them. There is none where the call hasn't returned,
+/// where the lock can't be brought to the word, where the calls are none that an observer may tell, or too many, and
+/// where they are explained behind the word, stuck at another return, or a search gives up on them once it has looked at
+/// more than `most` configurations.
+pub fn small_behind(
+    alloc: Global,
+    limits: Limits,
+    word: Word,
+    others: &[Observation],
+    ended: &Observation,
+    most: u64,
+) -> Result<SearchEnd, AllocError>
+    ensures found { IfOk result (λ found. IsFoundBehind limits word others.now ended.now most found) }
+    ensures few { IfOk result (λ found. IfSmall found (λ small. HoldsForEvents word (λ events.
+        IsStuckWithFew limits (write_count events + length others.now + 1) ended.now small))) }
+{
+    match small_if_any(alloc, limits, word, others, ended, most)? {
+        Some(small) => Ok(SearchEnd::Small(small)),
+        None => Ok(SearchEnd::NotFound(Sought {
+            limits,
+            word,
+            others: others.len(),
+            ended: *ended,
+            most,
+        })),
+    }
 }

@@ -30,7 +30,7 @@ mod spans;
 mod versions;
 mod window;
 
-pub use behind::small_behind;
+pub use behind::{SearchEnd, Sought, small_behind};
 pub use judging::{ObservedFault, ObservedWhy, fault_of};
 pub use observed_reading::read_observed;
 pub use observed_writing::write_observed;

@@ -212,3 +212,94 @@ fn a_sink_is_served_again(rt: HostRuntime) {
         assert!(rt; handed.get() == last);
     }
 }
+
+/// Gives one byte a read, and fails after so many reads.
+#[derive(Drop)]
+struct NarrowReader<'a> {
+    bytes: &'a [u8],
+    reads: usize,
+}
+
+impl Read for NarrowReader<'_> {
+    fn read(&mut self, buf: &mut [u8]) -> io::Result<usize> {
+        if self.reads == 0 {
+            return Err(io::Error::from(io::ErrorKind::Interrupted));
+        }
+        self.reads -= 1;
+        if let (Some((first, others)), false) = (self.bytes.split_first(), buf.is_empty()) {
+            buf[0] = *first;
+            self.bytes = others;
+            return Ok(1);
+        }
+        Ok(0)
+    }
+}
+
+/// Takes one byte a write, and fails after so many.
+#[derive(Drop)]
+struct NarrowWriter {
+    bytes: [u8; 64],
+    len: usize,
+    most: usize,
+}
+
+impl NarrowWriter {
+    fn new(most: usize) -> NarrowWriter {
+        NarrowWriter {
+            bytes: [0; 64],
+            len: 0,
+            most,
+        }
+    }
+
+    fn written(&self) -> &[u8] {
+        &self.bytes[..self.len.min(64)]
+    }
+}
+
+impl Write for NarrowWriter {
+    fn write(&mut self, buf: &[u8]) -> io::Result<usize> {
+        if self.len >= self.most.min(64) {
+            return Err(io::Error::from(io::ErrorKind::Interrupted));
+        }
+        let Some(byte) = buf.first() else {
+            return Ok(0);
+        };
+        self.bytes[self.len] = *byte;
+        self.len += 1;
+        Ok(1)
+    }
+
+    fn flush(&mut self) -> io::Result<()> {
+        Ok(())
+    }
+}
+
+#[test]
+fn a_reader_that_fails_at_any_read_is_told_and_nothing_is_written(rt: HostRuntime) {
+    for reads in 0..=INPUT.len() {
+        let bytes = INPUT;
+        let mut source = ReadSource::new(NarrowReader { bytes, reads });
+        let mut sink = WriteSink::new(NarrowWriter::new(64));
+        let result = serve(rt.alloc(), Order::Replay, &mut source, &mut sink);
+        assert!(rt; result == Err(ServeFault::ReadFault), "{reads}");
+        assert!(rt; sink.into_inner().written().is_empty(), "{reads}");
+    }
+}
+
+#[test]
+fn a_writer_that_fails_at_any_write_is_told_and_the_bytes_before_went_out(rt: HostRuntime) {
+    for most in 0..=LINE.len() {
+        let (bytes, reads) = (INPUT, usize::MAX);
+        let mut source = ReadSource::new(NarrowReader { bytes, reads });
+        let mut sink = WriteSink::new(NarrowWriter::new(most));
+        let result = serve(rt.alloc(), Order::Replay, &mut source, &mut sink);
+        let is_whole = most == LINE.len();
+        assert!(rt; (result == Ok(Verdict::Accepted)) == is_whole, "{most}");
+        assert!(rt;
+            (result == Err(ServeFault::WriteFault)) != is_whole,
+            "{most}"
+        );
+        assert!(rt; sink.into_inner().written() == &LINE[..most], "{most}");
+    }
+}

@@ -17,6 +17,8 @@ mod history_reading_tests;
 #[cfg(test)]
 mod history_tests;
 #[cfg(test)]
+mod line_rows;
+#[cfg(test)]
 mod machine_tests;
 #[cfg(test)]
 mod migration_tests;

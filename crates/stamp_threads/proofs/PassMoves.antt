@@ -108,6 +108,7 @@ allows_enter limits slots may s r _ _ =
           word = get_or s.words 0 0;
           view = refl;
           represents = r.represents;
+          new = r.passes.entries;
           consistent = record { legal = r.legal; own = part.own; given = part.given };
         },
       ),

@@ -7,7 +7,7 @@ use Rattle.stamp_core.specs.declared.call.Call.{Call}
 use Rattle.stamp_core.specs.declared.reply.Reply.{Reply}
 use Rattle.stamp_machines.specs.LockNumber.{RepresentsAt}
 use Rattle.stamp_threads.specs.declared.pass_view.PassView.{PassView}
-use Rattle.stamp_threads.specs.PassName.{HasGivenAll}
+use Rattle.stamp_threads.specs.PassName.{AreRooted, HasGivenAll}
 use Rattle.stamp_threads.specs.PassView as passes
 use Rattle.stamp_threads.specs.PassView.{made_by, every, entering}
 use Rattle.stamp_threads.specs.Seats as seats
@@ -55,10 +55,11 @@ pub record LeavesWord (limits : Bounds) (v : LockPassView) (word : ℕ) (log : L
   pub represents : RepresentsAt limits word (events_after limits log)
 
 -- a pass that entered: its path is empty, it knows a legal history, which left the word that its load
--- found, and it has made no call
+-- found, and it has made no call. Its root is above those of all names there: no call has its name
 pub record HasEntered (limits : Bounds) (v : LockPassView) : Type 0 where
   pub root : ℕ
   pub word : ℕ
   pub view : v ≡ entering root tt v.known word
   pub represents : RepresentsAt limits word (events_after limits v.known)
+  pub new : AreRooted root v.known
   pub consistent : IsConsistentWith limits v

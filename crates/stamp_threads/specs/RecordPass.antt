@@ -7,7 +7,7 @@ use Rattle.stamp_threads.specs.declared.record_view.RecordShape.{RecordShape}
 use Rattle.stamp_threads.specs.declared.record_view.RecordEvent.{RecordEvent}
 use Rattle.stamp_threads.specs.declared.record_view.RecordPhase.{RecordPhase}
 use Rattle.stamp_threads.specs.declared.record_view.RecordPhase.TheVariants.{Idle, Writing}
-use Rattle.stamp_threads.specs.PassName.{HasGivenAll}
+use Rattle.stamp_threads.specs.PassName.{AreRooted, HasGivenAll}
 use Rattle.stamp_threads.specs.PassView as passes
 use Rattle.stamp_threads.specs.PassView.{made_by, entering}
 use Rattle.stamp_threads.specs.Seats as seats
@@ -60,10 +60,12 @@ pub record LeavesWord (shape : RecordShape) (v : RecordPassView) (word : ℕ) (l
   pub few : puts log ≤ shape.limits.versions
 
 -- a pass that entered: its path is empty, it knows a legal history, which left the lock word that its
--- load found, and it has made no call
+-- load found, and it has made no call. Its root is above those of all names there: no call has its name
 pub record HasEntered (shape : RecordShape) (v : RecordPassView) : Type 0 where
   pub root : ℕ
   pub word : ℕ
   pub view : v ≡ entering root Idle v.known word
   pub word_is : word ≡ word_after shape.limits.layout v.known
+  pub few : puts v.known ≤ shape.limits.versions
+  pub new : AreRooted root v.known
   pub consistent : IsConsistentWith shape.width v

@@ -10,6 +10,8 @@ mod enter_tests;
 #[cfg(test)]
 mod lock_tests;
 #[cfg(test)]
+mod looks;
+#[cfg(test)]
 mod record_tests;
 #[cfg(test)]
 mod record_thread_tests;

@@ -61,6 +61,14 @@ fn a_released_write_stamp_validates_until_the_next_writer(rt: HostRuntime) -> Re
     Ok(())
 }
 
+#[test]
+fn a_second_reader_gets_zero_where_there_is_room_for_one(rt: HostRuntime) -> Result<(), Fail> {
+    let (lock, mut pass) = made(rt.alloc(), Layout::One, 1)?;
+    assert!(rt; answers(&lock, &mut pass, Call::ReadLock, Reply::Stamp(257)));
+    assert!(rt; answers(&lock, &mut pass, Call::ReadLock, Reply::Stamp(0)));
+    Ok(())
+}
+
 /// There is room for one reader, so that the second gets 0.
 #[test]
 fn each_other_call_and_those_that_get_zero(rt: HostRuntime) -> Result<(), Fail> {

@@ -69,6 +69,51 @@ pub fn gives<P: ContentRule>(shared: &RuledRecord<P>, pass: &mut RecordPass, wor
     shared.get_once(pass) == Ok(words)
 }
 
+/// Two words.
+fn two(first: u64, second: u64) -> Words
+    ensures { length result ≡ 2 }
+{
+    match Words::new(&[first, second]) {
+        Some(words) => words,
+        None => unreachable!(),
+    }
+}
+
+#[test]
+fn two_words_are_got_as_they_were_put_and_without_a_version_none_are(
+    rt: HostRuntime,
+) -> Result<(), Fail> {
+    for (layout, spent) in [(Layout::One, 256), (Layout::Two, 131_072)] {
+        let (shared, mut pass) = made_record(rt.alloc(), layout, 1_000, 2)?;
+        assert!(rt; puts(&shared, &mut pass, two(7, 9), Ok(())));
+        assert!(rt; gives(&shared, &mut pass, two(7, 9)));
+        let (shared, mut pass) = made_record(rt.alloc(), layout, 0, 2)?;
+        let refused = Err(PutFault::Spent(spent));
+        assert!(rt; puts(&shared, &mut pass, two(7, 9), refused));
+    }
+    Ok(())
+}
+
+#[test]
+fn the_third_put_of_two_versions_is_refused(rt: HostRuntime) -> Result<(), Fail> {
+    let (shared, mut pass) = made_record(rt.alloc(), Layout::One, 2, 2)?;
+    assert!(rt; puts(&shared, &mut pass, two(1, 2), Ok(())));
+    assert!(rt; puts(&shared, &mut pass, two(3, 4), Ok(())));
+    assert!(rt; puts(&shared, &mut pass, two(5, 6), Err(PutFault::Spent(768))));
+    Ok(())
+}
+
+#[test]
+fn a_refused_put_leaves_the_words_that_were_put_last(rt: HostRuntime) -> Result<(), Fail> {
+    let (shared, mut pass) = made_record(rt.alloc(), Layout::One, 2, 2)?;
+    assert!(rt; puts(&shared, &mut pass, two(1, 2), Ok(())));
+    assert!(rt; puts(&shared, &mut pass, two(3, 4), Ok(())));
+    assert!(rt; gives(&shared, &mut pass, two(3, 4)));
+    assert!(rt; puts(&shared, &mut pass, two(5, 6), Err(PutFault::Spent(768))));
+    assert!(rt; gives(&shared, &mut pass, two(3, 4)));
+    Ok(())
+}
+
 /// Whether so many puts, each of other words, are made and got.
 fn puts_each(shared: &RunningRecord, pass: &mut RecordPass, versions: u64) -> bool
     requires { (pass.old.table ≡ shared.now.table) × (shared.now.shape.width ≡ 2) }

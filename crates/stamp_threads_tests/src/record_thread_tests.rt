@@ -151,6 +151,16 @@ fn four_read_what_two_put_and_all_meet(rt: HostRuntime) -> Result<(), Fail> {
     Ok(())
 }
 
+/// This number alone: of the time that a put of one word takes, most is between its accesses to the lock word.
+fn one(number: u64) -> Words
+    ensures { length result ≡ 1 }
+{
+    match Words::new(&[number]) {
+        Some(words) => words,
+        None => unreachable!(),
+    }
+}
+
 /// Which refusals a thread has seen.
 #[derive(Clone, Copy)]
 struct Refusals {
@@ -188,13 +198,13 @@ impl Refusals {
 
 /// Puts again and again until the other thread is done.
 fn put_beside(shared: &RunningRecord, mut pass: RecordPass, is_over: &AtomicBool)
-    requires { (pass.table ≡ shared.now.table) × (shared.now.shape.width ≡ 16) }
+    requires { (pass.table ≡ shared.now.table) × (shared.now.shape.width ≡ 1) }
 {
     for i in 0..u64::MAX {
         if is_over.load(Ordering::SeqCst) {
             return;
         }
-        let _ = shared.put_once(&mut pass, sixteen(i));
+        let _ = shared.put_once(&mut pass, one(i));
     }
 }
 
@@ -219,12 +229,12 @@ fn get_until_refused(shared: &RunningRecord, pass: &mut RecordPass) -> bool
 
 /// Puts until it was refused both ways, or this many times; whether it was.
 fn put_until_refused(shared: &RunningRecord, pass: &mut RecordPass) -> bool
-    requires { (pass.old.table ≡ shared.now.table) × (shared.now.shape.width ≡ 16) }
+    requires { (pass.old.table ≡ shared.now.table) × (shared.now.shape.width ≡ 1) }
     ensures { pass.new.table ≡ shared.now.table }
 {
     let mut seen = Refusals::none();
     for i in 0..100_000_000u64 {
-        if let Err(fault) = shared.put_once(pass, sixteen(i)) {
+        if let Err(fault) = shared.put_once(pass, one(i)) {
             seen.put(fault);
             thread::yield_now();
         }
@@ -237,7 +247,7 @@ fn put_until_refused(shared: &RunningRecord, pass: &mut RecordPass) -> bool
 
 /// Whether gets, and whether puts, were refused both ways; the other thread is told to end then.
 fn get_and_put(shared: &RunningRecord, mut pass: RecordPass, is_over: &AtomicBool) -> (bool, bool)
-    requires { (pass.table ≡ shared.now.table) × (shared.now.shape.width ≡ 16) }
+    requires { (pass.table ≡ shared.now.table) × (shared.now.shape.width ≡ 1) }
 {
     let gets = get_until_refused(shared, &mut pass);
     let puts = put_until_refused(shared, &mut pass);
@@ -248,7 +258,7 @@ fn get_and_put(shared: &RunningRecord, mut pass: RecordPass, is_over: &AtomicBoo
 #[test]
 fn gets_and_puts_are_busy_and_are_lost_beside_a_writer(rt: HostRuntime) -> Result<(), Fail> {
     for layout in [Layout::One, Layout::Two] {
-        let (shared, pass) = made_record(rt.alloc(), layout, 1 << 40, 16)?;
+        let (shared, pass) = made_record(rt.alloc(), layout, 1 << 40, 1)?;
         let (first, second) = shared.split(pass);
         let is_over = AtomicBool::new(false);
         let (_, are_refused) = join(

@@ -2,31 +2,69 @@
 ghost use Rattle.std.specs.Prelude.{◌≡◌, true};
 
 use crate::enter_tests::enterable_lock;
-use crate::lock_tests::answers;
+use crate::lock_tests::{answers, made};
+use crate::looks::{is_reached, let_come};
 use stamp_core::{Call, Layout, Reply};
-use stamp_threads::RunningLock;
+use stamp_threads::{Pass, RunningLock};
 use std::alloc::Global;
 use std::sync::atomic::{AtomicU64, Ordering};
 use std::sync::{Arc, Barrier, Wait};
 use std::test::Fail;
 use std::thread;
 use std::thread::Threads;
-use std::time::{Clock, Duration};
 
 /// A call, and what it answers.
 type Row = (Call, Reply);
 
-/// A lock, and what a thread that makes calls on it tells. Nobody joins the thread: where a call of it never
-/// comes back, the test ends nevertheless.
+/// Where a thread meets the test, or another thread, before its first call, and what it tells.
+#[derive(Drop)]
+struct Told {
+    both: Barrier,
+    /// How many calls were answered as they should.
+    right: AtomicU64,
+}
+
+impl Told {
+    fn new() -> Told {
+        Told {
+            both: Barrier::new(2),
+            right: AtomicU64::new(0),
+        }
+    }
+}
+
+/// Tries to write by this pass, and tells whether the call was answered as it should.
+fn try_write_once<R: Wait>(rt: &R, lock: &RunningLock, mut pass: Pass, told: &Told)
+    requires { pass.table ≡ lock.now.table }
+{
+    told.both.wait(rt);
+    if lock.call(rt, &mut pass, Call::TryWrite) == Reply::Stamp(384) {
+        told.right.fetch_add(1, Ordering::SeqCst);
+    }
+}
+
+/// Nobody joins the thread: where its call never comes back, the test ends nevertheless. So it is in all tests here.
+#[test]
+fn a_call_of_the_first_pass_of_a_new_lock_comes_back(rt: HostRuntime) -> Result<(), Fail> {
+    let (lock, pass) = made(rt.alloc(), Layout::One, 127)?;
+    let told = Arc::new(rt.alloc(), Told::new())?;
+    let theirs = Arc::try_clone(&told)?;
+    thread::spawn(
+        &rt,
+        move ||
+            requires { pass.table ≡ lock.table }
+        { try_write_once(&rt, &lock, pass, &theirs) },
+    )?;
+    told.both.wait(&rt);
+    assert!(rt; is_reached(&told.right, 1));
+    Ok(())
+}
+
+/// A lock, and what a thread that makes calls on it tells.
 #[derive(Drop)]
 struct Watched {
     lock: RunningLock,
-    /// Where the thread meets the test, or another thread, before the first call.
-    both: Barrier,
-    /// How many exchanges were lost.
-    lost: AtomicU64,
-    /// How many calls were answered as they should.
-    right: AtomicU64,
+    told: Told,
     ghost enterable: { lock.enterable ≡ true },
 }
 
@@ -35,58 +73,32 @@ impl Watched {
     fn new(alloc: Global, layout: Layout, readers: u64) -> Result<Arc<Watched, Global>, Fail> {
         let (lock, pass) = enterable_lock(alloc, layout, readers)?;
         drop(pass);
-        let both = Barrier::new(2);
-        let (lost, right) = (AtomicU64::new(0), AtomicU64::new(0));
-        let watched = Watched {
-            lock,
-            both,
-            lost,
-            right,
-        };
-        Ok(Arc::new(alloc, watched)?)
+        let told = Told::new();
+        Ok(Arc::new(alloc, Watched { lock, told })?)
     }
 
     /// Makes these calls one after another, up to the first that is answered otherwise.
     fn make_calls<R: Wait>(&self, rt: &R, rows: &[Row]) {
         let mut pass = self.lock.enter();
-        self.both.wait(rt);
+        self.told.both.wait(rt);
         for (call, reply) in rows.iter() {
             if !call.is_lock_call() || self.lock.call(rt, &mut pass, *call) != *reply {
                 return;
             }
-            self.right.fetch_add(1, Ordering::SeqCst);
+            self.told.right.fetch_add(1, Ordering::SeqCst);
         }
     }
 
-    /// Reads and releases until ten exchanges were lost, and counts as one right answer then. Only `once` tells
-    /// so; `call`, which stands between, loses as often.
+    /// Reads and releases 100,000 times, and counts as one right answer then. Where another thread does so beside it,
+    /// exchanges are lost.
     fn lose_exchanges<R: Wait>(&self, rt: &R) {
         let mut pass = self.lock.enter();
-        self.both.wait(rt);
-        for _ in 0..1_000_000_000u64 {
+        self.told.both.wait(rt);
+        for _ in 0..100_000u64 {
             self.lock.call(rt, &mut pass, Call::TryRead);
             self.lock.call(rt, &mut pass, Call::TryUnlockRead);
-            if self.lock.once(&mut pass, Call::TryRead).is_err() {
-                self.lost.fetch_add(1, Ordering::SeqCst);
-            }
-            let _ = self.lock.once(&mut pass, Call::TryUnlockRead);
-            if self.lost.load(Ordering::SeqCst) >= 10 {
-                self.right.fetch_add(1, Ordering::SeqCst);
-                break;
-            }
         }
-    }
-
-    /// How many calls were answered as they should, once it's so many, or after half a minute, which even a busy
-    /// machine seldom needs.
-    fn right_in_time<R: Clock>(&self, rt: &R, calls: u64) -> u64 {
-        for _ in 0..30_000u64 {
-            if self.right.load(Ordering::SeqCst) >= calls {
-                break;
-            }
-            thread::sleep(rt, Duration::from_millis(1));
-        }
-        self.right.load(Ordering::SeqCst)
+        self.told.right.fetch_add(1, Ordering::SeqCst);
     }
 }
 
@@ -98,7 +110,7 @@ fn start<const N: usize, R: Threads + Wait + Copy + Send + 'static>(
 ) -> Result<(), Fail> {
     let (own, theirs) = (*rt, Arc::try_clone(watched)?);
     thread::spawn(rt, move || theirs.make_calls(&own, &rows))?;
-    watched.both.wait(rt);
+    watched.told.both.wait(rt);
     Ok(())
 }
 
@@ -108,7 +120,7 @@ const ON_A_FREE_LOCK: [Row; 1] = [(Call::TryWrite, Reply::Stamp(384))];
 fn a_call_on_a_free_lock_comes_back(rt: HostRuntime) -> Result<(), Fail> {
     let watched = Watched::new(rt.alloc(), Layout::One, 127)?;
     start(&rt, &watched, ON_A_FREE_LOCK)?;
-    assert!(rt; watched.right_in_time(&rt, 1) == 1);
+    assert!(rt; is_reached(&watched.told.right, 1));
     Ok(())
 }
 
@@ -139,8 +151,12 @@ const WITHOUT_A_WAIT: [Row; 20] = [
 fn each_call_that_need_not_wait_comes_back(rt: HostRuntime) -> Result<(), Fail> {
     let watched = Watched::new(rt.alloc(), Layout::One, 127)?;
     start(&rt, &watched, WITHOUT_A_WAIT)?;
-    let right = watched.right_in_time(&rt, 20);
-    assert!(rt; right == 20, "row {right}");
+    let right = &watched.told.right;
+    assert!(rt;
+        is_reached(right, 20),
+        "row {}",
+        right.load(Ordering::SeqCst)
+    );
     Ok(())
 }
 
@@ -190,10 +206,10 @@ fn one_who_leaves_lets_in_one_who_waits(rt: HostRuntime) -> Result<(), Fail> {
         let reply = Reply::Stamp(held);
         assert!(rt; holds.is_lock_call() && answers(lock, &mut first, holds, reply));
         start(&rt, &watched, [(waits, Reply::Stamp(stamp))])?;
-        thread::sleep(&rt, Duration::from_millis(20));
-        assert!(rt; watched.right.load(Ordering::SeqCst) == 0);
+        let_come();
+        assert!(rt; watched.told.right.load(Ordering::SeqCst) == 0);
         assert!(rt; answers(lock, &mut first, Call::Unlock(held), Reply::Done));
-        assert!(rt; watched.right_in_time(&rt, 1) == 1);
+        assert!(rt; is_reached(&watched.told.right, 1));
     }
     Ok(())
 }
@@ -206,7 +222,7 @@ fn a_call_that_loses_exchanges_comes_back(rt: HostRuntime) -> Result<(), Fail> {
             let theirs = Arc::try_clone(&watched)?;
             thread::spawn(&rt, move || theirs.lose_exchanges(&rt))?;
         }
-        assert!(rt; watched.right_in_time(&rt, 2) == 2);
+        assert!(rt; is_reached(&watched.told.right, 2));
     }
     Ok(())
 }

@@ -9,6 +9,7 @@ use stamp_threads::{Book, BookError, Shared};
 use std::alloc::Global;
 use std::sync::{Barrier, Wait};
 use std::test::Fail;
+use std::thread;
 use std::thread::{Threads, join};
 
 /// Whether a call by this thread is answered so.
@@ -124,6 +125,7 @@ fn read_beside<R: Wait>(
         if caller.call(rt, shared, &Call::ReadCount)? == Reply::Count(2) {
             return Some(caller);
         }
+        thread::yield_now();
     }
     None
 }
@@ -146,6 +148,34 @@ fn two_readers_see_each_other(rt: HostRuntime) -> Result<(), Fail> {
     assert!(rt; is_kept(&record, &zero.ok_or("not seen")?));
     assert!(rt; is_kept(&record, &one.ok_or("not seen")?));
     assert!(rt; is_kept(&record, &two));
+    Ok(())
+}
+
+/// A hundred times acquires read mode and releases it.
+fn read_often<R: Wait>(rt: &R, shared: &Shared, mut caller: Caller) -> Option<Caller> {
+    for _ in 0..100u64 {
+        caller.call(rt, shared, &Call::TryRead)?;
+        caller.call(rt, shared, &Call::TryUnlockRead)?;
+    }
+    Some(caller)
+}
+
+#[test]
+fn what_two_readers_were_answered_stands_in_the_book_in_their_order(
+    rt: HostRuntime,
+) -> Result<(), Fail> {
+    let shared = Shared::new(opened(rt.alloc(), 1_000)?);
+    let (zero, one) = (Caller::new(rt.alloc(), 0), Caller::new(rt.alloc(), 1));
+    let (zero, one) = join(
+        &rt,
+        || read_often(&rt, &shared, zero),
+        || read_often(&rt, &shared, one),
+    );
+    let record = shared.record(&rt)?;
+    assert!(rt; check(&record) == Ok(400));
+    assert!(rt; is_kept(&record, &zero.ok_or("refused")?));
+    assert!(rt; is_kept(&record, &one.ok_or("refused")?));
+    assert!(rt; tells(&rt, &shared, 2, Call::ReadCount, Ok(Reply::Count(0))));
     Ok(())
 }
 

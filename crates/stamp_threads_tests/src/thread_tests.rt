@@ -190,7 +190,7 @@ fn read_until_lost(lock: &RunningLock, mut pass: Pass, is_over: &AtomicBool) -> 
     requires { pass.table ≡ lock.now.table }
     ensures { result.1.table ≡ lock.now.table }
 {
-    for _ in 0..20_000_000u64 {
+    for _ in 0..1_000_000_000u64 {
         if is_over.load(Ordering::SeqCst) {
             break;
         }
@@ -220,6 +220,48 @@ fn an_exchange_is_lost_where_threads_meet(rt: HostRuntime) -> Result<(), Fail> {
         return Err(Fail::from("no exchange was lost"));
     };
     assert!(rt; lost.loaded != lost.found);
+    Ok(())
+}
+
+/// Acquires write mode, lets the other thread come, and releases.
+fn write_before<R: Wait>(
+    rt: &R,
+    lock: &RunningLock,
+    mut pass: Pass,
+    both: &Barrier,
+) -> (Reply, Reply, Pass)
+    requires { pass.table ≡ lock.now.table }
+    ensures { result.2.table ≡ lock.now.table }
+{
+    let written = lock.call(rt, &mut pass, Call::WriteLock);
+    both.wait(rt);
+    let released = lock.call(rt, &mut pass, Call::UnlockWrite(384));
+    (written, released, pass)
+}
+
+/// Waits for read mode once the writer is there.
+fn read_behind<R: Wait>(rt: &R, lock: &RunningLock, mut pass: Pass, both: &Barrier) -> Reply
+    requires { pass.table ≡ lock.now.table }
+{
+    both.wait(rt);
+    lock.call(rt, &mut pass, Call::ReadLock)
+}
+
+/// The writer's own last call left 512.
+#[test]
+fn a_writer_s_pass_closes_a_lock_that_a_reader_holds(rt: HostRuntime) -> Result<(), Fail> {
+    let (lock, pass) = made(rt.alloc(), Layout::One, 127)?;
+    let (first, second) = lock.split(pass);
+    let both = Barrier::new(2);
+    let ((written, released, first), read) = join(
+        &rt,
+        || write_before(&rt, &lock, first, &both),
+        || read_behind(&rt, &lock, second, &both),
+    );
+    assert!(rt; written == Reply::Stamp(384));
+    assert!(rt; read == Reply::Stamp(513));
+    assert!(rt; released == Reply::Done);
+    assert!(rt; lock.close(first) == 513);
     Ok(())
 }
 

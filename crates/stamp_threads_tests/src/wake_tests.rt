@@ -2,16 +2,16 @@
 ghost use Rattle.std.specs.Prelude.{◌<◌, IsTrue};
 ghost use Rattle.stamp_core.specs.Call.{is_lock_call};
 
+use crate::looks::{is_reached, let_come};
 use crate::shared_tests::tells;
 use stamp_core::{Call, Limits, Reply};
 use stamp_threads::{Book, Shared};
 use std::alloc::Global;
 use std::sync::atomic::{AtomicU64, Ordering};
-use std::sync::{Arc, Wait};
+use std::sync::{Arc, Barrier, Wait};
 use std::test::Fail;
 use std::thread;
 use std::thread::Threads;
-use std::time::{Clock, Duration};
 
 /// The shared book of a lock with at most two readers.
 fn shared_book(alloc: Global) -> Result<Arc<Shared, Global>, Fail> {
@@ -19,17 +19,24 @@ fn shared_book(alloc: Global) -> Result<Arc<Shared, Global>, Fail> {
     Ok(Arc::new(alloc, Shared::new(book))?)
 }
 
+/// Where a thread that makes a call meets the test, and what it tells.
+#[derive(Drop)]
+struct Told {
+    both: Barrier,
+    /// The stamp that it was answered, 0 for none, and one more; 0 before.
+    stamp: AtomicU64,
+}
+
 /// A thread that makes a call which waits. Nobody joins it: where it is never woken, the test ends
 /// nevertheless.
 #[derive(Drop)]
 struct Waiter {
-    /// The stamp that it was answered, 0 for none; `u64::MAX` before.
-    stamp: Arc<AtomicU64, Global>,
+    told: Arc<Told, Global>,
 }
 
 impl Waiter {
     /// Starts the thread, and lets it come to wait.
-    fn start<R: Threads + Wait + Clock + Copy + Send + 'static>(
+    fn start<R: Threads + Wait + Copy + Send + 'static>(
         rt: &R,
         alloc: Global,
         shared: &Arc<Shared, Global>,
@@ -39,52 +46,51 @@ impl Waiter {
         requires thread { thread < 64 }
         requires lock_call { IsTrue (is_lock_call call) }
     {
-        let stamp = Arc::new(alloc, AtomicU64::new(u64::MAX))?;
-        let (theirs, told) = (Arc::try_clone(shared)?, Arc::try_clone(&stamp)?);
-        let own = *rt;
+        let (both, stamp) = (Barrier::new(2), AtomicU64::new(0));
+        let told = Arc::new(alloc, Told { both, stamp })?;
+        let (own, theirs, telling) = (*rt, Arc::try_clone(shared)?, Arc::try_clone(&told)?);
         thread::spawn(
             rt,
             move ||
                 requires { (thread < 64) × IsTrue (is_lock_call call) }
-            { acquire_once(&own, &theirs, thread, call, &told) },
+            { acquire_once(&own, &theirs, thread, call, &telling) },
         )?;
-        thread::sleep(rt, Duration::from_millis(20));
-        Ok(Waiter { stamp })
+        told.both.wait(rt);
+        let_come();
+        Ok(Waiter { told })
     }
 
-    /// The stamp that it is answered, `u64::MAX` where no answer came in half a minute.
-    fn stamp<R: Clock>(&self, rt: &R) -> u64 {
-        for _ in 0..30_000u64 {
-            let stamp = self.stamp.load(Ordering::SeqCst);
-            if stamp != u64::MAX {
-                return stamp;
-            }
-            thread::sleep(rt, Duration::from_millis(1));
+    /// The stamp that it is answered, if an answer comes while it is looked for.
+    fn stamp(&self) -> Option<u64> {
+        if is_reached(&self.told.stamp, 1) {
+            self.told.stamp.load(Ordering::SeqCst).checked_sub(1)
+        } else {
+            None
         }
-        u64::MAX
     }
 }
 
 /// Makes the call, tells the stamp, and releases.
-fn acquire_once<R: Wait>(rt: &R, shared: &Shared, thread: u64, call: Call, told: &AtomicU64)
+fn acquire_once<R: Wait>(rt: &R, shared: &Shared, thread: u64, call: Call, told: &Told)
     requires thread { thread < 64 }
     requires lock_call { IsTrue (is_lock_call call) }
 {
+    told.both.wait(rt);
     if let Ok(Reply::Stamp(stamp)) = shared.call(rt, thread, call) {
-        told.store(stamp, Ordering::SeqCst);
+        told.stamp.store(stamp.saturating_add(1), Ordering::SeqCst);
         let _ = shared.call(rt, thread, Call::Unlock(stamp));
     }
 }
 
 /// What one is answered who acquires by the first call and leaves by another, and the stamp of one who waits for
 /// it by a third. None for a call to leave by that is no lock call.
-fn leave_by<R: Threads + Wait + Clock + Copy + Send + 'static>(
+fn leave_by<R: Threads + Wait + Copy + Send + 'static>(
     rt: &R,
     alloc: Global,
     acquires: Call,
     leaves: Call,
     waits: Call,
-) -> Result<(Option<Reply>, u64), Fail>
+) -> Result<(Option<Reply>, Option<u64>), Fail>
     requires acquires { IsTrue (is_lock_call acquires) }
     requires waits { IsTrue (is_lock_call waits) }
 {
@@ -92,10 +98,10 @@ fn leave_by<R: Threads + Wait + Clock + Copy + Send + 'static>(
     let _ = shared.call(rt, 0, acquires);
     let waiter = Waiter::start(rt, alloc, &shared, 1, waits)?;
     if !leaves.is_lock_call() {
-        return Ok((None, 0));
+        return Ok((None, None));
     }
     let reply = shared.call(rt, 0, leaves).ok();
-    Ok((reply, waiter.stamp(rt)))
+    Ok((reply, waiter.stamp()))
 }
 
 #[test]
@@ -108,7 +114,7 @@ fn a_writer_who_leaves_wakes_a_reader(rt: HostRuntime) -> Result<(), Fail> {
         (Call::ToRead(384), Reply::Stamp(513), 514),
     ] {
         let left = leave_by(&rt, rt.alloc(), Call::WriteLock, leaves, Call::ReadLock)?;
-        assert!(rt; left == (Some(reply), stamp));
+        assert!(rt; left == (Some(reply), Some(stamp)));
     }
     Ok(())
 }
@@ -122,7 +128,7 @@ fn the_last_reader_who_leaves_wakes_a_writer(rt: HostRuntime) -> Result<(), Fail
         (Call::ToOptimistic(257), Reply::Stamp(256)),
     ] {
         let left = leave_by(&rt, rt.alloc(), Call::ReadLock, leaves, Call::WriteLock)?;
-        assert!(rt; left == (Some(reply), 384));
+        assert!(rt; left == (Some(reply), Some(384)));
     }
     Ok(())
 }
@@ -135,7 +141,7 @@ fn a_waiting_writer_is_told_that_no_version_is_left(rt: HostRuntime) -> Result<(
     assert!(rt; tells(&rt, &shared, 0, Call::ReadLock, Ok(Reply::Stamp(257))));
     let writer = Waiter::start(&rt, rt.alloc(), &shared, 1, Call::WriteLock)?;
     assert!(rt; tells(&rt, &shared, 0, Call::ToWrite(257), Ok(Reply::Stamp(384))));
-    assert!(rt; writer.stamp(&rt) == 0);
+    assert!(rt; writer.stamp() == Some(0));
     Ok(())
 }
 
@@ -147,12 +153,12 @@ fn readers_who_leave_wake_a_writer_and_one_who_waits_for_room(rt: HostRuntime) -
     let writer = Waiter::start(&rt, rt.alloc(), &shared, 1, Call::WriteLock)?;
     assert!(rt; tells(&rt, &shared, 0, Call::TryUnlockRead, Ok(Reply::Yes)));
     assert!(rt; tells(&rt, &shared, 0, Call::TryUnlockRead, Ok(Reply::Yes)));
-    assert!(rt; writer.stamp(&rt) == 384);
+    assert!(rt; writer.stamp() == Some(384));
     assert!(rt; tells(&rt, &shared, 0, Call::ReadLock, Ok(Reply::Stamp(513))));
     assert!(rt; tells(&rt, &shared, 0, Call::ReadLock, Ok(Reply::Stamp(514))));
     let reader = Waiter::start(&rt, rt.alloc(), &shared, 1, Call::ReadLock)?;
     assert!(rt; tells(&rt, &shared, 0, Call::UnlockRead(513), Ok(Reply::Done)));
-    assert!(rt; reader.stamp(&rt) == 514);
+    assert!(rt; reader.stamp() == Some(514));
     Ok(())
 }
 
@@ -167,11 +173,11 @@ fn a_downgrade_wakes_the_reader_among_writers(rt: HostRuntime) -> Result<(), Fai
         let reader = Waiter::start(&rt, rt.alloc(), &shared, 3, Call::ReadLock)?;
         let third = Waiter::start(&rt, rt.alloc(), &shared, 4, Call::WriteLock)?;
         assert!(rt; tells(&rt, &shared, 0, Call::ToRead(384), Ok(Reply::Stamp(513))));
-        assert!(rt; reader.stamp(&rt) == 514);
+        assert!(rt; reader.stamp() == Some(514));
         assert!(rt; tells(&rt, &shared, 0, Call::UnlockRead(513), Ok(Reply::Done)));
-        let mut written = [first.stamp(&rt), second.stamp(&rt), third.stamp(&rt)];
+        let mut written = [first.stamp(), second.stamp(), third.stamp()];
         written.sort_unstable();
-        assert!(rt; written == [640, 896, 1_152]);
+        assert!(rt; written == [Some(640), Some(896), Some(1_152)]);
     }
     Ok(())
 }

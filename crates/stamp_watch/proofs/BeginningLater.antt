@@ -2,10 +2,11 @@
 use Rattle.std.proofs.Common.{◌≡◌, ◌≢◌, ◌⊎◌, ◌+◌, ◌-◌, ◌<◌, ◌≤◌, ℕ, zero, suc, Bool, false, List, [], ◌∷◌, ◌++◌}
 use Rattle.std.proofs.Common.{length, refl, sym, ◌∙◌, ap, subst, inl, inr, arith, ne_eqb}
 use Rattle.std.specs.Prelude.{take, not, ◌&&◌, ◌||◌}
-use Rattle.std.specs.List.{fold}
+use Rattle.std.specs.List.{All, fold}
 use Rattle.std.proofs.lemmas.Bool.{cases_eq, cases_lt}
 use Rattle.std.proofs.lemmas.List.{length-append, take-append-le}
-use Rattle.std.proofs.Math.Seq.{take-append-add}
+use Rattle.std.proofs.lemmas.List.Elements.{All-append, All-cons, All-drop, All-head, All-tail, All-take}
+use Rattle.std.proofs.Math.Seq.{drop-append_seam, take-append_seam, take-append-add}
 use Rattle.stamp_core.specs.LockEvent.{LockEvent}
 use Rattle.stamp_core.specs.Limits.{Bounds}
 use Rattle.stamp_core.specs.declared.call.Call.{Call}
@@ -18,6 +19,7 @@ use Rattle.stamp_watch.specs.Late.{BeginsLater, BeginsOneLater, LaterExplainsNoM
 use Rattle.stamp_watch.specs.Late.BeginsLater.{as_it_is, then_later}
 use Rattle.stamp_watch.specs.Run.{AreExplained, Lanes, Survives, all_idle}
 use Rattle.stamp_watch.specs.Run.Phase.{Idle, Asks}
+use Rattle.stamp_watch.specs.Verdict.{AreOfLock, IsOfLock}
 use Rattle.stamp_watch.specs.Run.Survives.{at_end, begins}
 use Rattle.stamp_watch.proofs.BeginningLate.{begins_sooner}
 use Rattle.stamp_watch.proofs.Form.{past_free}
@@ -156,6 +158,31 @@ sound limits run handed (then_later {old = old} before one) form = by (sound lim
 pub later_in_form : (limits : Bounds) (run handed : List Event) → BeginsLater run handed → AreInForm run →
     AreInForm handed
 later_in_form limits run handed later form = (sound limits run handed later form).form
+
+all_swapped : (P : Event → Type 0) (past : List Event) (d e : Event) (rest : List Event) →
+    All P (past ++ d ∷ e ∷ rest) → All P (past ++ e ∷ d ∷ rest)
+all_swapped P past d e rest all = All-append P past (e ∷ d ∷ rest)
+    (subst (All P) (take-append_seam past (d ∷ e ∷ rest)) (All-take P (length past) (past ++ d ∷ e ∷ rest) all))
+    (All-cons P e (d ∷ rest) (All-head P e rest (All-tail P d (e ∷ rest) behind))
+    (All-cons P d rest (All-head P d (e ∷ rest) behind) (All-tail P e rest (All-tail P d (e ∷ rest) behind))))
+  where
+    behind : All P (d ∷ e ∷ rest)
+    behind = subst (All P) (drop-append_seam past (d ∷ e ∷ rest))
+        (All-drop P (length past) (past ++ d ∷ e ∷ rest) all)
+
+-- it is the lock's, too
+pub later_of_lock : (limits : Bounds) (run handed : List Event) → BeginsLater run handed → AreOfLock run →
+    AreOfLock handed
+later_of_lock limits run handed later whole = record {
+  form = later_in_form limits run handed later whole.form;
+  lock = by handed later;
+}
+  where
+    by : (events : List Event) → BeginsLater run events → All IsOfLock events
+    by events as_it_is = whole.lock
+    by events (then_later {old = old} before one) = subst (All IsOfLock) (sym one.new_is)
+        (all_swapped IsOfLock one.past (Begins one.lane one.call) one.next one.rest
+        (subst (All IsOfLock) one.old_is (by old before)))
 
 pub later_explains_no_more : LaterExplainsNoMore
 later_explains_no_more limits run handed k form later way = (sound limits run handed later form).explained k way

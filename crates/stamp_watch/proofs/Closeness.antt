@@ -439,7 +439,7 @@ module _ (limits : Bounds) (most reach : ℕ) where
   found_near events none (verdict.StuckWithin k m) found = found
   found_near events none (verdict.Undecided k cause.TooMany) found = found
   found_near events none (verdict.Undecided k cause.TooFar) found =
-      absurd (none k (subst (λ (xs : List Event). IsOpenFor xs k reach) (append-nil events) (found []).2))
+      absurd (none k (subst (λ (xs : List Event). IsOpenFor xs k reach) (append-nil events) (found []).2.0))
   found_near events none (verdict.Broken k) found = found
 
   pub rest_near : (events : List Event) → ((k : ℕ) → IsOpenFor events k reach → ⊥) → (v : Verdict) →

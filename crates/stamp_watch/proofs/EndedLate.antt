@@ -17,7 +17,6 @@ use Rattle.stamp_watch.specs.LateJudge.{EndsInRun, EndsInRunLate}
 use Rattle.stamp_watch.specs.Possible.{KeepsBase}
 use Rattle.stamp_watch.specs.PossibleLate.{KeepsDelayed}
 use Rattle.stamp_watch.specs.inner.Delay.{IsFindingOf, IsSettled, IsSettledFor, RestsBefore}
-use Rattle.stamp_watch.specs.inner.Late.{broken_off_there}
 use Rattle.stamp_watch.proofs.EndedAt.{ended_more, kept_ended, later_ended}
 use Rattle.stamp_watch.proofs.SameEnds.{ends_there}
 use Rattle.stamp_watch.proofs.Showing.{settled_drop, settled_later}
@@ -80,13 +79,3 @@ more_in_run run more delay (finding.Is (verdict.StuckWithin k m)) there = tt
 more_in_run run more delay (finding.Is (verdict.Undecided k why)) there = tt
 more_in_run run more delay (finding.Is (verdict.Broken k)) there = tt
 more_in_run run more delay (finding.Late k) there = tt
-
--- or an event that may not come there
-pub broken_in_run : (run : List Event) (delay : Delay) (f : LateVerdict) (place : ℕ) → EndsInRunLate run delay f →
-    EndsInRunLate run delay (broken_off_there f place)
-broken_in_run run delay (finding.Is verdict.Explained) place there = tt
-broken_in_run run delay (finding.Is (verdict.Stuck k)) place there = there
-broken_in_run run delay (finding.Is (verdict.StuckWithin k m)) place there = tt
-broken_in_run run delay (finding.Is (verdict.Undecided k why)) place there = tt
-broken_in_run run delay (finding.Is (verdict.Broken k)) place there = tt
-broken_in_run run delay (finding.Late k) place there = tt

@@ -17,13 +17,13 @@ use Rattle.stamp_watch.specs.declared.verdict.Verdict.TheVariants as verdict
 use Rattle.stamp_watch.specs.declared.verdict.Why.TheVariants as cause
 use Rattle.stamp_watch.specs.Delay.{AreLate, IsFirstIfAny, IsHandedOn, IsShown, IsShownIfAny}
 use Rattle.stamp_watch.specs.Judging.{IsFound}
-use Rattle.stamp_watch.specs.Late.{BeginsLater, HasGivenUp, IsLate, IsLateFound, LongCallsBeginLater, OneIsUnshown}
-use Rattle.stamp_watch.specs.Late.{RestsOn, TellsOf}
+use Rattle.stamp_watch.specs.Late.{BeginsLater, HasGivenUp, IsLate, IsLateFound, IsLateInForm, LongCallsBeginLater}
+use Rattle.stamp_watch.specs.Late.{OneIsUnshown, RestsOn, TellsOf}
 use Rattle.stamp_watch.specs.Run.{AreExplained}
-use Rattle.stamp_watch.specs.Verdict.{AreOfLock, AreTooMany, IsOpenFor, IsVerdict, NoMoreAreOfLock}
+use Rattle.stamp_watch.specs.Verdict.{AreOfLock, AreTooMany, IsOpenFor, IsVerdict}
 use Rattle.stamp_watch.specs.inner.Delay.{IsFindingOf, IsLateRest, IsSettled, IsSettledFor, RestsBefore}
-use Rattle.stamp_watch.proofs.BeginningLater.{later_as_long, later_explains_no_more}
-use Rattle.stamp_watch.proofs.Forming.{next_of_lock, of_lock_up_to}
+use Rattle.stamp_watch.proofs.BeginningLater.{later_as_long, later_explains_no_more, later_of_lock}
+use Rattle.stamp_watch.proofs.Forming.{GoesOnFor, goes_on_for, next_of_lock, of_lock_up_to, stops_here}
 use Rattle.stamp_watch.proofs.LongCalls.{later_of_long, longs_still, open_still}
 use Rattle.stamp_watch.proofs.Running.{found_now, rest_now}
 use Rattle.stamp_watch.proofs.Showing.{settled_cut}
@@ -49,36 +49,40 @@ cut_within run k whole = by (cases_lt (length run) k)
 
 -- a place in a run up to which it is explained
 record IsPlace (limits : Bounds) (run : List Event) (k : ℕ) : Type 0 where
-  within : k ≤ length run
+  within : k < length run
   explained : AreExplained limits (take k run)
 
-place_at : (limits : Bounds) (run : List Event) (j k : ℕ) → j ≡ k → j ≤ length run →
+place_at : (limits : Bounds) (run : List Event) (j k : ℕ) → j ≡ k → j < length run →
     AreExplained limits (take j (run ++ stray ∷ [])) → IsPlace limits run k
 place_at limits run j k same within explained = subst (IsPlace limits run) same (record {
   within = within;
-  explained = subst (AreExplained limits) (take-append-le j run (stray ∷ []) within) explained;
+  explained = subst (AreExplained limits) (take-append-le j run (stray ∷ []) (omega (arith, within))) explained;
 })
 
--- what holds whatever comes tells of a place in the run
-place_of : (limits : Bounds) (run : List Event) (most ahead k : ℕ) (v : Verdict) →
-    IsVerdict limits (run ++ stray ∷ []) most None v → TellsOf v k → IsPlace limits run k
-place_of limits run most ahead k verdict.Explained has tells = absurd tells
-place_of limits run most ahead k (verdict.Stuck j) has tells = place_at limits run j k tells
+-- what holds whatever comes, and rests on what comes from an event on, tells of a place in the run
+place_of : (limits : Bounds) (run : List Event) (most n k : ℕ) (v : Verdict) →
+    IsVerdict limits (run ++ stray ∷ []) most None v → TellsOf v k → RestsOn v n → IsPlace limits run k
+place_of limits run most n k verdict.Explained has tells rests = absurd tells
+place_of limits run most n k (verdict.Stuck j) has tells rests = place_at limits run j k tells
     (let within : j + 1 ≤ length run = cut_within run (j + 1) has.0 in omega (arith, within)) has.1.explained
-place_of limits run most ahead k (verdict.StuckWithin j m) has tells = place_at limits run j k tells
+place_of limits run most n k (verdict.StuckWithin j m) has tells rests = place_at limits run j k tells
     (let within : m ≤ length run = cut_within run m has.whole in
     let less : j < has.cut = has.after in
     let before : has.cut < m = has.within in omega (arith, within, less, before)) has.explained
-place_of limits run most ahead k (verdict.Undecided j cause.TooMany) has tells =
-    place_at limits run j k tells (cut_within run j has.0) has.1
-place_of limits run most ahead k (verdict.Undecided j cause.TooFar) has tells =
-    place_at limits run j k tells (cut_within run j has.0) has.1
-place_of limits run most ahead k (verdict.Broken j) has tells =
-    place_at limits run j k tells (cut_within run j has.0.whole) has.1
+place_of limits run most n k (verdict.Undecided j cause.TooMany) has tells rests = place_at limits run j k tells
+    (let within : j + 1 ≤ length run = cut_within run (j + 1) has.0.whole in omega (arith, within)) has.1
+place_of limits run most n k (verdict.Undecided j cause.TooFar) has tells rests = place_at limits run j k tells
+    (let within : j + 1 ≤ length run = cut_within run (j + 1) has.0.whole in omega (arith, within)) has.1
+place_of limits run most n k (verdict.Broken j) has tells rests = absurd rests
+
+-- events in form are not broken
+not_broken : (limits : Bounds) (events : List Event) (most k : ℕ) → AreOfLock events →
+    ¬ IsVerdict limits events most None (verdict.Broken k)
+not_broken limits events most k whole has = has.0.broken (of_lock_up_to (k + 1) events whole)
 
 -- a verdict that rests on what came before a place is that of each run that is the same up to there
-module _ (limits : Bounds) (run handed : List Event) (most ahead first : ℕ) (within : first ≤ length run)
-    (same : take first handed ≡ take first run) where
+module _ (limits : Bounds) (run handed : List Event) (most first : ℕ) (whole : AreOfLock handed)
+    (within : first ≤ length run) (same : take first handed ≡ take first run) where
   cut_same : (n : ℕ) (more : List Event) → n ≤ first → take n handed ≡ take n (run ++ more)
   cut_same n more less = sym (take-take n first handed less) ∙ ap (take n) same ∙ take-take n first run less ∙
       sym (take-append-le n run more (omega (arith, less, within)))
@@ -95,6 +99,8 @@ module _ (limits : Bounds) (run handed : List Event) (most ahead first : ℕ) (w
     },
   )
   rests_before (verdict.StuckWithin k m) not rests has more = record {
+    there = let long : length (run ++ more) ≡ length run + length more = length-append run more in
+        omega (arith, rests, within, long);
     whole = subst AreOfLock (cut_same m more rests) has.whole;
     explained = subst (AreExplained limits) (cut_same k more (omega (arith, rests, after, inside))) has.explained;
     stuck = λ way. has.stuck (subst (AreExplained limits) (sym (cut_same m more rests)) way);
@@ -119,32 +125,36 @@ module _ (limits : Bounds) (run handed : List Event) (most ahead first : ℕ) (w
       before : has.place < has.cut
       before = has.before
   rests_before (verdict.Undecided k why) not rests has more = absurd rests
-  rests_before (verdict.Broken k) not rests has more = absurd rests
+  rests_before (verdict.Broken k) not rests has more = absurd (not_broken limits handed most k whole has)
 
--- the judge was not given the run as it stands
-late_with : (limits : Bounds) (run more handed : List Event) (most ahead first k end : ℕ) (v : Verdict) →
-    AreOfLock run → length run ≤ end → NoMoreAreOfLock (run ++ more) end →
-    LongCallsBeginLater (run ++ more) (ahead - 64) (take end (run ++ more)) handed →
+-- the judge was not given the run as it stands, of which so much more is in form
+late_with : (limits : Bounds) (run more handed : List Event) (most ahead first k : ℕ) (v : Verdict)
+    (on : GoesOnFor run more) → LongCallsBeginLater (run ++ on.part) (ahead - 64) (run ++ on.part) handed →
     IsVerdict limits handed most None v → IsPlace limits run k → TellsOf v k → RestsOn v first →
     IsOpenFor run first (ahead - 64) → first < length run →
-    HasGivenUp v ⊎ OneIsUnshown limits (run ++ more) (ahead - 64) (k + 1) → IsLate limits (run ++ more) most ahead k
-late_with limits run more handed most ahead first k end v whole far over later has place tells rests opened less
-    why = record {
-      whole = subst AreOfLock (sym (take-append-le k run more place.within)) (of_lock_up_to k run whole);
-      explained = subst (AreExplained limits) (sym (take-append-le k run more place.within)) place.explained;
-      late = first;
-      open_for = open_still run more first (ahead - 64) less opened;
-      place = end;
-      before = omega (arith, less, far);
-      up_to = over;
-      handed = handed;
-      later = later;
-      verdict = v;
-      has = has;
-      tells = tells;
-      rests = rests;
-      why = why;
-    }
+    HasGivenUp v ⊎ OneIsUnshown limits (run ++ on.part) (ahead - 64) (k + 1) → IsLate limits (run ++ more) most ahead k
+late_with limits run more handed most ahead first k v on later has place tells rests opened less why = record {
+  place = on.place;
+  up_to = on.form;
+  is = subst (λ (xs : List Event). IsLateInForm limits xs most ahead k) (sym on.front) (record {
+    there = let long : length (run ++ on.part) ≡ length run + length on.part = length-append run on.part in
+        omega (arith, within, long);
+    explained = subst (AreExplained limits) (sym (take-append-le k run on.part (omega (arith, within))))
+        place.explained;
+    late = first;
+    open_for = open_still run on.part first (ahead - 64) less opened;
+    handed = handed;
+    later = later;
+    verdict = v;
+    has = has;
+    tells = tells;
+    rests = rests;
+    why = why;
+  });
+}
+  where
+    within : k < length run
+    within = place.within
 
 module _ (limits : Bounds) (most ahead : ℕ) (run given aside waiting : List Event) (first : Option ℕ) (passed : ℕ)
     (whole : AreOfLock run) (is : IsHandedOn (ahead - 64) run given aside waiting first passed) (shown : Option ℕ)
@@ -155,22 +165,18 @@ module _ (limits : Bounds) (most ahead : ℕ) (run given aside waiting : List Ev
       (sym is.run_is) (is.later waiting)
 
   -- more events may come behind those that wait
-  longs_on : (more : List Event) → LongCallsBeginLater (run ++ more) (ahead - 64)
-      (take (length (run ++ more)) (run ++ more)) (given ++ (aside ++ (waiting ++ more)))
+  longs_on : (more : List Event) → LongCallsBeginLater (run ++ more) (ahead - 64) (run ++ more)
+      (given ++ (aside ++ (waiting ++ more)))
   longs_on more = subst
       (λ (xs : List Event). LongCallsBeginLater (run ++ more) (ahead - 64) xs (given ++ (aside ++ (waiting ++ more))))
-      (sym (append_assoc is.past waiting more) ∙ ap (λ (xs : List Event). xs ++ more) (sym is.run_is) ∙
-      sym (take-length (run ++ more)))
+      (sym (append_assoc is.past waiting more) ∙ ap (λ (xs : List Event). xs ++ more) (sym is.run_is))
       (longs_still run more (ahead - 64) (is.past ++ (waiting ++ more)) (given ++ (aside ++ (waiting ++ more)))
       (is.later (waiting ++ more)))
 
-  -- or the run is looked at up to there
-  longs_up_to : (more : List Event) → LongCallsBeginLater (run ++ more) (ahead - 64)
-      (take (length run) (run ++ more)) (given ++ (aside ++ waiting))
-  longs_up_to more = subst
-      (λ (xs : List Event). LongCallsBeginLater (run ++ more) (ahead - 64) xs (given ++ (aside ++ waiting)))
-      (sym (take-append_seam run more))
-      (longs_still run more (ahead - 64) run (given ++ (aside ++ waiting)) longs_here)
+  -- or none
+  longs_end : LongCallsBeginLater (run ++ []) (ahead - 64) (run ++ []) (given ++ (aside ++ waiting))
+  longs_end = subst (λ (xs : List Event). LongCallsBeginLater xs (ahead - 64) xs (given ++ (aside ++ waiting)))
+      (sym (append-nil run)) longs_here
 
   later_here : BeginsLater run (given ++ (aside ++ waiting))
   later_here = later_of_long run (ahead - 64) run (given ++ (aside ++ waiting)) longs_here
@@ -178,9 +184,16 @@ module _ (limits : Bounds) (most ahead : ℕ) (run given aside waiting : List Ev
   long_here : length (given ++ (aside ++ waiting)) ≡ length run
   long_here = later_as_long run (given ++ (aside ++ waiting)) later_here
 
+  of_lock_here : AreOfLock (given ++ (aside ++ waiting))
+  of_lock_here = later_of_lock limits run (given ++ (aside ++ waiting)) later_here whole
+
+  of_lock_given : AreOfLock given
+  of_lock_given = subst AreOfLock (take-append_seam given (aside ++ waiting))
+      (of_lock_up_to (length given) (given ++ (aside ++ waiting)) of_lock_here)
+
   place_here : (k : ℕ) → IsPlace limits (given ++ (aside ++ waiting)) k → IsPlace limits run k
   place_here k place = record {
-    within = let within : k ≤ length (given ++ (aside ++ waiting)) = place.within in
+    within = let within : k < length (given ++ (aside ++ waiting)) = place.within in
         let long : length (given ++ (aside ++ waiting)) ≡ length run = long_here in omega (arith, within, long);
     explained = later_explains_no_more limits run (given ++ (aside ++ waiting)) k whole.form later_here
         place.explained;
@@ -188,12 +201,14 @@ module _ (limits : Bounds) (most ahead : ℕ) (run given aside waiting : List Ev
 
   place_given : (k : ℕ) → IsPlace limits given k → IsPlace limits (given ++ (aside ++ waiting)) k
   place_given k place = record {
-    within = let within : k ≤ length given = place.within in
-        let long : length (given ++ (aside ++ waiting)) ≡ length given + length (aside ++ waiting) =
+    within = let long : length (given ++ (aside ++ waiting)) ≡ length given + length (aside ++ waiting) =
         length-append given (aside ++ waiting) in omega (arith, within, long);
-    explained = subst (AreExplained limits) (sym (take-append-le k given (aside ++ waiting) place.within))
+    explained = subst (AreExplained limits) (sym (take-append-le k given (aside ++ waiting) (omega (arith, within))))
         place.explained;
   }
+    where
+      within : k < length given
+      within = place.within
 
   as_it_stands : (aside ≡ []) × (given ≡ is.past) → given ++ (aside ++ waiting) ≡ run
   as_it_stands none = ap (λ (xs : List Event). given ++ (xs ++ waiting)) none.0 ∙
@@ -203,17 +218,14 @@ module _ (limits : Bounds) (most ahead : ℕ) (run given aside waiting : List Ev
   none_aside none = ap (λ (xs : List Event). given ++ (xs ++ waiting)) none
 
   -- why it is told that calls are late
-  why_late : (v : Verdict) (k : ℕ) → TellsOf v k → ¬ IsSettledFor aside shown v →
-      (v ≡ verdict.Stuck k → k + 1 ≤ length run) →
+  why_late : (v : Verdict) (n k : ℕ) → TellsOf v k → RestsOn v n → ¬ IsSettledFor aside shown v → k < length run →
       (more : List Event) → HasGivenUp v ⊎ OneIsUnshown limits (run ++ more) (ahead - 64) (k + 1)
-  why_late verdict.Explained k tells not within more = absurd tells
-  why_late (verdict.Stuck j) k tells not within more = inr (one_unshown limits run more (ahead - 64) k aside waiting
-      shown
-      late (subst (λ (n : ℕ). ¬ IsSettled aside shown n) tells not)
-      (within (ap (λ (n : ℕ). verdict.Stuck n) tells)))
-  why_late (verdict.StuckWithin j m) k tells not within more = inl tt
-  why_late (verdict.Undecided j why) k tells not within more = inl tt
-  why_late (verdict.Broken j) k tells not within more = inl tt
+  why_late verdict.Explained n k tells rests not within more = absurd tells
+  why_late (verdict.Stuck j) n k tells rests not within more = inr (one_unshown limits run more (ahead - 64) k aside
+      waiting shown late (subst (λ (i : ℕ). ¬ IsSettled aside shown i) tells not) (omega (arith, within)))
+  why_late (verdict.StuckWithin j m) n k tells rests not within more = inl tt
+  why_late (verdict.Undecided j why) n k tells rests not within more = inl tt
+  why_late (verdict.Broken j) n k tells rests not within more = absurd rests
 
   -- the run is stuck where it is with calls begun late, if it is shown by then that nothing is lost by those
   settled : (o : Option ℕ) → IsShownIfAny limits run given aside waiting o → (k : ℕ) → IsSettled aside o k →
@@ -252,8 +264,8 @@ module _ (limits : Bounds) (most ahead : ℕ) (run given aside waiting : List Ev
         let long : length (given ++ (aside ++ waiting)) ≡ length given + length (aside ++ waiting) =
         length-append given (aside ++ waiting) in
         let same : length (given ++ (aside ++ waiting)) ≡ length run = long_here in omega (arith, within, long, same))
-        (place_here k (place_given k (place_of limits given most ahead k (verdict.Stuck k) (has (stray ∷ []))
-        refl))).explained
+        (place_here k (place_given k (place_of limits given most 0 k (verdict.Stuck k) (has (stray ∷ [])) refl
+        (omega arith)))).explained
         (has waiting).1.stuck
     settled_found (verdict.StuckWithin k m) has none = absurd none
     settled_found (verdict.Undecided k why) has none = absurd none
@@ -274,23 +286,17 @@ module _ (limits : Bounds) (most ahead : ℕ) (run given aside waiting : List Ev
             (sym both.0) (either both.1)
           where
             either : RestsBefore v n ⊎ IsSettledFor aside shown v → IsLateFound limits run most ahead (finding.Is v)
-            either (inl rests) = rests_before limits run given most ahead n
+            either (inl rests) = rests_before limits run given most n of_lock_given
                 (let less : n < length run = some.before in omega (arith, less)) some.same v not_explained rests
                 (found_now limits given most None v found)
             either (inr is_settled) = settled_found v found is_settled
-        by (Some n) some (finding.Late k) both = λ more. late_with limits run more
-            (given ++ (aside ++ (waiting ++ more))) most ahead n k (length (run ++ more)) v whole
-            (let long : length (run ++ more) ≡ length run + length more = length-append run more in
-            omega (arith, long)) (λ less. absurd (omega (arith, less))) (longs_on more)
-            (found (aside ++ (waiting ++ more)))
-            (place_here k (place_given k (place_of limits given most ahead k v (found (stray ∷ [])) both.0))) both.0
-            both.1 some.open_for some.before (why_late v k both.0 both.2 (λ same.
-            let within : k + 1 ≤ length given = cut_within given (k + 1) (subst (λ (w : Verdict).
-            IsVerdict limits (given ++ stray ∷ []) most None w) same (found (stray ∷ []))).0 in
-            let long : length (given ++ (aside ++ waiting)) ≡ length given + length (aside ++ waiting) =
-            length-append given (aside ++ waiting) in
-            let all : length (given ++ (aside ++ waiting)) ≡ length run = long_here in
-            omega (arith, within, long, all)) more)
+        by (Some n) some (finding.Late k) both = λ more. let on = goes_on_for run more whole in
+            late_with limits run more (given ++ (aside ++ (waiting ++ on.part))) most ahead n k v on (longs_on on.part)
+            (found (aside ++ (waiting ++ on.part))) place both.0 both.1 some.open_for some.before
+            (why_late v n k both.0 both.1 both.2 place.within on.part)
+          where
+            place : IsPlace limits run k
+            place = place_here k (place_given k (place_of limits given most n k v (found (stray ∷ [])) both.0 both.1))
 
   -- what is found where all was given
   module _ (v : Verdict) (rest : IsRest limits (given ++ (aside ++ waiting)) most None v) where
@@ -312,12 +318,13 @@ module _ (limits : Bounds) (most ahead : ℕ) (run given aside waiting : List Ev
         IsRest limits run most None w
     rest_before n less within same verdict.Explained has rests = (whole, explained_here has.1)
     rest_before n less within same (verdict.Stuck k) has rests = rests_before limits run (given ++ (aside ++ waiting))
-        most ahead n less (same_here n within same) (verdict.Stuck k) (λ e. cc) rests has
+        most n of_lock_here less (same_here n within same) (verdict.Stuck k) (λ e. cc) rests has
     rest_before n less within same (verdict.StuckWithin k m) has rests = rests_before limits run
-        (given ++ (aside ++ waiting)) most ahead n less (same_here n within same) (verdict.StuckWithin k m) (λ e. cc)
-        rests has
+        (given ++ (aside ++ waiting)) most n of_lock_here less (same_here n within same) (verdict.StuckWithin k m)
+        (λ e. cc) rests has
     rest_before n less within same (verdict.Undecided k why) has rests = absurd rests
-    rest_before n less within same (verdict.Broken k) has rests = absurd rests
+    rest_before n less within same (verdict.Broken k) has rests =
+        absurd (not_broken limits (given ++ (aside ++ waiting)) most k of_lock_here has)
 
     settled_rest : (w : Verdict) → IsRest limits (given ++ (aside ++ waiting)) most None w →
         IsSettledFor aside shown w → IsRest limits run most None w
@@ -326,8 +333,8 @@ module _ (limits : Bounds) (most ahead : ℕ) (run given aside waiting : List Ev
         (let within : k + 1 ≤ length (given ++ (aside ++ waiting)) = cut_within (given ++ (aside ++ waiting)) (k + 1)
         (ends (stray ∷ [])).0 in
         let same : length (given ++ (aside ++ waiting)) ≡ length run = long_here in omega (arith, within, same))
-        (place_here k (place_of limits (given ++ (aside ++ waiting)) most ahead k (verdict.Stuck k) (ends (stray ∷ []))
-        refl)).explained
+        (place_here k (place_of limits (given ++ (aside ++ waiting)) most 0 k (verdict.Stuck k) (ends (stray ∷ []))
+        refl (omega arith))).explained
         (λ way. (ends []).1.stuck (subst (λ (xs : List Event). AreExplained limits (take (k + 1) xs))
         (sym (none_aside (settled_in k is)) ∙ sym (append-nil (given ++ (aside ++ waiting)))) way))
     settled_rest (verdict.StuckWithin k m) ends none = absurd none
@@ -350,16 +357,8 @@ module _ (limits : Bounds) (most ahead : ℕ) (run given aside waiting : List Ev
                 some.given_more some.same v has_rest rests
             either (inr is_settled) = settled_rest v rest is_settled
         by (Some n) some (finding.Late k) both = λ later over. late_with limits run later
-            (given ++ (aside ++ waiting)) most ahead n k (length run) v whole (omega arith) over (longs_up_to later)
-            has_rest (place_here k (place_of limits (given ++ (aside ++ waiting)) most ahead k v
-            (with_stray v both.0 rest) both.0)) both.0 both.1 some.open_for some.before
-            (why_late v k both.0 both.2 (λ same.
-            let within : k + 1 ≤ length (given ++ (aside ++ waiting)) = cut_within (given ++ (aside ++ waiting))
-            (k + 1)
-            (subst (λ (w : Verdict). IsVerdict limits ((given ++ (aside ++ waiting)) ++ stray ∷ []) most None w) same
-            (with_stray v both.0 rest)).0 in
-            let all : length (given ++ (aside ++ waiting)) ≡ length run = long_here in omega (arith, within, all))
-            later)
+            (given ++ (aside ++ waiting)) most ahead n k v (stops_here run later whole over) longs_end has_rest place
+            both.0 both.1 some.open_for some.before (why_late v n k both.0 both.1 both.2 place.within [])
           where
             with_stray : (w : Verdict) → TellsOf w k → IsRest limits (given ++ (aside ++ waiting)) most None w →
                 IsVerdict limits ((given ++ (aside ++ waiting)) ++ stray ∷ []) most None w
@@ -372,3 +371,7 @@ module _ (limits : Bounds) (most ahead : ℕ) (run given aside waiting : List Ev
                 over))
             with_stray (verdict.Undecided j cause.TooFar) tells ends = ends (stray ∷ [])
             with_stray (verdict.Broken j) tells ends = ends (stray ∷ [])
+
+            place : IsPlace limits run k
+            place = place_here k (place_of limits (given ++ (aside ++ waiting)) most n k v (with_stray v both.0 rest)
+                both.0 both.1)

@@ -1,21 +1,23 @@
 -- Events in form, by the numbers of the lanes with an open call.
 use Rattle.std.proofs.Common.{ℕ, ◌≡◌, ◌≢◌, ◌⊎◌, ◌+◌, ◌<◌, ◌≤◌, Bool, true, false, List, [], ◌∷◌, ◌++◌, length}
-use Rattle.std.proofs.Common.{get_or, refl, sym, ◌∙◌, ap, subst, inl, inr, arith, eq-eqb, ne_eqb}
+use Rattle.std.proofs.Common.{get_or, refl, sym, ◌∙◌, ap, subst, inl, inr, arith, eq-eqb, ne_eqb, append_assoc}
+use Rattle.std.proofs.Common.{append-nil}
 use Rattle.std.specs.Prelude.{◌↔◌, not, ◌&&◌, ◌||◌, take}
 use Rattle.std.specs.Int.{bit_at}
 use Rattle.std.specs.List.{All, fold}
-use Rattle.std.proofs.lemmas.Bool.{cases_eq, false≢true}
-use Rattle.std.proofs.lemmas.List.{take_all}
+use Rattle.std.proofs.lemmas.Bool.{cases_eq, cases_lt, false≢true}
+use Rattle.std.proofs.lemmas.List.{take_all, length-append, length_push}
 use Rattle.std.proofs.lemmas.List.Elements.{All-push, All-contains, All-take, All-nil, Contains-push}
 use Rattle.std.proofs.lemmas.List.Elements.{All-drop, Contains-append_right, Contains-get_or}
-use Rattle.std.proofs.Math.Seq.{drop-append_seam}
+use Rattle.std.proofs.Math.Seq.{drop-append_seam, take-append_seam}
 use Rattle.std.proofs.lemmas.Nat.Bits.{bit_at-zero}
+use Rattle.stamp_core.specs.Call.{is_lock_call}
 use Rattle.stamp_watch.specs.declared.event.Event.{Event}
 use Rattle.stamp_watch.specs.declared.event.Event.TheVariants.{Begins, Returns, Withdraws}
 use Rattle.stamp_watch.specs.Form.{is_busy_then, is_busy_after, MayCome, AreInFormFrom}
-use Rattle.stamp_watch.specs.Verdict.{AreOfLock, IsOfLock}
+use Rattle.stamp_watch.specs.Verdict.{AreOfLock, IsInFormUpTo, IsOfLock, NoMoreAreOfLock, is_lock_reply}
 use Rattle.stamp_watch.specs.Judging.{AreBusyLanes}
-use Rattle.stamp_watch.specs.inner.Judging.{MayComeIn, SetsBusy, IsInFormUpTo}
+use Rattle.stamp_watch.specs.inner.Judging.{MayComeIn, SetsBusy}
 use Rattle.stamp_watch.proofs.Form.{form_goes_on, form_up_to, busy_after_one}
 use Rattle.stamp_watch.proofs.Reading.{take_read}
 
@@ -184,3 +186,102 @@ form_ends events k n all high whole = record {
   whole = subst AreOfLock (take_all k events high ∙ sym (take_all n events (omega (arith, all)))) whole;
   broken = λ less. absurd (omega (arith, less, all));
 }
+
+of_lock_by : (past : List Event) (e : Event) → AreOfLock past → MayCome (is_busy_after past) e → IsOfLock e →
+    AreOfLock (past ++ e ∷ [])
+of_lock_by past e whole comes is = record {
+  form = form_goes_on (λ (lane : ℕ). false) past e whole.form comes;
+  lock = All-push IsOfLock past e whole.lock is;
+}
+
+both_or_not : {A B : Type 0} → A ⊎ (¬ A) → B ⊎ (¬ B) → (A × B) ⊎ (¬ (A × B))
+both_or_not (inl a) (inl b) = inl (a, b)
+both_or_not (inl a) (inr none) = inr (λ both. none both.1)
+both_or_not (inr none) b = inr (λ both. none both.0)
+
+true_or_not : (b : Bool) → (b ≡ true) ⊎ (¬ (b ≡ true))
+true_or_not true = inl refl
+true_or_not false = inr (λ same. false≢true same)
+
+false_or_not : (b : Bool) → (b ≡ false) ⊎ (¬ (b ≡ false))
+false_or_not true = inr (λ same. false≢true (sym same))
+false_or_not false = inl refl
+
+below_or_not : (lane : ℕ) → (lane < 64) ⊎ (¬ (lane < 64))
+below_or_not lane = by (cases_lt lane 64)
+  where
+    by : (lane < 64) ⊎ (64 ≤ lane) → (lane < 64) ⊎ (¬ (lane < 64))
+    by (inl less) = inl less
+    by (inr high) = inr (λ less. omega (arith, high, less))
+
+comes_or_not : (busy : ℕ → Bool) (e : Event) → MayCome busy e ⊎ (¬ MayCome busy e)
+comes_or_not busy (Begins lane call) = both_or_not (false_or_not (busy lane)) (true_or_not (is_lock_call call))
+comes_or_not busy (Returns lane reply) = true_or_not (busy lane)
+comes_or_not busy (Withdraws lane) = true_or_not (busy lane)
+
+lock_or_not : (e : Event) → IsOfLock e ⊎ (¬ IsOfLock e)
+lock_or_not (Begins lane call) = below_or_not lane
+lock_or_not (Returns lane reply) = both_or_not (below_or_not lane) (true_or_not (is_lock_reply reply))
+lock_or_not (Withdraws lane) = below_or_not lane
+
+-- an event may come behind others, or may not
+next_or_not : (past : List Event) (e : Event) → AreOfLock past →
+    AreOfLock (past ++ e ∷ []) ⊎ (¬ AreOfLock (past ++ e ∷ []))
+next_or_not past e whole = by (both_or_not (comes_or_not (is_busy_after past) e) (lock_or_not e))
+  where
+    by : (MayCome (is_busy_after past) e × IsOfLock e) ⊎ (¬ (MayCome (is_busy_after past) e × IsOfLock e)) →
+        AreOfLock (past ++ e ∷ []) ⊎ (¬ AreOfLock (past ++ e ∷ []))
+    by (inl both) = inl (of_lock_by past e whole both.0 both.1)
+    by (inr none) = inr (λ longer. none (next_comes past e [] longer, next_of_lock past e [] longer))
+
+-- so many of the events that come behind a run may come there
+pub record GoesOnFor (run more : List Event) : Type 0 where
+  pub part : List Event
+  pub place : ℕ
+  pub long : place ≡ length run + length part
+  pub front : take place (run ++ more) ≡ run ++ part
+  pub form : IsInFormUpTo (run ++ more) place
+
+-- none of them may
+abbrev pub stops_here : (run more : List Event) → AreOfLock run → NoMoreAreOfLock (run ++ more) (length run) →
+    GoesOnFor run more
+stops_here run more whole none = record {
+  part = [];
+  place = length run;
+  long = omega arith;
+  front = take-append_seam run more ∙ sym (append-nil run);
+  form = record {
+    within = let long : length (run ++ more) ≡ length run + length more = length-append run more in
+        omega (arith, long);
+    whole = subst AreOfLock (sym (take-append_seam run more)) whole;
+    broken = none;
+  };
+}
+
+pub goes_on_for : (run more : List Event) → AreOfLock run → GoesOnFor run more
+goes_on_for run [] whole = stops_here run [] whole
+    (λ less. let long : length (run ++ []) ≡ length run = ap length (append-nil run) in
+    absurd (omega (arith, less, long)))
+goes_on_for run (e ∷ more) whole = by (next_or_not run e whole)
+    (λ longer. goes_on_for (run ++ e ∷ []) more longer)
+  where
+    here : run ++ e ∷ more ≡ (run ++ e ∷ []) ++ more
+    here = sym (append_assoc run (e ∷ []) more)
+
+    one_more : length (run ++ e ∷ []) ≡ length run + 1
+    one_more = length_push run e
+
+    by : AreOfLock (run ++ e ∷ []) ⊎ (¬ AreOfLock (run ++ e ∷ [])) →
+        (AreOfLock (run ++ e ∷ []) → GoesOnFor (run ++ e ∷ []) more) → GoesOnFor run (e ∷ more)
+    by (inl longer) further = let on = further longer in
+        record {
+          part = e ∷ on.part;
+          place = on.place;
+          long = let long : on.place ≡ length (run ++ e ∷ []) + length on.part = on.long in
+              omega (arith, long, one_more);
+          front = ap (take on.place) here ∙ on.front ∙ append_assoc run (e ∷ []) on.part;
+          form = subst (λ (xs : List Event). IsInFormUpTo xs on.place) (sym here) on.form;
+        }
+    by (inr none) further = stops_here run (e ∷ more) whole (λ less longer. none (subst AreOfLock
+        (ap (λ (n : ℕ). take n (run ++ e ∷ more)) (sym one_more) ∙ ap (take (length (run ++ e ∷ []))) here ∙
+        take-append_seam (run ++ e ∷ []) more) longer))

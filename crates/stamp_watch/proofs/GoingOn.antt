@@ -16,7 +16,7 @@ use Rattle.stamp_watch.specs.inner.Judging.{MayComeIn, SetsBusy}
 use Rattle.stamp_watch.specs.Course.{HasRoom, IsCourse, IsNear, IsRest, IsRunOn, IsSmall, KeepsEndOf}
 use Rattle.stamp_watch.specs.SoFar.{BeginWithOpenCall}
 use Rattle.stamp_watch.specs.inner.Course.{HasGoneOn, IsOneLonger, IsOnCourse, broken_off}
-use Rattle.stamp_watch.proofs.Forming.{busy_lanes_then, form_first, of_lock_on}
+use Rattle.stamp_watch.proofs.Forming.{busy_lanes_then, form_first, of_lock_not, of_lock_on}
 use Rattle.stamp_watch.proofs.Running.{broken_found, found_later}
 use Rattle.stamp_watch.proofs.SameRuns.{room_still}
 
@@ -174,9 +174,9 @@ module _ (limits : Bounds) (most ahead : ℕ) (run : List Event) (e : Event) (ol
         number ≡ old.course.first + length old.course.events.items → ¬ MayComeIn old.busy e →
         ((far : Option ℕ) (l : Bounds) (r : List Event) → IsCourse l r old.course → IsRest l r old.most far rest) →
         IsFound limits (run ++ e ∷ []) most (Some ahead) (broken_off rest number)
-    found_broken number rest at not_there ends = broken_found limits run most (Some ahead) old.busy number e
+    found_broken number rest at not_there ends = broken_found limits run most (Some ahead) number e
         (at ∙ run_long limits run old.course.first old.course.seen old.course.events.items old.course.base
-        old.course.watch under_way.course_of.on) under_way.lanes not_there rest
+        old.course.watch under_way.course_of.on) (of_lock_not run old.busy e under_way.lanes not_there) rest
         (subst (λ (m : ℕ). IsRest limits run m (Some ahead) rest) is.most_is
         (ends (Some ahead) limits run under_way.course_of))
 

@@ -15,10 +15,10 @@ use Rattle.stamp_watch.specs.declared.verdict.Verdict.TheVariants.{Explained, St
 use Rattle.stamp_watch.specs.declared.verdict.Why.TheVariants as cause
 use Rattle.stamp_watch.specs.declared.watch.Watch.{Watch}
 use Rattle.stamp_watch.specs.Run.{AreExplained}
-use Rattle.stamp_watch.specs.Verdict.{AreOfLock, AreTooMany, IsVerdict}
+use Rattle.stamp_watch.specs.Verdict.{AreOfLock, AreTooMany, IsInFormUpTo, IsVerdict}
 use Rattle.stamp_watch.specs.Watch.{IsCopy, IsUntold, IsWatching}
 use Rattle.stamp_watch.specs.Judging.{IsJudging, IsFound}
-use Rattle.stamp_watch.specs.inner.Judging.{IsStep, IsInFormUpTo, IsBetween, IsOutcome}
+use Rattle.stamp_watch.specs.inner.Judging.{IsStep, IsBetween, IsOutcome}
 use Rattle.stamp_watch.specs.inner.Judging.{IsBase, IsStuckBehind}
 use Rattle.stamp_watch.specs.declared.judge.Outcome.{Outcome}
 use Rattle.stamp_watch.specs.declared.judge.Outcome.TheVariants.{Unexplained, TooMany}
@@ -163,6 +163,8 @@ module _ (limits : Bounds) (events : List Event) where
         AreTooMany limits place (take place events) (drop place (take cut events)) most →
         IsFound limits events most ahead (StuckWithin low high)
     found_within low high cut place after less half before between many more = record {
+      there = let long : length (events ++ more) ≡ length events + length more = length-append events more in
+          omega (arith, within, long);
       whole = subst AreOfLock (sym (take-append-le high events more between.within))
           (of_lock_up_to high events whole);
       explained = subst (AreExplained limits) (sym (take-append-le low events more (omega (arith, apart, within))))
@@ -304,7 +306,11 @@ pub undecided_at : (limits : Bounds) (events : List Event) (most many k : ℕ) (
     IsOutcome limits 0 [] (take many events) most (TooMany k) →
     IsVerdict limits events most ahead (Undecided k cause.TooMany)
 undecided_at limits events most many k ahead form outcome = (
-  subst AreOfLock cut (of_lock_up_to k (take many events) form.whole),
+  record {
+    there = let within : many ≤ length events = form.within in omega (arith, below, within);
+    whole = subst AreOfLock (take-take (k + 1) many events (omega (arith, below)))
+        (of_lock_up_to (k + 1) (take many events) form.whole);
+  },
   subst (AreExplained limits) cut outcome.1,
   record {
     known = many;
@@ -315,10 +321,13 @@ undecided_at limits events most many k ahead form outcome = (
   },
 )
   where
-    cut : take k (take many events) ≡ take k events
-    cut = let less : k < length (take many events) = outcome.0 in
+    below : k < many
+    below = let less : k < length (take many events) = outcome.0 in
         let long : length (take many events) ≡ many = length-take-le many events form.within in
-        take-take k many events (omega (arith, less, long))
+        omega (arith, less, long)
+
+    cut : take k (take many events) ≡ take k events
+    cut = take-take k many events (omega (arith, below))
 
 pub broken_at : (limits : Bounds) (events : List Event) (most many : ℕ) (ahead : Option ℕ) → many ≢ length events →
     IsInFormUpTo events many → AreExplained limits (take many events) →

@@ -1,6 +1,6 @@
 -- A judge that puts calls aside which are open for long.
-use Rattle.std.proofs.Common.{◌-◌, ◌≡◌, ◌+◌, ◌^◌, ◌<◌, ◌≤◌, ℕ, List, [], ◌∷◌, ◌++◌, length, Option, Some, None}
-use Rattle.std.proofs.Common.{sym, ◌∙◌, ap, subst, arith, append_assoc, append-nil}
+use Rattle.std.proofs.Common.{◌-◌, ◌≡◌, ◌≢◌, ◌+◌, ◌^◌, ◌<◌, ◌≤◌, ℕ, List, [], ◌∷◌, ◌++◌, length, Option, Some, None}
+use Rattle.std.proofs.Common.{refl, sym, ap, subst, inl, arith, append_assoc, append-nil}
 use Rattle.std.specs.Prelude.{⊤, MatchOption}
 use Rattle.std.proofs.lemmas.List.{length_push}
 use Rattle.stamp_core.specs.Limits.{Bounds}
@@ -10,21 +10,21 @@ use Rattle.stamp_watch.specs.declared.late_verdict.LateVerdict.{LateVerdict}
 use Rattle.stamp_watch.specs.declared.late_verdict.LateVerdict.TheVariants as finding
 use Rattle.stamp_watch.specs.declared.late.LateJudge.{LateJudge}
 use Rattle.stamp_watch.specs.declared.verdict.Verdict.{Verdict}
+use Rattle.stamp_watch.specs.declared.verdict.Verdict.TheVariants as verdict
 use Rattle.stamp_watch.specs.Course.{KeepsEndOf}
 use Rattle.stamp_watch.specs.Delay.{IsDelayed, IsSmallDelay}
-use Rattle.stamp_watch.specs.Judging.{AreBusyLanes}
+use Rattle.stamp_watch.specs.Judging.{AreBusyLanes, IsFound}
 use Rattle.stamp_watch.specs.Late.{IsLate, IsLateVerdict, IsLateFound}
 use Rattle.stamp_watch.specs.LateJudge.{EndsInRunLate, IsLateJudge, IsLateJudgeOfSome, IsLateUnderWay, KeepsEndLate}
 use Rattle.stamp_watch.specs.PossibleLate.{KeepsLater}
 use Rattle.stamp_watch.specs.Verdict.{AreOfLock}
-use Rattle.stamp_watch.specs.inner.Delay.{IsFindingOf, IsLateRest, IsReady, IsReadyFor}
+use Rattle.stamp_watch.specs.inner.Course.{broken_off}
+use Rattle.stamp_watch.specs.inner.Delay.{IsFindingOf, IsLateBreak, IsLateRest, IsReady, IsReadyFor}
 use Rattle.stamp_watch.specs.inner.Judging.{MayComeIn, SetsBusy}
-use Rattle.stamp_watch.specs.inner.Late.{broken_off_there}
 use Rattle.stamp_watch.proofs.Closeness.{few_aside}
 use Rattle.stamp_watch.proofs.EndedLate.{more_in_run}
-use Rattle.stamp_watch.proofs.Forming.{busy_lanes_then, form_first, of_lock_on}
+use Rattle.stamp_watch.proofs.Forming.{busy_lanes_then, form_first, of_lock_not, of_lock_on}
 use Rattle.stamp_watch.proofs.HandingOn.{passed_length}
-use Rattle.stamp_watch.proofs.KeepingEnds.{keeps_broken}
 use Rattle.stamp_watch.proofs.PossibleLate.{keeps_beside, keeps_of}
 use Rattle.stamp_watch.proofs.Running.{broken_found, over_broken, over_here, rest_now}
 
@@ -176,17 +176,9 @@ module _ (limits : Bounds) (most ahead : ℕ) (run : List Event) (judge : LateJu
           (let same : judge.delay.ahead ≡ ahead - 64 = late_way.delayed.ahead_is in omega (arith, few, same)))
           (keeps_of limits most ahead (run ++ e ∷ []) new.delay delayed) tells there some found
 
-    -- an event that may not come there
-    pub late_broken : (e : Event) (number : ℕ) → number ≡ judge.delay.passed + length judge.delay.waiting.events.items
-        →
-        ¬ MayComeIn judge.busy e → (f : LateVerdict) → IsLateRest limits run most ahead f →
-        IsLateFound limits (run ++ e ∷ []) most ahead (broken_off_there f number)
-    late_broken e number at not_there (finding.Is v) rest = broken_found limits run most None judge.busy number e
-        (at ∙ run_long) late_way.lanes not_there v rest
-    late_broken e number at not_there (finding.Late k) rest = λ more.
-        subst (λ (xs : List Event). IsLate limits xs most ahead k) (sym (append_assoc run (e ∷ []) more))
-        (rest (e ∷ more) (over_broken limits run most None judge.busy number e (at ∙ run_long) late_way.lanes not_there
-        more))
+    -- an event may not come there
+    pub late_broken : (e : Event) → ¬ MayComeIn judge.busy e → ¬ AreOfLock (run ++ e ∷ [])
+    late_broken e not_there = of_lock_not run judge.busy e late_way.lanes not_there
 
 -- so it is by the same delay
 pub finding_as : {a b : List Event} {s t f g : Option ℕ} (v : Verdict) (is : LateVerdict) → a ≡ b → s ≡ t → f ≡ g →
@@ -204,10 +196,58 @@ late_told aside shown (Some first) v (finding.Is found) delay is tells =
     subst (KeepsEndOf delay.judge.course) (sym is.0) tells
 late_told aside shown (Some first) v (finding.Late k) delay is tells = tt
 
-pub broken_told : (delay : Delay) (f : LateVerdict) (place : ℕ) → KeepsEndLate delay f →
-    KeepsEndLate delay (broken_off_there f place)
-broken_told delay (finding.Is v) place tells = keeps_broken delay.judge.course v place tells
-broken_told delay (finding.Late k) place tells = tt
+-- what is found where a run breaks off is found by what is found where it ends
+module _ (limits : Bounds) (run : List Event) (most ahead number : ℕ) (at : number ≡ length run) (aside : List Event)
+    (shown first : Option ℕ) where
+  told_broken : (o : Option ℕ) (f : LateVerdict) → IsFindingOf aside shown o (verdict.Broken number) f →
+      f ≡ finding.Is (verdict.Broken number)
+  told_broken None f is = is
+  told_broken (Some n) (finding.Is v) is = ap finding.Is is.0
+  told_broken (Some n) (finding.Late k) is = absurd is.1
+
+  told_explained : (o : Option ℕ) → IsFindingOf aside shown o verdict.Explained (finding.Is verdict.Explained)
+  told_explained None = refl
+  told_explained (Some n) = (refl, inl tt)
+
+  broken_stays : (v : Verdict) → v ≢ verdict.Explained → broken_off v number ≡ v
+  broken_stays verdict.Explained other = absurd (other refl)
+  broken_stays (verdict.Stuck k) other = refl
+  broken_stays (verdict.StuckWithin k m) other = refl
+  broken_stays (verdict.Undecided k why) other = refl
+  broken_stays (verdict.Broken k) other = refl
+
+  -- what isn't that it is explained stays
+  stays_broken : (f : LateVerdict) → IsLateRest limits run most ahead f → f ≢ finding.Is verdict.Explained →
+      IsLateBreak limits run most ahead f
+  stays_broken (finding.Is v) rest other e not_there = subst (IsFound limits (run ++ e ∷ []) most None)
+      (broken_stays v (λ same. other (ap finding.Is same)))
+      (broken_found limits run most None number e at not_there v rest)
+  stays_broken (finding.Late k) rest other e not_there = λ more.
+      subst (λ (xs : List Event). IsLate limits xs most ahead k) (sym (append_assoc run (e ∷ []) more))
+      (rest (e ∷ more) (over_broken limits run most None number e at not_there more))
+
+  not_explained : (o : Option ℕ) (v : Verdict) (f : LateVerdict) → IsFindingOf aside shown o v f →
+      v ≢ verdict.Explained → f ≢ finding.Is verdict.Explained
+  not_explained o v f is other same = other (by o (subst (IsFindingOf aside shown o v) same is))
+    where
+      by : (p : Option ℕ) → IsFindingOf aside shown p v (finding.Is verdict.Explained) → v ≡ verdict.Explained
+      by None told = cc
+      by (Some n) told = sym told.0
+
+  pub broken_by : (v : Verdict) → ((f : LateVerdict) → IsFindingOf aside shown first v f →
+      IsLateRest limits run most ahead f) → (f : LateVerdict) →
+      IsFindingOf aside shown first (broken_off v number) f → IsLateBreak limits run most ahead f
+  broken_by verdict.Explained rest f is = λ e not_there. subst (IsLateFound limits (run ++ e ∷ []) most ahead)
+      (sym (told_broken first f is)) (broken_found limits run most None number e at not_there verdict.Explained
+      (rest (finding.Is verdict.Explained) (told_explained first)))
+  broken_by (verdict.Stuck k) rest f is = stays_broken f (rest f is)
+      (not_explained first (verdict.Stuck k) f is (λ e. cc))
+  broken_by (verdict.StuckWithin k m) rest f is = stays_broken f (rest f is)
+      (not_explained first (verdict.StuckWithin k m) f is (λ e. cc))
+  broken_by (verdict.Undecided k why) rest f is = stays_broken f (rest f is)
+      (not_explained first (verdict.Undecided k why) f is (λ e. cc))
+  broken_by (verdict.Broken k) rest f is = stays_broken f (rest f is)
+      (not_explained first (verdict.Broken k) f is (λ e. cc))
 
 -- a judge of some run, given one event more, is one of that run and the event
 pub late_known_then : (old new : LateJudge) (e : Event) → IsLateJudgeOfSome old →

@@ -22,11 +22,10 @@ use Rattle.stamp_watch.specs.AsObserved.Ending.{StaysOpen}
 use Rattle.stamp_watch.specs.Foretold.{open_at, ends_as}
 use Rattle.stamp_watch.specs.Form.{is_busy_then, is_busy_after}
 use Rattle.stamp_watch.specs.Run.{AreExplained}
-use Rattle.stamp_watch.specs.Verdict.{AreOfLock, AreTooMany, IsFarEnough, IsVerdict}
+use Rattle.stamp_watch.specs.Verdict.{AreOfLock, AreTooMany, IsFarEnough, IsVerdict, MayComeNext}
 use Rattle.stamp_watch.specs.Judging.{IsFound, IsJudging}
 use Rattle.stamp_watch.specs.inner.Judging.{IsBase, IsEndTold, IsOutcome, IsStep}
-use Rattle.stamp_watch.specs.Judging.{AreBusyLanes}
-use Rattle.stamp_watch.specs.inner.Judging.{IsStuckBehind, IsStuckFrom, MayComeIn}
+use Rattle.stamp_watch.specs.inner.Judging.{IsStuckBehind, IsStuckFrom}
 use Rattle.stamp_watch.specs.Course.{IsOver, IsRest, IsRunOn, IsStanding}
 use Rattle.stamp_watch.specs.inner.Course.{IsKnown, broken_off}
 use Rattle.stamp_watch.specs.declared.judge.Outcome.{Outcome}
@@ -35,9 +34,9 @@ use Rattle.stamp_watch.specs.declared.verdict.Verdict.{Verdict}
 use Rattle.stamp_watch.specs.declared.verdict.Verdict.TheVariants as verdict
 use Rattle.stamp_watch.specs.declared.verdict.Why.TheVariants as cause
 use Rattle.stamp_watch.proofs.Form.{busy_after_one}
-use Rattle.stamp_watch.proofs.Forming.{form_first, of_lock_not, of_lock_up_to}
+use Rattle.stamp_watch.proofs.Forming.{form_first, of_lock_up_to}
 use Rattle.stamp_watch.proofs.Judged.{cut_behind, rest_behind, judging_here, judging_more, past_on, unexplained_here}
-use Rattle.stamp_watch.proofs.Judged.{too_many_here}
+use Rattle.stamp_watch.proofs.Judged.{length_behind, too_many_here}
 use Rattle.stamp_watch.proofs.Judging.{judging_first, judging_copied}
 use Rattle.stamp_watch.proofs.Reading.{drop_read}
 use Rattle.stamp_watch.specs.Watch.{IsCopy, IsUntold, IsWatching}
@@ -261,9 +260,24 @@ module _ (limits : Bounds) (run : List Event) (first seen : ℕ) (events : List 
       ap (take (first + k)) (append_assoc is.past events more) ∙ cut_behind first k is.past (events ++ more) is.place ∙
       ap (λ (xs : List Event). is.past ++ xs) (take-append-le k events more within)
 
-  pub part_of_lock : (k : ℕ) → AreOfLock (is.past ++ take k events)
+  part_of_lock : (k : ℕ) → AreOfLock (is.past ++ take k events)
   part_of_lock k = subst AreOfLock (cut_behind (length is.past) k is.past events refl)
       (of_lock_up_to (length is.past + k) (is.past ++ events) is.whole)
+
+  -- so many of the events are in form
+  pub front_of_run : (k : ℕ) (later : List Event) → k ≤ length events → AreOfLock (take (first + k) (run ++ later))
+  front_of_run k later within = subst AreOfLock (sym (cut_run k later within)) (part_of_lock k)
+
+  -- each of them may come there
+  pub next_of_run : (k : ℕ) (later : List Event) → k < length events → MayComeNext (run ++ later) (first + k)
+  next_of_run k later less = record {
+    there = let long : length run ≡ first + length events =
+        ap length is.run_is ∙ length_behind first is.past events is.place in
+        let both : length (run ++ later) ≡ length run + length later = length-append run later in
+        omega (arith, less, long, both);
+    whole = subst (λ (n : ℕ). AreOfLock (take n (run ++ later))) (sym (add_assoc first k 1))
+        (front_of_run (k + 1) later (omega (arith, less)));
+  }
 
   rest_run : (k : ℕ) (later : List Event) → drop (first + k) (take (length run) (run ++ later)) ≡ drop k events
   rest_run k later = ap (drop (first + k)) (take-append_seam run later ∙ is.run_is) ∙
@@ -286,24 +300,27 @@ module _ (limits : Bounds) (run : List Event) (first seen : ℕ) (events : List 
   over_far : (k : ℕ) (later : List Event) → IsOver run later → IsFarEnough (run ++ later) k (length run)
   over_far k later over = record { whole = run_of_lock later; far = inr over }
 
-  run_undecided : (most k : ℕ) (ahead : Option ℕ) (later : List Event) → k ≤ length events →
+  run_undecided : (most k : ℕ) (ahead : Option ℕ) (later : List Event) → k < length events →
       IsFarEnough (run ++ later) (first + k) (length run) →
       AreExplained limits (is.past ++ take k events) →
       AreTooMany limits (first + k) (is.past ++ take k events) (drop k events) most →
       IsVerdict limits (run ++ later) most ahead (verdict.Undecided (first + k) cause.TooMany)
-  run_undecided most k ahead later within far explained many = (
-    subst AreOfLock (sym (cut_run k later within)) (part_of_lock k),
-    subst (AreExplained limits) (sym (cut_run k later within)) explained,
+  run_undecided most k ahead later less far explained many = (
+    next_of_run k later less,
+    subst (AreExplained limits) (sym cut) explained,
     record {
       known = length run;
       far = far;
       too_many = subst (λ (xs : List Event).
           AreTooMany limits (first + k) xs (drop (first + k) (take (length run) (run ++ later))) most)
-          (sym (cut_run k later within))
+          (sym cut)
           (subst (λ (xs : List Event). AreTooMany limits (first + k) (is.past ++ take k events) xs most)
           (sym (rest_run k later)) many);
     },
   )
+    where
+      cut : take (first + k) (run ++ later) ≡ is.past ++ take k events
+      cut = cut_run k later (omega (arith, less))
 
   -- one event is seen
   module _ (e : Event) (less : seen < length events) (read : e ≡ get_or events seen e) (most : ℕ) where
@@ -345,7 +362,7 @@ module _ (limits : Bounds) (run : List Event) (first seen : ℕ) (events : List 
     pub run_too_many : (ahead : Option ℕ) (new : Watch) (answer : Progress) → answer ≡ progress.TooMany →
         IsStep limits (first + seen) (is.past ++ take seen events) e (drop (seen + 1) events) most new answer →
         IsFound limits run most ahead (verdict.Undecided (first + seen) cause.TooMany)
-    run_too_many ahead new answer many step more = run_undecided most seen ahead more is.within (ended_far more)
+    run_too_many ahead new answer many step more = run_undecided most seen ahead more less (ended_far more)
         is.now.judging.explained (too_many_here limits first is.past events most seen e less read new answer step many
         is.now.judging.explained).2
 
@@ -406,7 +423,7 @@ module _ (limits : Bounds) (run : List Event) (first seen : ℕ) (events : List 
     rest_undecided k outcome later over =
         subst (λ (n : ℕ). IsVerdict limits (run ++ later) most ahead (verdict.Undecided n cause.TooMany))
         (sym (add_assoc first seen k)) (run_undecided most (seen + k) ahead later
-        (let below : seen + k < length events = rest_within k outcome.0 in omega (arith, below))
+        (rest_within k outcome.0)
         (over_far (first + (seen + k)) later over) (subst (AreExplained limits) (seen_and_some k) outcome.1) many)
       where
         many : AreTooMany limits (first + (seen + k)) (is.past ++ take (seen + k) events) (drop (seen + k) events) most
@@ -460,9 +477,8 @@ rest_now limits run most ahead (verdict.Undecided k cause.TooFar) rest =
 rest_now limits run most ahead (verdict.Broken k) rest = found_now limits run most ahead (verdict.Broken k) rest
 
 -- an event that may not come there
-module _ (limits : Bounds) (run : List Event) (most : ℕ) (ahead : Option ℕ) (busy place : ℕ) (e : Event)
-    (at : place ≡ length run)
-    (lanes : AreBusyLanes run busy) (not_there : ¬ MayComeIn busy e) where
+module _ (limits : Bounds) (run : List Event) (most : ℕ) (ahead : Option ℕ) (place : ℕ) (e : Event)
+    (at : place ≡ length run) (not_there : ¬ AreOfLock (run ++ e ∷ [])) where
   cut_before : (more : List Event) → take place (run ++ e ∷ [] ++ more) ≡ run
   cut_before more = ap (λ (n : ℕ). take n (run ++ e ∷ [] ++ more)) at ∙
       ap (take (length run)) (append_assoc run (e ∷ []) more) ∙ take-append_seam run (e ∷ more)
@@ -479,14 +495,14 @@ module _ (limits : Bounds) (run : List Event) (most : ℕ) (ahead : Option ℕ) 
       ap (take (place + 1)) (sym (append_assoc run (e ∷ []) more)) ∙ cut_behind_it more
 
   pub over_broken : (more : List Event) → IsOver run (e ∷ more)
-  over_broken more less whole = of_lock_not run busy e lanes not_there (subst AreOfLock (it_follows more) whole)
+  over_broken more less whole = not_there (subst AreOfLock (it_follows more) whole)
 
   pub broken_found : (v : Verdict) → IsRest limits run most ahead v →
       IsFound limits (run ++ e ∷ []) most ahead (broken_off v place)
   broken_found verdict.Explained rest more = (
     record {
       whole = subst AreOfLock (sym (cut_before more)) rest.0;
-      broken = λ whole. of_lock_not run busy e lanes not_there (subst AreOfLock (cut_behind_it more) whole);
+      broken = λ whole. not_there (subst AreOfLock (cut_behind_it more) whole);
     },
     subst (AreExplained limits) (sym (cut_before more)) rest.1,
   )

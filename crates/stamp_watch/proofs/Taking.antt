@@ -6,8 +6,8 @@ use Rattle.stamp_watch.specs.declared.event.Event.{Event}
 use Rattle.stamp_watch.specs.declared.event.Event.TheVariants.{Begins, Returns, Withdraws}
 use Rattle.stamp_watch.specs.Stream.{IsOfStream}
 use Rattle.stamp_watch.specs.Judging.{AreBusyLanes}
-use Rattle.stamp_watch.specs.Verdict.{AreOfLock}
-use Rattle.stamp_watch.specs.inner.Judging.{AreTaken, IsInFormUpTo, MayComeIn}
+use Rattle.stamp_watch.specs.Verdict.{AreOfLock, IsInFormUpTo}
+use Rattle.stamp_watch.specs.inner.Judging.{AreTaken, MayComeIn}
 use Rattle.stamp_watch.proofs.Forming.{form_stops, form_ends}
 
 -- an event that may come has few bytes

@@ -1,9 +1,9 @@
 -- A call that is open for too long.
-use Rattle.std.proofs.Common.{ℕ, zero, suc, ◌≡◌, ◌+◌, ◌<◌, ◌≤◌, List, [], ◌∷◌, ◌++◌, length, get_or, Some, sym}
+use Rattle.std.proofs.Common.{ℕ, zero, suc, ◌≡◌, ◌+◌, ◌-◌, ◌<◌, ◌≤◌, List, [], ◌∷◌, ◌++◌, length, get_or, Some, sym}
 use Rattle.std.proofs.Common.{◌∙◌}
 use Rattle.std.proofs.Common.{ap, subst, arith}
 use Rattle.std.specs.Prelude.{take, drop}
-use Rattle.std.proofs.lemmas.List.{take-append-le, drop-append-le, length-append}
+use Rattle.std.proofs.lemmas.List.{take-append-le, drop-append-le, length-append, length-drop}
 use Rattle.stamp_core.specs.Limits.{Bounds}
 use Rattle.stamp_watch.specs.declared.event.Event.{Event}
 use Rattle.stamp_watch.specs.declared.event.Event.TheVariants.{Begins, Returns, Withdraws}
@@ -25,7 +25,7 @@ use Rattle.stamp_watch.specs.inner.Course.{IsUnknown}
 use Rattle.stamp_watch.proofs.Judging.{ends_so}
 use Rattle.stamp_watch.proofs.LettingGo.{run_behind, run_length}
 use Rattle.stamp_watch.proofs.Reading.{drop_read}
-use Rattle.stamp_watch.proofs.Running.{cut_run, part_of_lock}
+use Rattle.stamp_watch.proofs.Running.{cut_run, front_of_run, next_of_run}
 use Rattle.stamp_watch.proofs.Surviving.{never_past_beginning, never_past_return, never_past_withdrawal}
 
 never_up_to : (lane k : ℕ) (events : List Event) → EndsNever lane events → EndsNever lane (take k events)
@@ -83,9 +83,17 @@ module _ (limits : Bounds) (run : List Event) (first seen : ℕ) (events : List 
       IsEndTold e n (drop (seen + 1) events) ends →
       IsFound limits run most (Some ahead) (verdict.Undecided (first + seen) cause.TooFar)
   run_too_far most ahead n ends many unknown told more = (
-    subst AreOfLock (sym (cut_run limits run first seen events base watch is seen more is.within))
-        (part_of_lock limits run first seen events base watch is seen),
+    next_of_run limits run first seen events base watch is seen more less,
     subst (AreExplained limits) (sym (cut_run limits run first seen events base watch is seen more is.within))
         is.now.judging.explained,
-    open_for e n (first + seen) ahead ends (run ++ more) (drop (seen + 1) events) more unknown told (there more) many,
+    (
+      open_for e n (first + seen) ahead ends (run ++ more) (drop (seen + 1) events) more unknown told (there more) many,
+      subst (λ (m : ℕ). AreOfLock (take m (run ++ more))) place
+          (front_of_run limits run first seen events base watch is (seen + 1 + ahead) more
+          (let long : length (drop (seen + 1) events) ≡ length events - (seen + 1) = length-drop (seen + 1) events in
+          omega (arith, less, long, many))),
+    ),
   )
+    where
+      place : first + (seen + 1 + ahead) ≡ first + seen + 1 + ahead
+      place = omega arith

@@ -12,7 +12,7 @@ use Rattle.stamp_watch.specs.Ahead.{IsSpared, lane_of}
 use Rattle.stamp_watch.specs.Form.{AreInForm}
 use Rattle.stamp_watch.specs.Issued.{LosesNothing}
 use Rattle.stamp_watch.specs.Run.{AreExplained}
-use Rattle.stamp_watch.specs.Verdict.{AreOfLock, IsOpenFor, IsVerdict, NoMoreAreOfLock}
+use Rattle.stamp_watch.specs.Verdict.{IsInFormUpTo, IsOpenFor, IsVerdict}
 use Rattle.stamp_watch.specs.Waiting.{count_of}
 
 -- one call begins one event later; that is of another lane
@@ -59,13 +59,13 @@ TellsOf (StuckWithin j m) k = j ≡ k
 TellsOf (Undecided j why) k = j ≡ k
 TellsOf (Broken j) k = j ≡ k
 
--- the verdict rests on what comes from this event on
+-- the verdict rests on what comes from this event on; that a run is broken does not rest on when calls begin
 abbrev pub RestsOn : Verdict → ℕ → Type 0
 RestsOn Explained n = ⊥
 RestsOn (Stuck k) n = n ≤ k
 RestsOn (StuckWithin k m) n = n < m
 RestsOn (Undecided k why) n = Unit {0}
-RestsOn (Broken k) n = Unit {0}
+RestsOn (Broken k) n = ⊥
 
 -- the verdict says that it was given up
 abbrev pub HasGivenUp : Verdict → Type 0
@@ -73,7 +73,7 @@ HasGivenUp Explained = ⊥
 HasGivenUp (Stuck k) = ⊥
 HasGivenUp (StuckWithin k m) = Unit {0}
 HasGivenUp (Undecided k why) = Unit {0}
-HasGivenUp (Broken k) = Unit {0}
+HasGivenUp (Broken k) = ⊥
 
 -- the call that begins at this event is open for all of these that come then, and ends at the one behind them
 pub record EndsBehind (run : List Event) (late : ℕ) (begun : Event) (between : List Event) (end : Event) : Type 0 where
@@ -98,25 +98,28 @@ pub record OneIsUnshown (limits : Bounds) (run : List Event) (window place : ℕ
   pub late : ℕ
   pub is : IsUnshown limits run late window place
 
--- The run is explained before the event. A call that begins at an event before a place is open for all but 64 of the
--- events that are looked at. The run up to that place, which is its end or where the next event may not come, with
--- such calls begun later, has a verdict that rests on that call and tells of the event. It was given up; or up to the
--- event it is not shown of such a call that nothing is lost.
-pub record IsLate (limits : Bounds) (run : List Event) (most ahead k : ℕ) : Type 0 where
-  pub whole : AreOfLock (take k run)
+-- Of a run in form: the event is there, and the run is explained before it. A call is open for all but 64 of the events
+-- that are looked at. The run, with such calls begun later, has a verdict that rests on that call and tells of the
+-- event. It was given up; or up to the event it is not shown of such a call that nothing is lost.
+pub record IsLateInForm (limits : Bounds) (run : List Event) (most ahead k : ℕ) : Type 0 where
+  pub there : k < length run
   pub explained : AreExplained limits (take k run)
   pub late : ℕ
   pub open_for : IsOpenFor run late (ahead - 64)
-  pub place : ℕ
-  pub before : late < place
-  pub up_to : NoMoreAreOfLock run place
   pub handed : List Event
-  pub later : LongCallsBeginLater run (ahead - 64) (take place run) handed
+  pub later : LongCallsBeginLater run (ahead - 64) run handed
   pub verdict : Verdict
   pub has : IsVerdict limits handed most None verdict
   pub tells : TellsOf verdict k
   pub rests : RestsOn verdict late
   pub why : HasGivenUp verdict ⊎ OneIsUnshown limits run (ahead - 64) (k + 1)
+
+-- So it is of the run up to a place, which is its end or where the next event may not come: of that event nothing is
+-- told but that the run is broken there, and what comes behind it counts for nothing.
+pub record IsLate (limits : Bounds) (run : List Event) (most ahead k : ℕ) : Type 0 where
+  pub place : ℕ
+  pub up_to : IsInFormUpTo run place
+  pub is : IsLateInForm limits (take place run) most ahead k
 
 -- what a finding means; none is that a call is open for too long
 abbrev pub IsLateVerdict : Bounds → List Event → ℕ → ℕ → LateVerdict → Type 0

@@ -51,9 +51,20 @@ pub record AreTooMany (limits : Bounds) (n : ℕ) (past future : List Event) (mo
       ends_as begun.ends ≡ ending_of lane n future
   pub more : MoreArePossible past most watch
 
+-- there is an event with this number, and it may come behind those before it
+pub record MayComeNext (events : List Event) (k : ℕ) : Type 0 where
+  pub there : k < length events
+  pub whole : AreOfLock (take (k + 1) events)
+
 -- no more than so many of the events are in form
 abbrev pub NoMoreAreOfLock : List Event → ℕ → Type 0
 NoMoreAreOfLock events m = m < length events → ¬ AreOfLock (take (m + 1) events)
+
+-- so many of the events, from the first on, are in form, and no more
+pub record IsInFormUpTo (events : List Event) (k : ℕ) : Type 0 where
+  pub within : k ≤ length events
+  pub whole : AreOfLock (take k events)
+  pub broken : NoMoreAreOfLock events k
 
 -- among the first m events each call ends that is open after k, or those m are all that are in form
 pub record IsFarEnough (events : List Event) (k m : ℕ) : Type 0 where
@@ -66,9 +77,10 @@ pub record IsTooManyAt (limits : Bounds) (events : List Event) (most k : ℕ) : 
   pub far : IsFarEnough events k known
   pub too_many : AreTooMany limits k (take k events) (drop k (take known events)) most
 
--- the run is stuck between two events. Of the run that ends halfway between them there are too many configurations
+-- the run is stuck between two places. Of the run that ends halfway between them there are too many configurations
 -- before some event
 pub record IsStuckWithin (limits : Bounds) (events : List Event) (most k m : ℕ) : Type 0 where
+  pub there : m ≤ length events
   pub whole : AreOfLock (take m events)
   pub explained : AreExplained limits (take k events)
   pub stuck : ¬ AreExplained limits (take m events)
@@ -89,10 +101,10 @@ pub record IsOpenFor (events : List Event) (k ahead : ℕ) : Type 0 where
   pub many : ahead ≤ length later
   pub never : EndsNever lane (take ahead later)
 
--- where so many events are looked at for the end of a call, if not all
+-- where so many events are looked at for the end of a call, if not all; each of them may come
 abbrev pub IsTooFar : List Event → ℕ → Option ℕ → Type 0
 IsTooFar events k None = ⊥
-IsTooFar events k (Some ahead) = IsOpenFor events k ahead
+IsTooFar events k (Some ahead) = IsOpenFor events k ahead × AreOfLock (take (k + 1 + ahead) events)
 
 -- what a verdict means
 abbrev pub IsVerdict : Bounds → List Event → ℕ → Option ℕ → Verdict → Type 0
@@ -100,7 +112,7 @@ IsVerdict limits events most ahead Explained = AreOfLock events × AreExplained 
 IsVerdict limits events most ahead (Stuck k) = AreOfLock (take (k + 1) events) × AreStuckAt limits events k
 IsVerdict limits events most ahead (StuckWithin k m) = IsStuckWithin limits events most k m
 IsVerdict limits events most ahead (Undecided k TooMany) =
-    AreOfLock (take k events) × AreExplained limits (take k events) × IsTooManyAt limits events most k
+    MayComeNext events k × AreExplained limits (take k events) × IsTooManyAt limits events most k
 IsVerdict limits events most ahead (Undecided k TooFar) =
-    AreOfLock (take k events) × AreExplained limits (take k events) × IsTooFar events k ahead
+    MayComeNext events k × AreExplained limits (take k events) × IsTooFar events k ahead
 IsVerdict limits events most ahead (Broken k) = AreBrokenAt events k × AreExplained limits (take k events)

@@ -1,6 +1,6 @@
 -- The laws of runs, over the definitions alone.
 use Rattle.std.specs.Prelude.{ℕ, ◌≡◌, ◌≢◌, ◌≤◌, ◌<◌, ◌+◌, ◌↔◌, ◌++◌, false, List, [], ◌∷◌, length, take, slice_get}
-use Rattle.std.specs.Prelude.{Some}
+use Rattle.std.specs.Prelude.{◌⊎◌, Option, Some}
 use Rattle.stamp_core.specs.LockEvent.{LockEvent, write_count}
 use Rattle.stamp_core.specs.Limits.{Bounds}
 use Rattle.stamp_core.specs.declared.call.Call.{Call}
@@ -14,6 +14,12 @@ use Rattle.stamp_watch.specs.Run.Phase.{Idle, Asks, Gets}
 use Rattle.stamp_watch.specs.Ahead.{Tells, IsWithdrawn, EndsNever, ReturnsSooner, Spares}
 use Rattle.stamp_watch.specs.Form.{is_busy_after, AreInForm}
 use Rattle.stamp_watch.specs.Watching.{Fits, GoesOn, StandFor, Told}
+use Rattle.stamp_watch.specs.declared.late_verdict.LateVerdict.{LateVerdict}
+use Rattle.stamp_watch.specs.declared.late_verdict.LateVerdict.TheVariants.{Is, Late}
+use Rattle.stamp_watch.specs.declared.verdict.Verdict.{Verdict}
+use Rattle.stamp_watch.specs.declared.verdict.Verdict.TheVariants.{Explained, Stuck, StuckWithin, Undecided, Broken}
+use Rattle.stamp_watch.specs.Late.{IsLateVerdict}
+use Rattle.stamp_watch.specs.Verdict.{AreBrokenAt, IsVerdict}
 use Rattle.stamp_watch.specs.AsObserved.{observed_of, IsStuckAtPosition, NoneIsWithdrawnLater}
 
 -- the lane is idle, and nothing is lost if its call begins at once
@@ -194,3 +200,31 @@ StuckAsSeen =
     (limits : Bounds) (events : List Event) (k : ℕ) → AreInForm events →
     ((lane : ℕ) → slice_get events k ≢ Some (Withdraws lane)) →
     AreStuckAt limits events k ↔ IsStuckAtPosition (observed_of limits (take (k + 1) events)) k
+
+-- the verdict gives up at an event before this one
+abbrev pub GivesUpBefore : Verdict → ℕ → Type 0
+GivesUpBefore Explained k = ⊥
+GivesUpBefore (Stuck j) k = ⊥
+GivesUpBefore (StuckWithin j m) k = ⊥
+GivesUpBefore (Undecided j why) k = j < k
+GivesUpBefore (Broken j) k = ⊥
+
+-- Where a run is explained before an event, and the event may not come there, it is told as broken at the event; or it
+-- was given up at an event before.
+abbrev pub BrokenIsTold : Type 0
+BrokenIsTold =
+    (limits : Bounds) (run : List Event) (most k : ℕ) (ahead : Option ℕ) (verdict : Verdict) → AreBrokenAt run k →
+    AreExplained limits (take k run) → IsVerdict limits run most ahead verdict →
+    (verdict ≡ Broken k) ⊎ GivesUpBefore verdict k
+
+-- so it is where calls are open for long
+abbrev pub IsLateBefore : LateVerdict → ℕ → Type 0
+IsLateBefore (Is verdict) k = GivesUpBefore verdict k
+IsLateBefore (Late j) k = j < k
+
+-- Calls that are open for long change nothing in that: of the event itself no more is told than that it may not come.
+abbrev pub BrokenIsToldLate : Type 0
+BrokenIsToldLate =
+    (limits : Bounds) (run : List Event) (most ahead k : ℕ) (finding : LateVerdict) → AreBrokenAt run k →
+    AreExplained limits (take k run) → IsLateVerdict limits run most ahead finding →
+    (finding ≡ Is (Broken k)) ⊎ IsLateBefore finding k

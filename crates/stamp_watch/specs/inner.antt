@@ -9,6 +9,5 @@ pub mod Foretold
 pub mod Stream
 pub mod Alike
 pub mod Delay
-pub mod Late
 pub mod Possible
 pub mod Kept

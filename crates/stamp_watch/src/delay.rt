@@ -16,11 +16,11 @@ ghost use Rattle.stamp_watch.specs.LateJudge.{EndsInRunLate, KeepsEndLate};
 ghost use Rattle.stamp_watch.specs.Possible.{KeepsBase};
 ghost use Rattle.stamp_watch.specs.PossibleLate.{KeepsDelayed};
 ghost use Rattle.stamp_watch.specs.Verdict.{AreOfLock};
-ghost use Rattle.stamp_watch.specs.inner.Delay.{HasBegun, HasHandedOn, HasRoomFor, IsFindingBy, IsFindingOf, IsLateRest, IsOfLaneAt, IsReady, IsReadyFor, IsSettled, IsShownBy, IsWaitingOn, found_by};
+ghost use Rattle.stamp_watch.specs.inner.Delay.{HasBegun, HasHandedOn, HasRoomFor, IsFindingBy, IsFindingOf, IsLateBreak, IsLateRest, IsOfLaneAt, IsReady, IsReadyFor, IsSettled, IsShownBy, IsWaitingOn, found_by};
 
 use crate::issued::{returns_older, version_issued};
 use crate::late_verdict::LateVerdict;
-use crate::online::Judge;
+use crate::online::{Judge, broken_off};
 use crate::places::{lane_of, place_of};
 use crate::stream_event::StreamEvent;
 use crate::verdict::Verdict;
@@ -330,7 +330,7 @@ impl Delay {
                 }
             }
             Verdict::Undecided(k, _) => LateVerdict::Late(k),
-            Verdict::Broken(k) => LateVerdict::Late(k),
+            Verdict::Broken(_) => LateVerdict::Is(verdict),
         }
     }
 
@@ -396,5 +396,27 @@ impl Delay {
         self.give_all()?;
         let verdict = self.judge.finish()?;
         Ok(self.finding_of(verdict))
+    }
+
+    /// What is found of the run if its next event may not come there. The delay is of no more use then.
+    pub(crate) fn break_off(&mut self) -> Result<LateVerdict, AllocError>
+        requires ready { IsReady self.old }
+        requires few { length self.old.waiting.events.items ≤ self.old.ahead }
+        requires room { self.old.passed + length self.old.waiting.events.items < 2 ^ 64 }
+        ensures broken { IfOk result (λ finding. (limits : Bounds) (most ahead : ℕ) (run : List Event)
+            → IsDelayed limits most ahead run self.old → IsLateBreak limits run most ahead finding) }
+        ensures small { IfOk result (λ _. (ahead : ℕ) → IsSmallDelay ahead self.old → IsSmallDelay ahead self.new) }
+        ensures keeps { IfOk result (λ _. (limits : Bounds) (most ahead : ℕ) (run : List Event)
+            → IsDelayed limits most ahead run self.old → KeepsDelayed limits run self.new) }
+        ensures tells { IfOk result (KeepsEndLate self.new) }
+        ensures there { IfOk result (λ finding. (limits : Bounds) (most ahead : ℕ) (run : List Event)
+            → IsDelayed limits most ahead run self.old → EndsInRunLate run self.new finding) }
+        ensures window { IfOk result (λ _. self.new.ahead ≡ self.old.ahead) }
+    {
+        let number = self.count();
+        self.give_all()?;
+        let rest = self.judge.finish()?;
+        let broken = broken_off(rest, number);
+        Ok(self.finding_of(broken))
     }
 }

@@ -16,7 +16,6 @@ ghost use Rattle.stamp_watch.specs.Possible.{items_in};
 ghost use Rattle.stamp_watch.specs.PossibleLate.{IsToldLaterOf, KeepsLater, KeepsSomeLater};
 ghost use Rattle.stamp_watch.specs.LateJudge.{HasFoundNothingLater, HasRoomForOneLater, IsLateFoundThen, IsLateGiven, IsLateJudge, IsLateJudgeOfSome, EndsInRunLate, KeepsEndLate};
 ghost use Rattle.stamp_watch.specs.inner.Judging.{MayComeIn, SetsBusy};
-ghost use Rattle.stamp_watch.specs.inner.Late.{broken_off_there};
 
 use crate::delay::Delay;
 use crate::ended_call::EndedCall;
@@ -24,7 +23,6 @@ use crate::lanes::busy_with;
 use crate::late_verdict::LateVerdict;
 use crate::so_far::lanes_in;
 use crate::stream_event::StreamEvent;
-use crate::verdict::Verdict;
 use stamp_core::{Call, Limits, Reply};
 use std::alloc::{AllocError, Global};
 
@@ -37,16 +35,6 @@ pub struct LateJudge {
     pub(crate) delay: Delay,
     pub(crate) busy: u64,
     found: Option<LateVerdict>,
-}
-
-/// What is found of a run whose next event, with this number, may not come there.
-fn broken_off(rest: LateVerdict, number: u64) -> LateVerdict
-    ensures { result ≡ broken_off_there rest number }
-{
-    match rest {
-        LateVerdict::Is(Verdict::Explained) => LateVerdict::Is(Verdict::Broken(number)),
-        other => other,
-    }
 }
 
 impl LateJudge {
@@ -104,9 +92,7 @@ impl LateJudge {
         ensures known { IfOk result (λ _. IsLateJudgeOfSome self.new) }
         ensures told { IfOk result (λ found. self.new.found ≡ found) }
     {
-        let number = self.delay.count();
-        let rest = self.delay.rest()?;
-        let finding = broken_off(rest, number);
+        let finding = self.delay.break_off()?;
         self.found = Some(finding);
         Ok(Some(finding))
     }

@@ -41,7 +41,7 @@ pub struct Judge {
 }
 
 /// What is found of a run whose next event, with this number, may not come there.
-fn broken_off(rest: Verdict, number: u64) -> Verdict
+pub(crate) fn broken_off(rest: Verdict, number: u64) -> Verdict
     ensures { result ≡ broken_off rest number }
 {
     match rest {

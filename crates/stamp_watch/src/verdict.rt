@@ -11,7 +11,8 @@ pub enum Verdict {
     /// it is stuck at the first or between them. Of the run that ends halfway between them more configurations than
     /// were allowed are possible just before some event.
     StuckWithin(u64, u64),
-    /// The run is explained before the event with this number. For this cause it is not judged further.
+    /// The run is explained before the event with this number, which may come there. For this cause it is not judged
+    /// further.
     Undecided(u64, Why),
     /// The run is explained before the event with this number, and the event may not come there: its lane is none of
     /// 0 to 63, it begins a call where one is open or ends one where none is, or its call or reply is not the lock's.

@@ -1,7 +1,7 @@
 //! Laws of runs. Each function does nothing; its contract is the law, over the definitions alone.
 ghost use Rattle.stamp_watch.specs.Late.{LaterExplainsNoMore};
 ghost use Rattle.stamp_watch.specs.LateLaws.{LateLosesNothing, LateStampLosesNothing, OlderIsTold, StampTellsVersion};
-ghost use Rattle.stamp_watch.specs.WatchLaws.{AtOnceLosesNothing, BeginsFirst, BeginsLate, BeginsSooner, EndlessAlikeFirst, ExplainedAsObserved, OpeningStands, ReturnsFirst, SetsGoOn, SetsTell, ShorterStayExplained, SoonerAlikeFirst, StuckAsObserved, StuckAsSeen, StuckIsExact, TakesEffectFirst, UnchangingNeverNeeded, WithdrawnMayBeLeftOut, WithdrawnTakesNoEffect, WithdrawsFirst};
+ghost use Rattle.stamp_watch.specs.WatchLaws.{AtOnceLosesNothing, BeginsFirst, BeginsLate, BeginsSooner, BrokenIsTold, BrokenIsToldLate, EndlessAlikeFirst, ExplainedAsObserved, OpeningStands, ReturnsFirst, SetsGoOn, SetsTell, ShorterStayExplained, SoonerAlikeFirst, StuckAsObserved, StuckAsSeen, StuckIsExact, TakesEffectFirst, UnchangingNeverNeeded, WithdrawnMayBeLeftOut, WithdrawnTakesNoEffect, WithdrawsFirst};
 
 /// Where a call begins next, nothing is lost if it begins before other calls take effect.
 pub fn begins_first()
@@ -131,4 +131,15 @@ pub fn stuck_as_observed()
 /// whatever comes later.
 pub fn stuck_as_seen()
     ensures { StuckAsSeen }
+{}
+
+/// Where a run is explained before an event, and the event may not come there, the run is told as broken at the event,
+/// or was given up at an event before.
+pub fn broken_is_told()
+    ensures { BrokenIsTold }
+{}
+
+/// So it is where calls may be open for long.
+pub fn broken_is_told_late()
+    ensures { BrokenIsToldLate }
 {}

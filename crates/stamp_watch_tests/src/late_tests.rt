@@ -145,6 +145,21 @@ fn an_event_that_may_not_come_breaks_a_run_with_late_calls(rt: HostRuntime) -> R
 }
 
 #[test]
+fn a_run_is_broken_while_a_call_waits_on(rt: HostRuntime) -> Result<(), Fail> {
+    let never = [
+        Event::Begins(0, Call::ReadCount),
+        Event::Begins(64, Call::ReadCount),
+        Event::Returns(1, Reply::Done),
+        Event::Withdraws(2),
+    ];
+    let broken = LateVerdict::Is(Verdict::Broken(11));
+    for event in never {
+        assert!(rt; found_of_both(&rt, &WAITS[..11], &[event])? == (Some(broken), broken));
+    }
+    Ok(())
+}
+
+#[test]
 fn events_wait_only_while_a_call_is_open(rt: HostRuntime) -> Result<(), Fail> {
     let held = [
         Event::Begins(1, Call::IsWriteLocked),

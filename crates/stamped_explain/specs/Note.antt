@@ -49,22 +49,22 @@ pub record IsStuckNote (h : ObservedHistory) (most i : ℕ) (text : List ℕ) : 
 abbrev pub unexplained_text : List ℕ
 unexplained_text = codes "stamped_explain: no order explains the history; from which return on is undecided"
 
--- the note of a recorded history that was found: what its calls tried, if that is to be told; or memory was refused
+-- the note of a recorded history that was found: what its calls tried, if that is to be told. In its place: memory was
+-- refused
 abbrev pub IsToldNote : orders.Told → Recorded → Result (Option (String Global)) AllocError → Type 0
-IsToldNote Nothing made (Ok (Some text)) = ⊥
-IsToldNote Nothing made (Ok None) = Unit {0}
+IsToldNote Nothing made note = note ≡ Ok None
 IsToldNote Trials made (Ok (Some text)) = string_bytes text ≡ trials_text made.entries
 IsToldNote Trials made (Ok None) = ⊥
-IsToldNote told made (Err e) = Unit {0}
+IsToldNote Trials made (Err e) = Unit {0}
 
--- the note of what was found: of a history that no order explains why, of one that is explained what is to be told,
--- and else none; or memory was refused
+-- the note of what was found: of a history that no order explains why, of one that is explained what is to be told. In
+-- place of such a note: memory was refused. Of another there is none
 abbrev pub IsNote : ObservedHistory → Explaining → Finding → Result (Option (String Global)) AllocError → Type 0
 IsNote h asked (Explained made) note = IsToldNote asked.told made note
 IsNote h asked (Stuck i) (Ok (Some text)) = IsStuckNote h asked.most i (string_bytes text)
 IsNote h asked (Stuck i) (Ok None) = ⊥
+IsNote h asked (Stuck i) (Err e) = Unit {0}
 IsNote h asked (Unexplained i) (Ok (Some text)) = string_bytes text ≡ unexplained_text
 IsNote h asked (Unexplained i) (Ok None) = ⊥
-IsNote h asked found (Ok (Some text)) = ⊥
-IsNote h asked found (Ok None) = Unit {0}
-IsNote h asked found (Err e) = Unit {0}
+IsNote h asked (Unexplained i) (Err e) = Unit {0}
+IsNote h asked found note = note ≡ Ok None

@@ -26,8 +26,8 @@ pub struct VerdictAndNote {
     /// What the line that was written says: `Bad` unless the history is explained.
     pub verdict: Verdict,
     /// The line for standard error, without its line feed: `Some` if no order explains the history, or one
-    /// does and what its calls tried is to be told, else `None`. Where memory is refused for it, there is
-    /// no note.
+    /// does and what its calls tried is to be told, else `None`. `Err` in place of `Some`: memory for the
+    /// line was refused.
     pub note: Result<Option<String>, AllocError>,
 }
 

@@ -76,6 +76,7 @@ pub(crate) fn serve_asked<S: Source, K: Sink>(
     let VerdictAndNote { verdict, note } = serve_explanation(alloc, asked, source, sink)?;
     Ok(Answered {
         verdict,
-        note: note.unwrap_or(None),
+        note,
+        no_witness: None,
     })
 }

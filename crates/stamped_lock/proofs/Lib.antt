@@ -1,3 +1,4 @@
+pub mod Accessing
 pub mod NeverLosing
 pub mod Validating
 pub mod Tries

@@ -1,10 +1,12 @@
 //! What a handle stands on.
-ghost use Rattle.std.specs.Prelude.{◌≡◌, IfOk, IsTrue};
+ghost use Rattle.std.specs.Prelude.{◌≡◌, IfOk, IsOk, IsTrue};
 ghost use Rattle.stamp_core.specs.Call.{is_lock_call};
 ghost use Rattle.stamp_threads.specs.Made.{try_form};
 ghost use Rattle.stamp_threads.specs.MayReply.{MayReply};
 ghost use Rattle.stamp_threads.specs.PassView.{after_split, split_off};
+ghost use Rattle.stamped_lock.specs.Accesses.{AccessesOnce, AccessesOnceOrTwice};
 ghost use Rattle.stamped_lock.specs.Made.{Made, MadeOrLost};
+ghost use Rattle.stamped_lock.specs.inner.Replies.{AsksOnly};
 
 use stamp_core::{Call, KnownLayout, Limits, Reply};
 use stamp_threads::{Lost, Pass, RunningLock};
@@ -56,6 +58,8 @@ impl<'a> Entered<'a> {
         ensures same { self.new.running ≡ self.old.running }
         ensures made { MadeOrLost call (λ r. r) result self.old self.new }
         ensures reply { IfOk result (λ r. MayReply call r) }
+        ensures accesses { AccessesOnceOrTwice self.old self.new }
+        ensures asked { AsksOnly call → IsOk result → AccessesOnce self.old self.new }
     {
         self.running.once_in::<L>(&mut self.pass, call)
     }

@@ -14,9 +14,10 @@ ghost use Rattle.stamp_core.specs.declared.reply.Reply.TheVariants.{Count};
 ghost use Rattle.stamp_threads.specs.Made.{try_form};
 ghost use Rattle.stamp_threads.specs.MayReply.{MayReply};
 ghost use Rattle.stamp_threads.specs.PassView.{after_split, split_off};
+ghost use Rattle.stamped_lock.specs.Accesses.{AccessesOnce, AccessesOnceOrTwice};
 ghost use Rattle.stamped_lock.specs.Made.{Made, MadeOrLost};
 ghost use Rattle.stamped_lock.specs.Replies.{stamped, tested, released};
-ghost use Rattle.stamped_lock.specs.inner.Replies.{NeverLoses};
+ghost use Rattle.stamped_lock.specs.inner.Replies.{NeverLoses, AsksOnly};
 
 use crate::answers::{count_in, some_stamp_in, stamp_unless_zero, test_in, was_released};
 use crate::entered::Entered;
@@ -89,16 +90,19 @@ impl<'a, L: KnownLayout> LockHandle<'a, L> {
         requires at_once { try_form call ≡ call }
         ensures made { MadeOrLost call (λ r. r) result self.old self.new }
         ensures reply { IfOk result (λ r. MayReply call r) }
+        ensures accesses { AccessesOnceOrTwice self.old self.new }
     {
         self.entered.once::<L>(call)
     }
 
-    /// Makes a call that can't lose, by one load and at most one exchange.
+    /// Makes a call that can't lose: by one load, and at most one exchange where it doesn't only ask.
     #[inline(always)]
     fn once_surely(&mut self, call: Call) -> Reply
         requires { NeverLoses call }
         ensures made { Made call result self.old self.new }
         ensures reply { MayReply call result }
+        ensures accesses { AccessesOnceOrTwice self.old self.new }
+        ensures asked { AsksOnly call → AccessesOnce self.old self.new }
     {
         match self.entered.once::<L>(call) {
             Ok(reply) => reply,
@@ -145,7 +149,8 @@ impl<'a, L: KnownLayout> LockHandle<'a, L> {
     /// writer. It holds nothing, so it isn't released. One load.
     #[inline(always)]
     pub fn try_optimistic_read(&mut self) -> Option<Stamp>
-        ensures { Made Optimistic (stamped result) self.old self.new }
+        ensures made { Made Optimistic (stamped result) self.old self.new }
+        ensures accesses { AccessesOnce self.old self.new }
     {
         stamp_unless_zero(self.once_surely(Call::Optimistic))
     }
@@ -154,7 +159,8 @@ impl<'a, L: KnownLayout> LockHandle<'a, L> {
     /// whose mode is held. One load.
     #[inline(always)]
     pub fn validate(&mut self, stamp: Stamp) -> bool
-        ensures { Made (Validate stamp) (tested result) self.old self.new }
+        ensures made { Made (Validate stamp) (tested result) self.old self.new }
+        ensures accesses { AccessesOnce self.old self.new }
     {
         test_in(self.once_surely(Call::Validate(stamp.number())))
     }
@@ -164,7 +170,8 @@ impl<'a, L: KnownLayout> LockHandle<'a, L> {
     /// nobody else can change the lock but by releasing it.
     #[inline(always)]
     pub fn unlock_write(&mut self, stamp: Stamp) -> Result<(), Mismatch>
-        ensures { Made (UnlockWrite stamp) (released result) self.old self.new }
+        ensures made { Made (UnlockWrite stamp) (released result) self.old self.new }
+        ensures accesses { AccessesOnceOrTwice self.old self.new }
     {
         was_released(self.once_surely(Call::UnlockWrite(stamp.number())))
     }
@@ -235,7 +242,8 @@ impl<'a, L: KnownLayout> LockHandle<'a, L> {
     /// Whether write mode is held (`isWriteLocked`). One load.
     #[inline(always)]
     pub fn is_write_locked(&mut self) -> bool
-        ensures { Made IsWriteLocked (tested result) self.old self.new }
+        ensures made { Made IsWriteLocked (tested result) self.old self.new }
+        ensures accesses { AccessesOnce self.old self.new }
     {
         test_in(self.once_surely(Call::IsWriteLocked))
     }
@@ -243,7 +251,8 @@ impl<'a, L: KnownLayout> LockHandle<'a, L> {
     /// Whether read mode is held (`isReadLocked`). One load.
     #[inline(always)]
     pub fn is_read_locked(&mut self) -> bool
-        ensures { Made IsReadLocked (tested result) self.old self.new }
+        ensures made { Made IsReadLocked (tested result) self.old self.new }
+        ensures accesses { AccessesOnce self.old self.new }
     {
         test_in(self.once_surely(Call::IsReadLocked))
     }
@@ -251,7 +260,8 @@ impl<'a, L: KnownLayout> LockHandle<'a, L> {
     /// How many hold read mode (`getReadLockCount`). One load.
     #[inline(always)]
     pub fn read_count(&mut self) -> u64
-        ensures { Made ReadCount (Count result) self.old self.new }
+        ensures made { Made ReadCount (Count result) self.old self.new }
+        ensures accesses { AccessesOnce self.old self.new }
     {
         count_in(self.once_surely(Call::ReadCount))
     }

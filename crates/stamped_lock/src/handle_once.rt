@@ -4,6 +4,7 @@ ghost use Rattle.stamp_core.specs.declared.call.Call.TheVariants.{TryWrite, TryR
 ghost use Rattle.stamp_core.specs.declared.call.Call.TheVariants.{UnlockRead, Unlock, ToWrite};
 ghost use Rattle.stamp_core.specs.declared.call.Call.TheVariants.{ToRead, ToOptimistic};
 ghost use Rattle.stamp_core.specs.declared.call.Call.TheVariants.{TryUnlockWrite, TryUnlockRead};
+ghost use Rattle.stamped_lock.specs.Accesses.{AccessesOnceOrTwice};
 ghost use Rattle.stamped_lock.specs.Made.{MadeOrLost, UnlockedOrLost};
 ghost use Rattle.stamped_lock.specs.Replies.{stamped, tested};
 
@@ -18,7 +19,8 @@ impl<'a, L: KnownLayout> LockHandle<'a, L> {
     /// `try_write`, tried once. Where it fails as `Lost`, nothing was acquired.
     #[inline(always)]
     pub fn try_write_once(&mut self) -> Result<Option<Stamp>, Lost>
-        ensures { MadeOrLost TryWrite stamped result self.old self.new }
+        ensures made { MadeOrLost TryWrite stamped result self.old self.new }
+        ensures accesses { AccessesOnceOrTwice self.old self.new }
     {
         let reply = self.by_once(Call::TryWrite)?;
         Ok(stamp_unless_zero(reply))
@@ -27,7 +29,8 @@ impl<'a, L: KnownLayout> LockHandle<'a, L> {
     /// `try_read`, tried once. Where it fails as `Lost`, nothing was acquired.
     #[inline(always)]
     pub fn try_read_once(&mut self) -> Result<Option<Stamp>, Lost>
-        ensures { MadeOrLost TryRead stamped result self.old self.new }
+        ensures made { MadeOrLost TryRead stamped result self.old self.new }
+        ensures accesses { AccessesOnceOrTwice self.old self.new }
     {
         let reply = self.by_once(Call::TryRead)?;
         Ok(stamp_unless_zero(reply))
@@ -36,7 +39,8 @@ impl<'a, L: KnownLayout> LockHandle<'a, L> {
     /// `unlock_read`, tried once. Where it fails as `Lost`, nothing was released.
     #[inline(always)]
     pub fn unlock_read_once(&mut self, stamp: Stamp) -> Result<(), UnlockError>
-        ensures { UnlockedOrLost (UnlockRead stamp) result self.old self.new }
+        ensures made { UnlockedOrLost (UnlockRead stamp) result self.old self.new }
+        ensures accesses { AccessesOnceOrTwice self.old self.new }
     {
         let reply = self.by_once(Call::UnlockRead(stamp.number()))?;
         was_released(reply)?;
@@ -46,7 +50,8 @@ impl<'a, L: KnownLayout> LockHandle<'a, L> {
     /// `unlock`, tried once. Where it fails as `Lost`, nothing was released.
     #[inline(always)]
     pub fn unlock_once(&mut self, stamp: Stamp) -> Result<(), UnlockError>
-        ensures { UnlockedOrLost (Unlock stamp) result self.old self.new }
+        ensures made { UnlockedOrLost (Unlock stamp) result self.old self.new }
+        ensures accesses { AccessesOnceOrTwice self.old self.new }
     {
         let reply = self.by_once(Call::Unlock(stamp.number()))?;
         was_released(reply)?;
@@ -56,7 +61,8 @@ impl<'a, L: KnownLayout> LockHandle<'a, L> {
     /// `try_convert_to_write`, tried once. Where it fails as `Lost`, the old stamp still stands.
     #[inline(always)]
     pub fn try_convert_to_write_once(&mut self, stamp: Stamp) -> Result<Option<Stamp>, Lost>
-        ensures { MadeOrLost (ToWrite stamp) stamped result self.old self.new }
+        ensures made { MadeOrLost (ToWrite stamp) stamped result self.old self.new }
+        ensures accesses { AccessesOnceOrTwice self.old self.new }
     {
         let reply = self.by_once(Call::ToWrite(stamp.number()))?;
         Ok(stamp_unless_zero(reply))
@@ -65,7 +71,8 @@ impl<'a, L: KnownLayout> LockHandle<'a, L> {
     /// `try_convert_to_read`, tried once. Where it fails as `Lost`, the old stamp still stands.
     #[inline(always)]
     pub fn try_convert_to_read_once(&mut self, stamp: Stamp) -> Result<Option<Stamp>, Lost>
-        ensures { MadeOrLost (ToRead stamp) stamped result self.old self.new }
+        ensures made { MadeOrLost (ToRead stamp) stamped result self.old self.new }
+        ensures accesses { AccessesOnceOrTwice self.old self.new }
     {
         let reply = self.by_once(Call::ToRead(stamp.number()))?;
         Ok(stamp_unless_zero(reply))
@@ -74,7 +81,8 @@ impl<'a, L: KnownLayout> LockHandle<'a, L> {
     /// `try_convert_to_optimistic`, tried once. Where it fails as `Lost`, the old stamp still stands.
     #[inline(always)]
     pub fn try_convert_to_optimistic_once(&mut self, stamp: Stamp) -> Result<Option<Stamp>, Lost>
-        ensures { MadeOrLost (ToOptimistic stamp) stamped result self.old self.new }
+        ensures made { MadeOrLost (ToOptimistic stamp) stamped result self.old self.new }
+        ensures accesses { AccessesOnceOrTwice self.old self.new }
     {
         let reply = self.by_once(Call::ToOptimistic(stamp.number()))?;
         Ok(stamp_unless_zero(reply))
@@ -83,7 +91,8 @@ impl<'a, L: KnownLayout> LockHandle<'a, L> {
     /// `try_unlock_write`, tried once. Where it fails as `Lost`, nothing was released.
     #[inline(always)]
     pub fn try_unlock_write_once(&mut self) -> Result<bool, Lost>
-        ensures { MadeOrLost TryUnlockWrite tested result self.old self.new }
+        ensures made { MadeOrLost TryUnlockWrite tested result self.old self.new }
+        ensures accesses { AccessesOnceOrTwice self.old self.new }
     {
         let reply = self.by_once(Call::TryUnlockWrite)?;
         Ok(test_in(reply))
@@ -92,7 +101,8 @@ impl<'a, L: KnownLayout> LockHandle<'a, L> {
     /// `try_unlock_read`, tried once. Where it fails as `Lost`, nothing was released.
     #[inline(always)]
     pub fn try_unlock_read_once(&mut self) -> Result<bool, Lost>
-        ensures { MadeOrLost TryUnlockRead tested result self.old self.new }
+        ensures made { MadeOrLost TryUnlockRead tested result self.old self.new }
+        ensures accesses { AccessesOnceOrTwice self.old self.new }
     {
         let reply = self.by_once(Call::TryUnlockRead)?;
         Ok(test_in(reply))

@@ -1,7 +1,7 @@
 //! Types whose values are written in words.
 ghost use Rattle.std.specs.Prelude.{◌≡◌, ◌∷◌, [], map, length};
 ghost use Rattle.stamped_lock.specs.InWords.{i64_word, i64_of, f64_word, f64_of, bool_word, bool_of};
-ghost use Rattle.stamped_lock.specs.InWords.{ComeBack};
+ghost use Rattle.stamped_lock.specs.InWords.{ComeBack, IsI64, IsF64};
 
 use std::num::{f64_from_bits_with_nan, f64_to_bits_with_nan};
 
@@ -29,7 +29,9 @@ pub trait InWords<const N: usize>: Copy {
         ensures { (value : Self) → is_value value → row.now ≡ words value → result ≡ value };
 }
 
-/// A type whose values are written in one word, and come back from it the same.
+/// A plain type whose values are written in one word, and come back from it the same: `u64`, `i64`,
+/// `f64` or `bool`. Pairs of such types are written in two words, and a field of a struct by its type. A
+/// struct of your own of one word has `InWords<1>`, as any other.
 pub trait InWord: Copy {
     ghost use Rattle.std.specs.Prelude.{◌≡◌, ℕ};
 
@@ -113,17 +115,55 @@ impl InWord for f64 {
     }
 }
 
-impl<T: InWord> InWords<1> for T {
-    ghost words = { λ x. T.word x ∷ [] };
-
-    ghost is_value = { λ x. T.value (T.word x) ≡ x };
+impl InWords<1> for u64 {
+    ghost words = { λ n. n ∷ [] };
 
     fn to_words(&self) -> [u64; 1] {
         [self.to_word()]
     }
 
-    fn from_words(row: &[u64]) -> T {
-        T::from_word(row[0])
+    fn from_words(row: &[u64]) -> u64 {
+        u64::from_word(row[0])
+    }
+}
+
+impl InWords<1> for i64 {
+    ghost words = { λ z. i64_word z ∷ [] };
+
+    ghost is_value = { IsI64 };
+
+    fn to_words(&self) -> [u64; 1] {
+        [self.to_word()]
+    }
+
+    fn from_words(row: &[u64]) -> i64 {
+        i64::from_word(row[0])
+    }
+}
+
+impl InWords<1> for f64 {
+    ghost words = { λ x. f64_word x ∷ [] };
+
+    ghost is_value = { IsF64 };
+
+    fn to_words(&self) -> [u64; 1] {
+        [self.to_word()]
+    }
+
+    fn from_words(row: &[u64]) -> f64 {
+        f64::from_word(row[0])
+    }
+}
+
+impl InWords<1> for bool {
+    ghost words = { λ b. bool_word b ∷ [] };
+
+    fn to_words(&self) -> [u64; 1] {
+        [self.to_word()]
+    }
+
+    fn from_words(row: &[u64]) -> bool {
+        bool::from_word(row[0])
     }
 }
 

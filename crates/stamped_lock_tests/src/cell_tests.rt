@@ -7,6 +7,7 @@ use stamped_lock::{
     UpdateError,
 };
 use std::sync::Wait;
+use std::sync::atomic::{AtomicU64, Ordering};
 use std::test::Fail;
 use std::thread::join;
 
@@ -146,6 +147,65 @@ fn a_cell_gives_what_was_put(rt: HostRuntime) -> Result<(), Fail> {
     };
     assert!(rt; gives_what_was_put(&rt, cell.enter()));
     assert!(rt; gives_what_was_put(&rt, in_two.enter()));
+    Ok(())
+}
+
+/// Counts a run of an update's closure, and in the first one puts 50, if it is to.
+fn run_beside<R: Wait>(rt: &R, cell: &StampedCell<1, u64>, runs: &AtomicU64, puts: bool) {
+    if runs.fetch_add(1, Ordering::SeqCst) == 0 && puts {
+        let _ = cell.enter().put(rt, 50);
+    }
+}
+
+/// An update of a cell that holds 5, by a closure that doubles, and may decline. In its first run somebody puts 50,
+/// if it is to. What the update answers, if it isn't declined, and how often the closure ran.
+fn doubled<R: Wait>(
+    rt: &R,
+    cell: &StampedCell<1, u64>,
+    (tries, declines, puts): (bool, bool, bool),
+) -> (Option<u64>, u64) {
+    let runs = AtomicU64::new(0);
+    let mut handle = cell.enter();
+    let answer = if tries {
+        handle
+            .try_update(rt, |old: &u64| -> Option<u64> {
+                run_beside(rt, cell, &runs, puts);
+                if declines {
+                    None
+                } else {
+                    Some(old.wrapping_mul(2))
+                }
+            })
+            .ok()
+    } else {
+        handle
+            .update(rt, |old: &u64| -> u64 {
+                run_beside(rt, cell, &runs, puts);
+                old.wrapping_mul(2)
+            })
+            .ok()
+    };
+    (answer, runs.load(Ordering::SeqCst))
+}
+
+#[test]
+fn the_closure_of_an_update_runs_once_and_again_after_each_loss(
+    rt: HostRuntime,
+) -> Result<(), Fail> {
+    for (case, want, left) in [
+        ((false, false, false), (Some(5), 1), 10),
+        ((false, false, true), (Some(50), 2), 100),
+        ((true, false, false), (Some(5), 1), 10),
+        ((true, false, true), (Some(50), 2), 100),
+        ((true, true, false), (None, 1), 5),
+        ((true, true, true), (None, 1), 50),
+    ] {
+        let Ok(cell) = StampedCell::new(rt.alloc(), 5) else {
+            return Err(Fail::from("no memory for the cell"));
+        };
+        assert!(rt; doubled(&rt, &cell, case) == want);
+        assert!(rt; cell.enter().get(&rt) == left);
+    }
     Ok(())
 }
 

@@ -4,10 +4,7 @@ ghost use Rattle.std.specs.Prelude.{◌≡◌};
 use stamped_lock::{KnownLayout, Layout, Limits, LockHandle, Stamp, StampedLock, UnlockError};
 use std::alloc::Global;
 use std::sync::Wait;
-use std::sync::atomic::{AtomicU64, Ordering};
 use std::test::Fail;
-use std::thread;
-use std::time::{Clock, Duration};
 
 /// A lock of the widest limits; the test fails where there is no memory for it.
 pub fn made(alloc: Global) -> Result<StampedLock, Fail> {
@@ -157,15 +154,4 @@ pub fn right_rows<L: KnownLayout, R: Wait>(
         }
     }
     rows.len()
-}
-
-/// Whether two threads that nobody joins tell their end here, within half a minute.
-pub fn both_end<R: Clock>(rt: &R, ended: &AtomicU64) -> bool {
-    for _ in 0..30_000u64 {
-        if ended.load(Ordering::SeqCst) == 2 {
-            return true;
-        }
-        thread::sleep(rt, Duration::from_millis(1));
-    }
-    false
 }

@@ -4,9 +4,13 @@
 #[cfg(test)]
 mod cell_tests;
 #[cfg(test)]
+mod cost_tests;
+#[cfg(test)]
 mod error_tests;
 #[cfg(test)]
 mod fixtures;
+#[cfg(test)]
+mod limits_tests;
 #[cfg(test)]
 mod lock_tests;
 #[cfg(test)]
@@ -18,7 +22,10 @@ mod stamp_tests;
 #[cfg(test)]
 mod thread_tests;
 #[cfg(test)]
+mod ticking;
+#[cfg(test)]
 mod timed_tests;
 #[cfg(test)]
 mod update_tests;
+#[cfg(test)]
 mod wide_tests;

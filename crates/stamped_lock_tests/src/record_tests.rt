@@ -1,15 +1,12 @@
 //! A record whose readers rely on its rule.
 ghost use Rattle.std.specs.Prelude.{◌≡◌, ◌<◌, slice_index};
 
-use crate::fixtures::both_end;
 use stamped_lock::{
     ContentRule, EitherLayout, KnownLayout, Layout, LayoutTwo, Limits, PutFault, RecordHandle,
     Spent, StampedRecord,
 };
-use std::sync::atomic::{AtomicU64, Ordering};
-use std::sync::{Arc, Barrier, Wait};
+use std::sync::Wait;
 use std::test::Fail;
-use std::thread;
 use std::thread::join;
 
 /// The first word, a bid, is below the second, an ask.
@@ -59,60 +56,36 @@ fn readers_rely_on_the_rule_beside_a_writer(rt: HostRuntime) -> Result<(), Fail>
     Ok(())
 }
 
-/// A board on which two threads put, and what they tell.
-#[derive(Drop)]
-struct Quoted {
-    board: Board,
-    /// Where the threads meet before they put.
-    both: Barrier,
-    /// How often a thread found the other putting.
-    met: AtomicU64,
-    /// How many threads have put all their quotes.
-    ended: AtomicU64,
-}
-
-/// Puts a thousand quotes, and goes on until the threads have come across each other ten times. Only `put_once`
-/// tells so; `put`, which stands between, comes across the other as often.
-fn quote_beside<R: Wait>(rt: &R, quoted: &Quoted) {
-    let mut board = quoted.board.enter();
-    quoted.both.wait(rt);
-    for bid in 1..=1_000_000_000u64 {
-        if board.put(rt, [bid, bid + 1]).is_err() {
-            return;
-        }
-        if board.put_once([bid, bid + 2]).is_err() {
-            quoted.met.fetch_add(1, Ordering::SeqCst);
-        }
-        if bid >= 1_000 && quoted.met.load(Ordering::SeqCst) >= 10 {
-            break;
-        }
+/// Makes each call that may come across another's put, four thousand times.
+fn come_across<R: Wait>(rt: &R, mut board: RecordHandle<'_, 2, BidBelowAsk>) -> Result<(), Spent> {
+    for bid in 1..=4_000u64 {
+        board.put(rt, [bid, bid + 1])?;
+        let _ = board.put_once([bid, bid + 2]);
+        board.put_if(rt, [bid, bid + 1], [bid, bid + 3])?;
+        board.get(rt);
+        board.update(
+            rt,
+            |row: &[u64; 2]| -> [u64; 2]
+                requires { slice_index row.now 0 < slice_index row.now 1 }
+                ensures { slice_index result 0 < slice_index result 1 }
+            { [row[0], row[1].saturating_add(1)] },
+        )?;
     }
-    quoted.ended.fetch_add(1, Ordering::SeqCst);
+    Ok(())
 }
 
-/// Nobody joins the threads: where a put never comes back, the test ends nevertheless, after half a
-/// minute.
+/// Where a call doesn't try again, the test doesn't end.
 #[test]
 fn two_who_put_at_once_come_back(rt: HostRuntime) -> Result<(), Fail> {
     let Ok(board) = Board::new(rt.alloc(), [10, 11]) else {
         return Err(Fail::from("no memory for the record"));
     };
-    let (both, met, ended) = (Barrier::new(2), AtomicU64::new(0), AtomicU64::new(0));
-    let quoted = Arc::new(
-        rt.alloc(),
-        Quoted {
-            board,
-            both,
-            met,
-            ended,
-        },
-    )?;
-    for _ in 0..2u64 {
-        let theirs = Arc::try_clone(&quoted)?;
-        thread::spawn(&rt, move || quote_beside(&rt, &theirs))?;
-    }
-    assert!(rt; both_end(&rt, &quoted.ended));
-    assert!(rt; quoted.met.load(Ordering::SeqCst) >= 10);
+    let (one, two) = join(
+        &rt,
+        || come_across(&rt, board.enter()),
+        || come_across(&rt, board.enter()),
+    );
+    assert!(rt; one.is_ok() && two.is_ok());
     Ok(())
 }
 

@@ -1,13 +1,12 @@
 //! Threads that really share a lock, each by a handle.
-use crate::fixtures::{Ask, Row, both_end, made, made_in, number, right_rows};
+use crate::fixtures::{Ask, Row, made, made_in, number, right_rows};
 use stamped_lock::{KnownLayout, Layout, LayoutTwo, Mismatch, StampedLock};
 use std::process::Abort;
-use std::sync::atomic::{AtomicBool, AtomicU64, Ordering};
-use std::sync::{Arc, Barrier, Wait};
+use std::sync::atomic::{AtomicU64, Ordering};
+use std::sync::{Barrier, Wait};
 use std::test::Fail;
 use std::thread;
 use std::thread::{Threads, join};
-use std::time::{Clock, Duration};
 
 /// Adds one this many times, each time by a load and a store that no other writer may come between.
 fn add_often<R: Wait>(rt: &R, lock: &StampedLock, sum: &AtomicU64) {
@@ -20,102 +19,51 @@ fn add_often<R: Wait>(rt: &R, lock: &StampedLock, sum: &AtomicU64) {
     }
 }
 
-/// Reads and releases until an exchange is lost, here or by the other thread. Answers whether it was here, by a change.
-fn loses_one(lock: &StampedLock, is_over: &AtomicBool) -> bool {
+/// Makes each call that may lose an exchange to the other thread, five thousand times. Answers whether one that was
+/// told as lost found another word each time.
+fn lose_exchanges<R: Wait>(rt: &R, lock: &StampedLock) -> bool {
     let mut handle = lock.enter();
-    for _ in 0..20_000_000u64 {
-        if is_over.load(Ordering::SeqCst) {
-            break;
-        }
-        if let Err(lost) = handle.try_read_once() {
-            is_over.store(true, Ordering::SeqCst);
-            return lost.loaded != lost.found;
-        }
-        let _ = handle.try_unlock_read_once();
-    }
-    false
-}
-
-/// Adds, and then reads. Answers whether it lost an exchange to the other thread.
-fn add_and_lose<R: Wait>(
-    rt: &R,
-    lock: &StampedLock,
-    sum: &AtomicU64,
-    is_over: &AtomicBool,
-) -> bool {
-    add_often(rt, lock, sum);
-    loses_one(lock, is_over)
-}
-
-#[test]
-fn threads_write_one_after_the_other_and_lose_exchanges_where_they_meet(
-    rt: HostRuntime,
-) -> Result<(), Fail> {
-    let lock = made(rt.alloc())?;
-    let (sum, is_over) = (AtomicU64::new(0), AtomicBool::new(false));
-    let (a, b) = join(
-        &rt,
-        || add_and_lose(&rt, &lock, &sum, &is_over),
-        || add_and_lose(&rt, &lock, &sum, &is_over),
-    );
-    let next = number(lock.enter().split().try_optimistic_read());
-    assert!(rt; (sum.load(Ordering::SeqCst), next) == (20_000, 256 * 20_001));
-    assert!(rt; a || b);
-    Ok(())
-}
-
-/// A lock that two threads read at once, and what they tell.
-#[derive(Drop)]
-struct Beside {
-    lock: StampedLock,
-    /// Where the threads meet before they read.
-    both: Barrier,
-    /// How many exchanges were lost.
-    lost: AtomicU64,
-    /// How many threads have come to their end.
-    ended: AtomicU64,
-}
-
-/// Reads and releases until ten exchanges were lost. Only `try_read_once` tells so; the calls that stand between
-/// lose as often.
-fn lose_exchanges<R: Wait>(rt: &R, beside: &Beside) {
-    let mut handle = beside.lock.enter();
-    beside.both.wait(rt);
-    for _ in 0..1_000_000_000u64 {
+    for _ in 0..5_000u64 {
         if let Some(stamp) = handle.try_read(rt) {
             let _ = handle.unlock_read(rt, stamp);
         }
-        if handle.try_read_once().is_err() {
-            beside.lost.fetch_add(1, Ordering::SeqCst);
+        if let Err(lost) = handle.try_read_once()
+            && lost.loaded == lost.found
+        {
+            return false;
         }
-        let _ = handle.try_unlock_read_once();
-        if beside.lost.load(Ordering::SeqCst) >= 10 {
-            break;
+        handle.try_unlock_read(rt);
+        if let Some(stamp) = handle.try_write(rt) {
+            let _ = handle.unlock(rt, stamp);
         }
     }
-    beside.ended.fetch_add(1, Ordering::SeqCst);
+    true
 }
 
-/// Nobody joins the threads: where a call never comes back, the test ends nevertheless.
+#[test]
+fn threads_write_one_after_the_other(rt: HostRuntime) -> Result<(), Fail> {
+    let lock = made(rt.alloc())?;
+    let sum = AtomicU64::new(0);
+    join(
+        &rt,
+        || add_often(&rt, &lock, &sum),
+        || add_often(&rt, &lock, &sum),
+    );
+    let next = number(lock.enter().split().try_optimistic_read());
+    assert!(rt; (sum.load(Ordering::SeqCst), next) == (20_000, 256 * 20_001));
+    Ok(())
+}
+
+/// Where a call doesn't try again after a lost exchange, the test doesn't end.
 #[test]
 fn calls_that_lose_exchanges_come_back(rt: HostRuntime) -> Result<(), Fail> {
-    let (lock, both) = (made(rt.alloc())?, Barrier::new(2));
-    let (lost, ended) = (AtomicU64::new(0), AtomicU64::new(0));
-    let beside = Arc::new(
-        rt.alloc(),
-        Beside {
-            lock,
-            both,
-            lost,
-            ended,
-        },
-    )?;
-    for _ in 0..2u64 {
-        let theirs = Arc::try_clone(&beside)?;
-        thread::spawn(&rt, move || lose_exchanges(&rt, &theirs))?;
-    }
-    assert!(rt; both_end(&rt, &beside.ended));
-    assert!(rt; beside.lost.load(Ordering::SeqCst) >= 10);
+    let lock = made(rt.alloc())?;
+    let (one, two) = join(
+        &rt,
+        || lose_exchanges(&rt, &lock),
+        || lose_exchanges(&rt, &lock),
+    );
+    assert!(rt; one && two);
     Ok(())
 }
 
@@ -184,24 +132,38 @@ fn an_optimistic_read_that_a_writer_came_into_runs_again(rt: HostRuntime) -> Res
     Ok(())
 }
 
-/// Releases after a while; answers how often the reader had run by then.
-fn release_late<R: Wait + Clock>(rt: &R, lock: &StampedLock, runs: &AtomicU64) -> u64 {
-    thread::sleep(rt, Duration::from_millis(20));
+/// Reads once the other thread is there, too. Answers which run of the closure it was, from 0.
+fn read_late<R: Wait>(
+    rt: &R,
+    lock: &StampedLock,
+    runs: &AtomicU64,
+    both: &Barrier,
+) -> Result<u64, Mismatch> {
+    both.wait(rt);
+    lock.enter()
+        .read_optimistically(rt, |_| runs.fetch_add(1, Ordering::SeqCst))
+}
+
+/// Lets the reader run some times, and releases then; answers how often its closure had run by then.
+fn release_late<R: Wait>(rt: &R, lock: &StampedLock, runs: &AtomicU64, both: &Barrier) -> u64 {
+    both.wait(rt);
+    for _ in 0..20u64 {
+        thread::yield_now();
+    }
     let before = runs.load(Ordering::SeqCst);
     lock.enter().try_unlock_write(rt);
     before
 }
 
-/// The barrier is one that a thread alone passes.
 #[test]
 fn a_read_that_gets_no_stamp_waits_and_runs_once(rt: HostRuntime) -> Result<(), Fail> {
     let lock = made(rt.alloc())?;
     lock.enter().try_write(&rt);
-    let (runs, open) = (AtomicU64::new(0), Barrier::new(1));
+    let (runs, both) = (AtomicU64::new(0), Barrier::new(2));
     let (run, before) = join(
         &rt,
-        || read_beside(&rt, &lock, &runs, &open),
-        || release_late(&rt, &lock, &runs),
+        || read_late(&rt, &lock, &runs, &both),
+        || release_late(&rt, &lock, &runs, &both),
     );
     assert!(rt; run == Ok(0));
     assert!(rt; (before, runs.load(Ordering::SeqCst)) == (0, 1));

@@ -1,86 +1,120 @@
-//! Calls that are tried until a time is over.
-use crate::fixtures::{made, made_in};
-use stamped_lock::{KnownLayout, Layout, LayoutTwo, LockHandle, Mismatch, StampedLock};
+//! Calls that are tried until a time is over, by a clock of the tests' own.
+use crate::fixtures::{Ask, answer, made, made_in};
+use crate::ticking::{FAILED, Ticking};
+use stamped_lock::{KnownLayout, Layout, LayoutTwo, LockHandle, Stamp, StampedLock};
+use std::io;
 use std::process::Abort;
 use std::sync::Wait;
 use std::test::Fail;
-use std::thread;
-use std::thread::{Threads, join};
-use std::time::{Clock, Duration, Instant};
+use std::time::{Clock, Duration};
 
-/// Longer than any test takes.
-fn long() -> Duration {
-    Duration::from_secs(30)
+/// How a call for a time ends.
+#[derive(Clone, Copy, PartialEq, Debug)]
+enum Ended {
+    CameIn,
+    GaveUp,
+    Failed(Option<i32>),
 }
 
-fn short() -> Duration {
-    Duration::from_millis(20)
+use Ended::{CameIn, Failed, GaveUp};
+
+fn how_it_ended(answer: io::Result<Option<Stamp>>) -> Ended {
+    match answer {
+        Ok(Some(_)) => CameIn,
+        Ok(None) => GaveUp,
+        Err(error) => Failed(error.raw_os_error()),
+    }
 }
 
-/// How calls for a time end while write mode is held, and after it.
-fn give_up<L: KnownLayout, R: Wait + Clock + Abort>(
+/// For how many milliseconds a call tries, by which reading of the clock the holder leaves, and which one fails
+/// (0 for none); how the call ends, and how often it has read the clock then.
+type Row = (u64, u64, u64, Ended, u64);
+
+/// The clock is read before the second try, and then before each further one: a millisecond later each time.
+const ROWS: [Row; 10] = [
+    // The holder stays.
+    (0, 0, 0, GaveUp, 2),
+    (1, 0, 0, GaveUp, 2),
+    (5, 0, 0, GaveUp, 6),
+    // It leaves.
+    (5, 1, 0, CameIn, 2),
+    (5, 4, 0, CameIn, 4),
+    (u64::MAX, 4, 0, CameIn, 4),
+    // The clock fails.
+    (0, 0, 1, Failed(Some(FAILED)), 1),
+    (5, 0, 1, Failed(Some(FAILED)), 1),
+    (5, 0, 4, Failed(Some(FAILED)), 4),
+    (u64::MAX, 2, 3, CameIn, 2),
+];
+
+/// Tries to acquire the mode for this time.
+fn try_for<L: KnownLayout, R: Wait + Clock>(
     rt: &R,
+    lock: &mut LockHandle<'_, L>,
+    writes: bool,
+    millis: u64,
+) -> Ended {
+    let time = Duration::from_millis(millis);
+    if writes {
+        how_it_ended(lock.try_write_for(rt, time))
+    } else {
+        how_it_ended(lock.try_read_for(rt, time))
+    }
+}
+
+/// The calls for a time while this mode is held. Where they didn't come in, it still is.
+fn assert_rows<L: KnownLayout>(
+    rt: &(impl Abort + Wait),
     lock: &StampedLock<L>,
-) -> Result<(), Fail> {
-    let (mut holder, mut other) = (lock.enter(), lock.enter());
-    let stamp = holder.try_write(rt).ok_or("no stamp")?;
-    let start = Instant::now(rt)?;
-    assert!(rt; other.try_write_for(rt, short())?.is_none());
-    let tried = start.elapsed(rt)?;
-    assert!(rt; tried >= short() && tried < long());
-    assert!(rt; other.try_read_for(rt, Duration::from_millis(0))?.is_none());
-    assert!(rt; holder.unlock_write(stamp).is_ok());
-    assert!(rt; other.try_read_for(rt, Duration::from_millis(0))?.is_some());
-    assert!(rt; other.try_write_for(rt, Duration::from_millis(0))?.is_none());
+    (held, writes): (Ask, bool),
+) {
+    for (millis, frees, fails, want, readings) in ROWS {
+        let mut handle = lock.enter();
+        let stamp = answer(rt, &mut handle, held, None).unwrap_or(0);
+        let ticking = Ticking::new(rt, lock, (frees, fails));
+        assert!(rt; try_for(&ticking, &mut handle, writes, millis) == want);
+        assert!(rt; ticking.asked() == (readings, 0));
+        let left = Stamp::new(stamp).is_some_and(|stamp| handle.unlock(rt, stamp).is_ok());
+        assert!(rt; left == (want != CameIn));
+        handle.try_unlock_write(rt);
+        handle.try_unlock_read(rt);
+    }
+}
+
+/// A call whose mode is free doesn't read the clock.
+fn assert_free<L: KnownLayout>(rt: &(impl Abort + Wait), lock: &StampedLock<L>) {
+    for writes in [false, true] {
+        let mut handle = lock.enter();
+        let ticking = Ticking::new(rt, lock, (0, 1));
+        assert!(rt; try_for(&ticking, &mut handle, writes, 0) == CameIn);
+        assert!(rt; ticking.asked() == (0, 0));
+        assert!(rt; handle.try_unlock_write(rt) == writes);
+        handle.try_unlock_read(rt);
+    }
+}
+
+#[test]
+fn a_call_tries_until_its_time_is_over_or_its_clock_fails(rt: HostRuntime) -> Result<(), Fail> {
+    let (one, two) = (
+        made(rt.alloc())?,
+        made_in::<LayoutTwo>(rt.alloc(), Layout::Two, (1, 1000))?,
+    );
+    for case in [(Ask::Write, true), (Ask::Write, false), (Ask::Read, true)] {
+        assert_rows(&rt, &one, case);
+        assert_rows(&rt, &two, case);
+    }
+    assert_free(&rt, &one);
+    assert_free(&rt, &two);
     Ok(())
 }
 
+/// By the clock of the system.
 #[test]
-fn a_call_gives_up_when_its_time_is_over(rt: HostRuntime) -> Result<(), Fail> {
-    give_up(&rt, &made(rt.alloc())?)?;
-    let two = made_in::<LayoutTwo>(rt.alloc(), Layout::Two, (1, 1))?;
-    give_up(&rt, &two)
-}
-
-/// Holds write mode for a while.
-fn hold<L: KnownLayout, R: Wait + Clock>(
-    rt: &R,
-    mut lock: LockHandle<'_, L>,
-) -> Result<(), Mismatch> {
-    let Some(stamp) = lock.write(rt) else {
-        return Ok(());
-    };
-    thread::sleep(rt, short());
-    lock.unlock_write(stamp)
-}
-
-/// Whether both modes are acquired in time, and released.
-fn comes_in<L: KnownLayout, R: Wait + Clock>(rt: &R, mut lock: LockHandle<'_, L>) -> bool {
-    let Ok(Some(read)) = lock.try_read_for(rt, long()) else {
-        return false;
-    };
-    let released = lock.unlock_read(rt, read).is_ok();
-    let Ok(Some(write)) = lock.try_write_for(rt, long()) else {
-        return false;
-    };
-    released && lock.unlock_write(write).is_ok()
-}
-
-/// Whether both modes are acquired in time beside a thread that holds the lock for a while.
-fn comes_in_beside<L: KnownLayout + Sync, R: Wait + Clock + Threads + Sync>(
-    rt: &R,
-    lock: &StampedLock<L>,
-) -> bool {
-    let (held, came_in) = join(rt, || hold(rt, lock.enter()), || comes_in(rt, lock.enter()));
-    held.is_ok() && came_in
-}
-
-#[test]
-fn a_call_comes_in_before_its_time_is_over(rt: HostRuntime) -> Result<(), Fail> {
-    let two = made_in::<LayoutTwo>(rt.alloc(), Layout::Two, (1, 2))?;
-    let start = Instant::now(&rt)?;
-    assert!(rt; comes_in_beside(&rt, &made(rt.alloc())?));
-    assert!(rt; comes_in_beside(&rt, &two));
-    assert!(rt; start.elapsed(&rt)? < long());
+fn no_time_is_enough_for_one_try(rt: HostRuntime) -> Result<(), Fail> {
+    let lock = made(rt.alloc())?;
+    let (mut one, mut other) = (lock.enter(), lock.enter());
+    assert!(rt; try_for(&rt, &mut one, false, 0) == CameIn);
+    assert!(rt; try_for(&rt, &mut other, true, 0) == GaveUp);
+    assert!(rt; try_for(&rt, &mut other, false, 0) == CameIn);
     Ok(())
 }

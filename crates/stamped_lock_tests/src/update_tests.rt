@@ -10,9 +10,9 @@ use std::sync::atomic::{AtomicU64, Ordering};
 use std::test::Fail;
 use std::thread::join;
 
-/// Adds one to the first word and takes one from the second, a hundred thousand times.
+/// Adds one to the first word and takes one from the second, ten thousand times.
 fn move_one<R: Wait>(rt: &R, mut pair: RecordHandle<'_, 2, AnyContent>) -> Result<(), Spent> {
-    for _ in 0..100_000u64 {
+    for _ in 0..10_000u64 {
         pair.update(rt, |pair: &[u64; 2]| -> [u64; 2] {
             [pair[0].wrapping_add(1), pair[1].wrapping_sub(1)]
         })?;
@@ -22,7 +22,7 @@ fn move_one<R: Wait>(rt: &R, mut pair: RecordHandle<'_, 2, AnyContent>) -> Resul
 
 #[test]
 fn four_threads_update_and_none_is_lost(rt: HostRuntime) -> Result<(), Fail> {
-    let Ok(pair) = StampedRecord::new(rt.alloc(), [5, 500_000]) else {
+    let Ok(pair) = StampedRecord::new(rt.alloc(), [5, 50_000]) else {
         return Err(Fail::from("no memory for the record"));
     };
     let ((one, two), (three, four)) = join(
@@ -43,7 +43,7 @@ fn four_threads_update_and_none_is_lost(rt: HostRuntime) -> Result<(), Fail> {
         },
     );
     assert!(rt; one.is_ok() && two.is_ok() && three.is_ok() && four.is_ok());
-    assert!(rt; pair.enter().get(&rt) == [400_005, 100_000]);
+    assert!(rt; pair.enter().get(&rt) == [40_005, 10_000]);
     Ok(())
 }
 
@@ -127,20 +127,83 @@ fn an_update_that_is_not_declined_is_spent_where_no_version_is_left(
     Ok(())
 }
 
-#[test]
-fn alone_the_closure_of_an_update_runs_once(rt: HostRuntime) -> Result<(), Fail> {
-    let Ok(word) = StampedRecord::<1, AnyContent>::new(rt.alloc(), [5]) else {
-        return Err(Fail::from("no memory for the record"));
-    };
-    let runs = AtomicU64::new(0);
-    let double = |word: &[u64; 1]| -> [u64; 1] {
-        runs.fetch_add(1, Ordering::SeqCst);
-        [word[0].wrapping_mul(2)]
-    };
+/// Counts a run of an update's closure, and in the first one puts 50, if it is to.
+fn run_beside<R: Wait>(rt: &R, word: &StampedRecord<1, AnyContent>, runs: &AtomicU64, puts: bool) {
+    if runs.fetch_add(1, Ordering::SeqCst) == 0 && puts {
+        let _ = word.enter().put(rt, [50]);
+    }
+}
+
+/// An update of a record by a closure that doubles a number, and may decline.
+#[derive(Clone, Copy, Debug)]
+enum Update {
+    Once,
+    Anew,
+    Trying,
+    Declining,
+}
+
+/// What an update answers on a record of the number 5: the old number, or whether it was lost, and else declined.
+fn doubled<R: Wait>(
+    rt: &R,
+    word: &StampedRecord<1, AnyContent>,
+    runs: &AtomicU64,
+    (update, puts): (Update, bool),
+) -> Result<u64, bool> {
     let mut handle = word.enter();
-    assert!(rt; handle.update_once(double) == Ok([5]));
-    assert!(rt; handle.update(&rt, double) == Ok([10]));
-    assert!(rt; runs.load(Ordering::SeqCst) == 2);
+    let double = |old: &[u64; 1]| -> [u64; 1] {
+        run_beside(rt, word, runs, puts);
+        [old[0].wrapping_mul(2)]
+    };
+    let answer = match update {
+        Update::Once => handle
+            .update_once(double)
+            .map_err(|fault| matches!(fault, PutFault::Lost { .. })),
+        Update::Anew => handle.update(rt, double).map_err(|_| false),
+        Update::Trying => handle
+            .try_update(rt, |old: &[u64; 1]| -> Option<[u64; 1]> {
+                Some(double(old))
+            })
+            .map_err(|_| false),
+        Update::Declining => handle
+            .try_update(rt, |old: &[u64; 1]| -> Option<[u64; 1]> {
+                double(old);
+                None
+            })
+            .map_err(|_| false),
+    };
+    answer.map(|old| old[0])
+}
+
+/// Each update, whether somebody puts in the closure's first run, what it answers, how often the closure runs, and
+/// what the record holds then.
+const UPDATES: [(Update, bool, Result<u64, bool>, u64, u64); 8] = [
+    (Update::Once, false, Ok(5), 1, 10),
+    (Update::Once, true, Err(true), 1, 50),
+    (Update::Anew, false, Ok(5), 1, 10),
+    (Update::Anew, true, Ok(50), 2, 100),
+    (Update::Trying, false, Ok(5), 1, 10),
+    (Update::Trying, true, Ok(50), 2, 100),
+    (Update::Declining, false, Err(false), 1, 5),
+    (Update::Declining, true, Err(false), 1, 50),
+];
+
+#[test]
+fn the_closure_of_an_update_runs_once_and_again_after_each_loss(
+    rt: HostRuntime,
+) -> Result<(), Fail> {
+    for (update, puts, want, ran, left) in UPDATES {
+        let Ok(word) = StampedRecord::<1, AnyContent>::new(rt.alloc(), [5]) else {
+            return Err(Fail::from("no memory for the record"));
+        };
+        let runs = AtomicU64::new(0);
+        assert!(rt;
+            doubled(&rt, &word, &runs, (update, puts)) == want,
+            "{update:?}, {puts}"
+        );
+        assert!(rt; runs.load(Ordering::SeqCst) == ran, "{update:?}, {puts}");
+        assert!(rt; word.enter().get(&rt) == [left], "{update:?}, {puts}");
+    }
     Ok(())
 }
 

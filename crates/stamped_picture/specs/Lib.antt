@@ -5,3 +5,4 @@ pub mod Explanation
 pub mod PageData
 pub mod Page
 pub mod inner
+pub mod Served

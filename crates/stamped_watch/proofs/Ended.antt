@@ -1,7 +1,7 @@
 -- The call that is told where a stream is stuck.
 use Rattle.std.proofs.Common.{ℕ, ◌≡◌, ◌++◌, List, Option, Some, None, refl, sym, ◌∙◌, ap, subst}
 use Rattle.std.specs.Prelude.{IfSome}
-use Rattle.std.proofs.lemmas.Option.{none-some, same_Some}
+use Rattle.std.proofs.lemmas.Option.{same_Some}
 use Rattle.stamp_core.specs.Limits.{Bounds}
 use Rattle.stamp_watch.specs.declared.ended_call.EndedCall.{EndedCall}
 use Rattle.stamp_watch.specs.declared.event.Event.{Event}
@@ -10,24 +10,16 @@ use Rattle.stamp_watch.specs.EndedCall.{IsEndedAt}
 use Rattle.stamp_watch.specs.declared.late_verdict.LateVerdict.{LateVerdict}
 use Rattle.stamp_watch.specs.declared.late_verdict.LateVerdict.TheVariants.{Is}
 use Rattle.stamp_watch.specs.declared.verdict.Verdict.TheVariants as verdict
-use Rattle.stamp_watch.specs.Course.{KeepsEnd}
 use Rattle.stamp_watch.specs.LateJudge.{EndsInRunLate, KeepsEndLate}
 use Rattle.stamped_watch.specs.declared.finding.Finding.{Finding}
 use Rattle.stamped_watch.specs.declared.finding.Finding.TheVariants as found
-use Rattle.stamped_watch.specs.declared.finding.Finding.TheVariants.{Stuck}
 use Rattle.stamped_watch.specs.Finding.{verdict_of}
-use Rattle.stamped_watch.specs.Note.{IsCallTold}
 use Rattle.stamped_watch.specs.Stream.{IsStream}
-use Rattle.stamped_watch.specs.StreamJudge.{EndsInStream, KeepsCall, ended_in}
+use Rattle.stamped_watch.specs.StreamJudge.{EndsInStream, KeepsCall}
 use Rattle.stamped_watch.specs.inner.StreamJudge.{EndsInRunOf}
 use Rattle.stamped_watch.proofs.Streaming.{stream_longer}
 
-pub call_told : (fed : List ℕ) (judge : Option LateJudge) (k : ℕ) (o : Option EndedCall) → o ≡ ended_in judge k →
-    KeepsCall judge (Stuck k) → EndsInStream fed judge (Stuck k) → IsCallTold fed (Stuck k) o
-call_told fed judge k None is some there = absurd (some (sym is))
-call_told fed judge k (Some x) is some there = there k refl x (sym is)
-
--- so it is told of more bytes
+-- the call that ends where a stream is stuck ends there in more bytes
 pub more_there : (bytes more : List ℕ) (judge : Option LateJudge) (f : Finding) → EndsInStream bytes judge f →
     EndsInStream (bytes ++ more) judge f
 more_there bytes more judge f there k same x is =
@@ -60,10 +52,8 @@ call_there f v run inner is there k same x kept =
 pub call_kept : (f : Finding) (v : LateVerdict) (inner : LateJudge) → verdict_of f ≡ Some v →
     KeepsEndLate inner.delay v → KeepsCall (Some inner) f
 call_kept (found.Explained calls) v inner is keeps = tt
-call_kept (found.Stuck k) v inner is keeps = λ none. none-some kept.call (sym none ∙ kept.ends)
-  where
-    kept : KeepsEnd inner.delay.judge.course k
-    kept = subst (KeepsEndLate inner.delay) (sym (same_Some (Is (verdict.Stuck k)) v is)) keeps
+call_kept (found.Stuck k) v inner is keeps =
+    subst (KeepsEndLate inner.delay) (sym (same_Some (Is (verdict.Stuck k)) v is)) keeps
 call_kept (found.StuckWithin k m) v inner is keeps = tt
 call_kept (found.Undecided k why) v inner is keeps = tt
 call_kept (found.Late k) v inner is keeps = tt

@@ -10,3 +10,5 @@ pub mod LinesTold
 pub mod Witnessing
 pub mod Showing
 pub mod Ended
+pub mod Replying
+pub mod Watching

@@ -6,16 +6,10 @@ use Rattle.std.specs.declared.alloc.Global.{Global}
 use Rattle.std.proofs.lemmas.Bool.{false≢true}
 use Rattle.std.proofs.lemmas.List.{length-append, length-drop, take-append-drop, take_all}
 use Rattle.stamp_core.specs.Limits.{Bounds}
-use Rattle.stamp_core.specs.declared.call.Call.{Call}
-use Rattle.stamp_core.specs.declared.lock_decision.LockReply.{LockReply}
-use Rattle.stamp_core.specs.declared.reply.Reply.{Reply}
 use Rattle.stamp_watch.specs.declared.event.Event.{Event}
 use Rattle.stamp_watch.specs.declared.event.Event.TheVariants.{Begins, Returns, Withdraws}
 use Rattle.stamp_watch.specs.declared.late.LateJudge.{LateJudge}
 use Rattle.stamp_watch.specs.LateJudge.{HasFoundNothingLater, IsLateJudge, IsLateJudgeOfSome}
-use Rattle.stamp_watch.specs.Possible.{plain_replies}
-use Rattle.stamp_watch.specs.PossibleLate.{IsToldLater, IsToldLaterOf}
-use Rattle.stamp_watch.specs.Possible.{items_in as replies_told}
 use Rattle.stamped_watch.specs.declared.event_bytes.BadEvent.{BadEvent}
 use Rattle.stamped_watch.specs.declared.finding.Finding.{Finding}
 use Rattle.stamped_watch.specs.declared.finding.Finding.TheVariants as found
@@ -25,7 +19,7 @@ use Rattle.stamped_watch.specs.declared.stream_judge.StreamJudge.{StreamJudge}
 use Rattle.stamped_watch.specs.EventBytes.{HasBytes, IsNoEvent}
 use Rattle.stamped_watch.specs.Finding.{IsFoundOf}
 use Rattle.stamped_watch.specs.Header.{IsHeader, IsNoHeader}
-use Rattle.stamped_watch.specs.Possible.{ArePossibleAt, ArePossibleIn, KeepsOf, items_in}
+use Rattle.stamped_watch.specs.Possible.{KeepsOf}
 use Rattle.stamped_watch.specs.Stream.{IsStream}
 use Rattle.stamped_watch.specs.StreamJudge.{EndsInStream, HasTaken, IsFed, IsFresh, IsUnderWay, KeepsCall, KeepsFed}
 use Rattle.stamped_watch.specs.inner.StreamJudge.{AreCounted, EndsInRunOf, HasTakenFront, IsFoundUnless}
@@ -397,26 +391,3 @@ keeps_ended most ahead fed judge is none inner next some keeps =
       keeps = kept.keeps;
       window = kept.window ∙ way.judge_of.window;
     }))
-
--- what the judge of the events tells of a return is told of the stream
-module _ (ahead : ℕ) (fed : List ℕ) (inner : LateJudge) (keeps : KeepsOf ahead fed inner) (k : ℕ) (call : Call) where
-  possible_of : (found : List Reply) (o : Option (List LockReply)) →
-      plain_replies inner.delay.judge.course.base.limits call ≡ o →
-      MatchOption o (Some found ≡ None) (λ tried. IsToldLater inner k tried (Some found)) →
-      ArePossibleAt fed k call found
-  possible_of found None same none = absurd (cc)
-  possible_of found (Some tried) same told = record {
-    limits = keeps.limits;
-    events = keeps.events;
-    rest = keeps.rest;
-    stream = keeps.stream;
-    tried = tried;
-    are = ap (λ (l : Bounds). plain_replies l call) (sym keeps.keeps.keeps.from_base.judging.limits_are) ∙ same;
-    among = told keeps.limits keeps.events keeps.keeps;
-  }
-
-  pub possible_told : (told : Option (Vec Reply Global)) → IsToldLaterOf inner k call (replies_told told) →
-      ArePossibleIn fed k call (items_in told)
-  possible_told None is_told = tt
-  possible_told (Some found) is_told =
-      possible_of found.items (plain_replies inner.delay.judge.course.base.limits call) refl is_told

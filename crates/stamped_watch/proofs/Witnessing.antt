@@ -2,7 +2,10 @@
 use Rattle.std.proofs.Common.{ℕ, ◌≡◌, ◌++◌, ◌∷◌, [], List, Option, Some, None, Bool, true, false, length, take, drop}
 use Rattle.std.proofs.Common.{refl, ap}
 use Rattle.std.proofs.Common.{sym, subst, ◌∙◌, ◌+◌, ◌-◌, ◌<◌, ◌≤◌, arith, inl, inr, length-append}
-use Rattle.std.specs.Prelude.{◌⊎◌, ◌==◌, IfSome, slice_get, nat_le, if◌then◌else◌, option_map, option_and_then}
+use Rattle.std.proofs.Common.{add-zero}
+use Rattle.std.specs.declared.alloc.Global.{Global}
+use Rattle.std.specs.Prelude.{Result, Ok, Err, Vec, min, ◌⊎◌, ◌==◌, slice_get, nat_le, if◌then◌else◌}
+use Rattle.std.specs.Prelude.{option_map, option_and_then}
 use Rattle.std.specs.Prelude.{MatchOption, ⊤}
 use Rattle.std.specs.List.{fold}
 use Rattle.std.proofs.Math.ListN.{get_or-append}
@@ -22,11 +25,18 @@ use Rattle.stamp_watch.specs.declared.late.LateJudge.{LateJudge}
 use Rattle.stamp_watch.specs.declared.online.Judge.{Judge}
 use Rattle.stamp_watch.specs.EndedCall.{begun_in, begun_then, ended, ended_at, ended_by, ended_from}
 use Rattle.stamp_watch.specs.PossibleLate.{AreSameUntil}
-use Rattle.stamp_watch.specs.Start.{IsJudgeUpTo}
+use Rattle.stamp_watch.specs.Start.{BeganLateBy, IsJudgeUpTo}
 use Rattle.stamped_watch.specs.declared.stream_judge.StreamJudge.{StreamJudge}
-use Rattle.stamped_watch.specs.Possible.{KeepsOf}
-use Rattle.stamped_watch.specs.StreamJudge.{KeepsFed}
-use Rattle.stamped_watch.specs.Witness.{IsTextIn, IsWitnessAt, IsWitnessIn, IsWitnessOf, IsWitnessText}
+use Rattle.stamp_observed.specs.declared.behind.Sought.{Sought}
+use Rattle.stamped_watch.specs.declared.finding.Finding.TheVariants.{Stuck}
+use Rattle.stamped_watch.specs.declared.orders.Watching.{Watching}
+use Rattle.stamped_watch.specs.declared.witness.NoWitness.{NoWitness}
+use Rattle.stamped_watch.specs.declared.witness.NoWitness.TheVariants as lack
+use Rattle.stamped_watch.specs.Possible.{BeganLate, KeepsOf}
+use Rattle.stamped_watch.specs.StreamJudge.{EndsInStream, KeepsFed, ended_in}
+use Rattle.stamped_watch.specs.Witness.{AreInVain, AreSoughtOn, IsSoughtFrom, IsText, IsTextIn, IsWitnessAt}
+use Rattle.stamped_watch.specs.Witness.{IsTextHere, IsWitnessIn, IsWitnessOf, IsWitnessText, most_searched}
+use Rattle.stamped_watch.proofs.Replying.{late_told}
 
 -- of two last calls of a lane the first is none, or both are one
 abbrev IsNoneOrSame : Option Call → Option Call → Type 0
@@ -184,6 +194,41 @@ witness_told ahead fed judge keeps inner some k base up text is = record {
   text_is = is.text_is;
 }
 
-pub some_weaker : {X : Type 0} (o : Option X) (P Q : X → Type 0) → ((x : X) → P x → Q x) → IfSome o P → IfSome o Q
-some_weaker None P Q weaker is = is
-some_weaker (Some x) P Q weaker is = weaker x is
+-- so it is with a text that was sought, or with why there is none
+module _ (asked : Watching) (fed : List ℕ) (judge : StreamJudge) (keeps : KeepsFed asked.ahead fed judge)
+    (inner : LateJudge) (some : judge.judge ≡ Some inner) (k : ℕ) (ends : EndsInStream fed judge.judge (Stuck k)) where
+  kept_of : KeepsOf asked.ahead fed inner
+  kept_of = subst (λ (o : Option LateJudge). MatchOption o ⊤ (λ i. KeepsOf asked.ahead fed i)) some keeps
+
+  pub none_behind_late : BeganLateBy inner k → BeganLate asked.ahead fed k
+  none_behind_late late = late_told asked.ahead fed inner kept_of k late
+
+  pub text_told : (base : Judge) → IsJudgeUpTo inner k base → (x : EndedCall) → ended_in judge.judge k ≡ Some x →
+      (most : ℕ) → asked.most ≡ most → (r : Result (Vec ℕ Global) NoWitness) →
+      IsTextHere base k x (min most 16384) r → IsText asked fed k r
+  text_told base up x of most same (Ok text) is =
+      witness_told asked.ahead fed judge keeps inner some k base up text.items is
+  text_told base up x of most same (Err lack.BeganLate) is = absurd is
+  text_told base up x of most same (Err lack.Withdrawn) is =
+      record { ended = x; there = ends k refl x of; no_reply = is }
+  text_told base up x of most same (Err (lack.NotFound sought)) is = record {
+    inner = inner;
+    keeps = kept_of;
+    ended = x;
+    there = ends k refl x of;
+    in_vain = subst (λ (j : Judge). AreInVain j x (min asked.most most_searched) sought.items) up.is
+        (subst (λ (m : ℕ). AreInVain base x (min m 16384) sought.items) (sym same) is);
+  }
+  text_told base up x of most same (Err lack.Memory) is = tt
+
+-- one more start was tried
+pub sought_more : (judge : Judge) (x : EndedCall) (most start : ℕ) (before : List Sought) (sought : Sought) →
+    AreSoughtOn judge x most start before → IsSoughtFrom judge x most (start + length before) sought →
+    AreSoughtOn judge x most start (before ++ sought ∷ [])
+sought_more judge x most start [] sought are is =
+    (subst (λ (n : ℕ). IsSoughtFrom judge x most n sought) (add-zero start) is, tt)
+sought_more judge x most start (s ∷ before) sought are is = (
+  are.0,
+  sought_more judge x most (start + 1) before sought are.1
+      (subst (λ (n : ℕ). IsSoughtFrom judge x most n sought) (omega arith) is),
+)

@@ -1,6 +1,7 @@
 -- The note of what is found of a stream.
-use Rattle.std.specs.Prelude.{ℕ, ◌≡◌, ◌⊎◌, ◌-◌, ◌≤◌, ◌++◌, List, Option, Some, None, String, codes, decimal}
+use Rattle.std.specs.Prelude.{ℕ, ◌≡◌, ◌++◌, List, Option, Some, None, Result, Ok, Err, String, codes, decimal}
 use Rattle.std.specs.Prelude.{string_bytes}
+use Rattle.std.specs.declared.alloc.AllocError.{AllocError}
 use Rattle.std.specs.declared.alloc.Global.{Global}
 use Rattle.stamp_core.specs.Limits.{Bounds}
 use Rattle.stamp_core.specs.Texts.{call_text, reply_text}
@@ -11,12 +12,8 @@ use Rattle.stamped_watch.specs.declared.finding.Finding.TheVariants.{Stuck, Stuc
 use Rattle.stamped_watch.specs.declared.orders.Watching.{Watching}
 use Rattle.stamp_watch.specs.EndedCall.{IsEndedAt}
 use Rattle.stamp_watch.specs.declared.event.Event.{Event}
-use Rattle.stamped_watch.specs.Possible.{possible_text}
+use Rattle.stamped_watch.specs.Possible.{AreToldOf, possible_text}
 use Rattle.stamped_watch.specs.Stream.{IsStream}
-
-abbrev pub text_in : Option (String Global) → Option (List ℕ)
-text_in None = None
-text_in (Some text) = Some (string_bytes text)
 
 abbrev pub end_text : Option Reply → List ℕ
 end_text (Some reply) = codes "answered " ++ reply_text reply
@@ -38,13 +35,6 @@ abbrev pub late_text : ℕ → List ℕ
 late_text ahead = codes "stamped_watch: a call was open for nearly " ++ (decimal ahead ++
     codes " events; a larger --ahead may tell more")
 
--- what is told of a finding; this call, if it is known, ends at the event at which the stream is stuck
-abbrev pub note_text : Watching → Finding → Option EndedCall → Option (List Reply) → Option (List ℕ)
-note_text asked (Stuck k) (Some ended) replies = Some (stuck_text k ended replies)
-note_text asked (StuckWithin k m) ended replies = Some within_text
-note_text asked (Late k) ended replies = Some (late_text asked.ahead)
-note_text asked finding ended replies = None
-
 -- the call ends at the event of this number in the stream
 pub record EndsThere (bytes : List ℕ) (k : ℕ) (ended : EndedCall) : Type 0 where
   pub limits : Bounds
@@ -53,12 +43,25 @@ pub record EndsThere (bytes : List ℕ) (k : ℕ) (ended : EndedCall) : Type 0 w
   pub stream : IsStream bytes limits events rest
   pub ends : IsEndedAt events k ended
 
--- so does the call that is told where the stream is stuck
-abbrev pub IsCallTold : List ℕ → Finding → Option EndedCall → Type 0
-IsCallTold bytes (Stuck k) None = ⊥
-IsCallTold bytes (Stuck k) (Some ended) = EndsThere bytes k ended
-IsCallTold bytes finding ended = ended ≡ None
+-- the text tells of the call that ends at the event of this number in the stream, and of the replies that it could have
+-- had
+pub record IsStuckNote (ahead : ℕ) (bytes : List ℕ) (k : ℕ) (text : List ℕ) : Type 0 where
+  pub ended : EndedCall
+  pub there : EndsThere bytes k ended
+  pub replies : Option (List Reply)
+  pub told : AreToldOf ahead bytes k ended replies
+  pub says : text ≡ stuck_text k ended replies
 
--- the note tells of the finding, unless memory for it was refused
-abbrev pub IsNote : Watching → Finding → Option EndedCall → Option (List Reply) → Option (List ℕ) → Type 0
-IsNote asked finding ended replies note = (note ≡ None) ⊎ (note ≡ note_text asked finding ended replies)
+-- the note of what is found of a stream that is stuck, unexplained, or not judged further for calls that began late. In
+-- its place: memory was refused. Of another there is none
+abbrev pub IsNote : Watching → List ℕ → Finding → Result (Option (String Global)) AllocError → Type 0
+IsNote asked bytes (Stuck k) (Ok (Some text)) = IsStuckNote asked.ahead bytes k (string_bytes text)
+IsNote asked bytes (Stuck k) (Ok None) = ⊥
+IsNote asked bytes (Stuck k) (Err e) = Unit {0}
+IsNote asked bytes (StuckWithin k m) (Ok (Some text)) = string_bytes text ≡ within_text
+IsNote asked bytes (StuckWithin k m) (Ok None) = ⊥
+IsNote asked bytes (StuckWithin k m) (Err e) = Unit {0}
+IsNote asked bytes (Late k) (Ok (Some text)) = string_bytes text ≡ late_text asked.ahead
+IsNote asked bytes (Late k) (Ok None) = ⊥
+IsNote asked bytes (Late k) (Err e) = Unit {0}
+IsNote asked bytes finding note = note ≡ Ok None

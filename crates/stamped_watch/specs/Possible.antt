@@ -1,5 +1,5 @@
 -- Which replies were possible where a stream is stuck.
-use Rattle.std.specs.Prelude.{ℕ, ◌≡◌, ◌-◌, ◌++◌, List, [], ◌∷◌, Option, Some, None, Vec, codes}
+use Rattle.std.specs.Prelude.{ℕ, ◌≡◌, ◌≤◌, ◌-◌, ◌++◌, List, [], ◌∷◌, Option, Some, None, Vec, codes}
 use Rattle.std.specs.List.{flat_map}
 use Rattle.std.specs.declared.alloc.Global.{Global}
 use Rattle.stamp_core.specs.Limits.{Bounds}
@@ -10,10 +10,9 @@ use Rattle.stamp_core.specs.declared.reply.Reply.{Reply}
 use Rattle.stamp_watch.specs.declared.ended_call.EndedCall.{EndedCall}
 use Rattle.stamp_watch.specs.declared.event.Event.{Event}
 use Rattle.stamp_watch.specs.declared.late.LateJudge.{LateJudge}
-use Rattle.stamp_watch.specs.Possible.{ArePossibleAmong, plain_replies}
+use Rattle.stamp_watch.specs.Possible.{ArePossibleAmong, AreTooManyWith, plain_replies}
 use Rattle.stamp_watch.specs.PossibleLate.{KeepsLater}
-use Rattle.stamped_watch.specs.declared.finding.Finding.{Finding}
-use Rattle.stamped_watch.specs.declared.finding.Finding.TheVariants.{Stuck}
+use Rattle.stamp_watch.specs.Verdict.{IsOpenFor}
 use Rattle.stamped_watch.specs.Stream.{IsStream}
 
 -- the bytes are a header, events and a rest; what the judge of the events keeps is of those, and a call begins later
@@ -36,15 +35,46 @@ pub record ArePossibleAt (bytes : List ℕ) (k : ℕ) (call : Call) (found : Lis
   pub are : plain_replies limits call ≡ Some tried
   pub among : ArePossibleAmong limits events k tried found
 
--- so it is, if they are told
-abbrev pub ArePossibleIn : List ℕ → ℕ → Call → Option (List Reply) → Type 0
-ArePossibleIn bytes k call None = Unit {0}
-ArePossibleIn bytes k call (Some found) = ArePossibleAt bytes k call found
+-- the call is given stamps
+pub record IsGivenStamps (bytes : List ℕ) (call : Call) : Type 0 where
+  pub limits : Bounds
+  pub events : List Event
+  pub rest : List ℕ
+  pub stream : IsStream bytes limits events rest
+  pub not_plain : plain_replies limits call ≡ None
 
--- they are of the call that ends where the stream is stuck
-abbrev pub ArePossibleFor : List ℕ → Finding → Option EndedCall → Option (List Reply) → Type 0
-ArePossibleFor bytes (Stuck k) (Some ended) replies = ArePossibleIn bytes k ended.call replies
-ArePossibleFor bytes finding ended replies = replies ≡ None
+-- a call that begins no later than at the event of this number is open for all but 64 of so many events: it began late
+pub record BeganLate (ahead : ℕ) (bytes : List ℕ) (k : ℕ) : Type 0 where
+  pub limits : Bounds
+  pub events : List Event
+  pub rest : List ℕ
+  pub stream : IsStream bytes limits events rest
+  pub first : ℕ
+  pub by : first ≤ k
+  pub open_for : IsOpenFor events first (ahead - 64)
+
+-- with one of the replies that the call may be given too many configurations are possible
+pub record AreTooManyAt (bytes : List ℕ) (k : ℕ) (call : Call) : Type 0 where
+  pub limits : Bounds
+  pub events : List Event
+  pub rest : List ℕ
+  pub stream : IsStream bytes limits events rest
+  pub tried : List LockReply
+  pub are : plain_replies limits call ≡ Some tried
+  pub most : ℕ
+  pub too_many : AreTooManyWith limits events k most tried
+
+-- why no replies are told of the call that ends at the event of this number
+pub data AreUntold (ahead : ℕ) (bytes : List ℕ) (k : ℕ) (ended : EndedCall) : Type 0 where
+  given_stamps : IsGivenStamps bytes ended.call → AreUntold ahead bytes k ended
+  withdrawn : ended.reply ≡ None → AreUntold ahead bytes k ended
+  began_late : BeganLate ahead bytes k → AreUntold ahead bytes k ended
+  too_many : AreTooManyAt bytes k ended.call → AreUntold ahead bytes k ended
+
+-- the replies that it could have had are told, or there is a cause that they aren't
+abbrev pub AreToldOf : ℕ → List ℕ → ℕ → EndedCall → Option (List Reply) → Type 0
+AreToldOf ahead bytes k ended None = AreUntold ahead bytes k ended
+AreToldOf ahead bytes k ended (Some found) = ArePossibleAt bytes k ended.call found
 
 abbrev pub items_in : Option (Vec Reply Global) → Option (List Reply)
 items_in None = None

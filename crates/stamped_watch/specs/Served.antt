@@ -1,23 +1,23 @@
 -- How the program serves an order.
-use Rattle.std.specs.Prelude.{ℕ, ◌≡◌, ◌-◌, ◌++◌, ◌⊎◌, List, [], ◌∷◌, length, take, Option, None, Result, Ok, Err}
+use Rattle.std.specs.Prelude.{ℕ, ◌≡◌, ◌-◌, ◌++◌, ◌⊎◌, List, [], ◌∷◌, length, take, Option, None, Result, Ok, Err, OnErr}
 use Rattle.std.specs.declared.io.Error.{Error}
 use Rattle.std.specs.Io.KnownBytes.{Consumes, IsAtEnd}
 use Rattle.stamp_cli.specs.Results.{Results, EachTakes, FailsWithARead, LastTakesNone, taken_since}
 use Rattle.stamp_cli.specs.Serving.{HasWritten, WritesAnswer, RefusesAsDue, WritesFront}
-use Rattle.stamp_cli.specs.Shell.{EndsView}
+use Rattle.stamp_cli.specs.Shell.{HasHelped, ProgramView, ServesEnds, SinkView}
 use Rattle.stamp_cli.specs.declared.faults.ServeFault.{ServeFault}
 use Rattle.stamp_cli.specs.declared.faults.ServeFault.TheVariants.{Memory, ReadFault, WriteFault}
 use Rattle.stamp_cli.specs.declared.shell.Answered.{Answered}
-use Rattle.stamp_core.specs.declared.reply.Reply.{Reply}
-use Rattle.stamp_watch.specs.declared.ended_call.EndedCall.{EndedCall}
 use Rattle.stamped_watch.specs.declared.finding.Finding.{Finding}
 use Rattle.stamped_watch.specs.declared.orders.Watching.{Watching}
 use Rattle.stamped_watch.specs.declared.orders.WatchOrder.{WatchOrder}
 use Rattle.stamped_watch.specs.declared.orders.WatchOrder.TheVariants.{Help, Watch}
+use Rattle.stamped_watch.specs.declared.serving.Watched.{Watched}
 use Rattle.stamped_watch.specs.Finding.{IsFindingOf, IsFoundOf, IsSoFar}
 use Rattle.stamped_watch.specs.FindingText.{finding_text, finding_verdict}
-use Rattle.stamped_watch.specs.Note.{IsCallTold, IsNote, text_in}
-use Rattle.stamped_watch.specs.Possible.{ArePossibleFor}
+use Rattle.stamped_watch.specs.Note.{IsNote}
+use Rattle.stamped_watch.specs.Progress.{HasTold}
+use Rattle.stamped_watch.specs.Witness.{HasShown, lack_of}
 
 -- reads were made, none after one that took no byte, and these are the bytes that they took. It ended in the fault of
 -- reading exactly where a read failed
@@ -69,33 +69,44 @@ AnswersStream asked left left' old new (Err fault) = ⊥
 abbrev pub line_of : Finding → List ℕ
 line_of finding = finding_text finding ++ 10 ∷ []
 
--- the verdict and the note are of this finding; the note may tell which call ended there in the stream that was read,
--- and which replies it could have had
-pub record IsAnsweredBy (asked : Watching) (left left' : Option (List ℕ)) (old new : Results) (finding : Finding)
-    (answered : Answered) : Type 0 where
-  pub verdict : answered.verdict ≡ finding_verdict finding
-  pub ended : Option EndedCall
-  pub replies : Option (List Reply)
-  pub note : IsNote asked finding ended replies (text_in answered.note)
+-- the verdict and the note are of this finding, and the witness that is due was written, or there is none
+pub record IsAnsweredBy (asked : Watching) (left left' : Option (List ℕ)) (old new : Results)
+    (shown shown' : SinkView) (finding : Finding) (watched : Watched) : Type 0 where
+  pub verdict : watched.verdict ≡ finding_verdict finding
   pub bytes : List ℕ
   pub took : Consumes left left' bytes
   pub count : length bytes ≡ taken_since old new
-  pub call : IsCallTold bytes finding ended
-  pub possible : ArePossibleFor bytes finding ended replies
+  pub note : IsNote asked bytes finding watched.note
+  pub witness : HasShown asked bytes finding shown shown' watched.shown
 
--- a stream was judged: the reads, the line written, no refusal but for memory and the ends, and the writes
-pub record HasWatched (asked : Watching) (old new : EndsView) (result : Result Answered ServeFault) : Type 0 where
-  pub reads : HasReadOn ReadFault old.left new.left old.reads new.reads result
-  pub ok : WritesAnswer (AnswersStream asked old.left new.left old.reads new.reads)
-      (IsAnsweredBy asked old.left new.left old.reads new.reads)
-      line_of old.sent new.sent old.writes new.writes result
-  pub refused : RefusesAsDue ReadFault WriteFault Memory
-      (AnswersStream asked old.left new.left old.reads new.reads) result
-  pub writes : HasWritten WriteFault old.sent new.sent old.writes new.writes result
-  pub front : WritesFront WriteFault (AnswersStream asked old.left new.left old.reads new.reads) line_of
-      old.sent new.sent old.writes new.writes result
+-- this is told beside the line, of the finding that was answered so
+pub record IsToldOf (asked : Watching) (old new : ProgramView) (finding : Finding) (answered : Answered) : Type 0
+  where
+    pub watched : Watched
+    pub of_it : IsAnsweredBy asked old.ends.left new.ends.left old.ends.reads new.ends.reads old.witness new.witness
+        finding watched
+    pub verdict : answered.verdict ≡ watched.verdict
+    pub note : answered.note ≡ watched.note
+    pub lack : answered.no_witness ≡ lack_of watched.shown
 
--- to tell how it is called it reads nothing
-abbrev pub IsServed : WatchOrder → EndsView → EndsView → Result Answered ServeFault → Type 0
-IsServed Help old new result = (new.left ≡ old.left) × (new.reads ≡ old.reads)
-IsServed (Watch asked) old new result = HasWatched asked old new result
+-- a stream was judged: the reads, the line written, no refusal but for memory and the ends, and the writes; the lines
+-- of how far it was judged were told, and no refusal writes a witness
+pub record HasWatched (asked : Watching) (old new : ProgramView) (result : Result Answered ServeFault) : Type 0
+  where
+    pub reads : HasReadOn ReadFault old.ends.left new.ends.left old.ends.reads new.ends.reads result
+    pub ok : WritesAnswer (AnswersStream asked old.ends.left new.ends.left old.ends.reads new.ends.reads)
+        (IsToldOf asked old new) line_of old.ends.sent new.ends.sent old.ends.writes new.ends.writes result
+    pub refused : RefusesAsDue ReadFault WriteFault Memory
+        (AnswersStream asked old.ends.left new.ends.left old.ends.reads new.ends.reads) result
+    pub writes : HasWritten WriteFault old.ends.sent new.ends.sent old.ends.writes new.ends.writes result
+    pub front : WritesFront WriteFault
+        (AnswersStream asked old.ends.left new.ends.left old.ends.reads new.ends.reads) line_of
+        old.ends.sent new.ends.sent old.ends.writes new.ends.writes result
+    pub told : HasTold asked old.ends.left new.ends.left old.ends.reads new.ends.reads
+        old.told.sent new.told.sent old.told.writes new.told.writes result
+    pub silent : OnErr result (new.witness ≡ old.witness)
+
+-- it tells how it is called by this text
+abbrev pub IsServed : List ℕ → WatchOrder → ProgramView → ProgramView → Result Answered ServeFault → Type 0
+IsServed help Help old new result = ServesEnds (HasHelped WriteFault help) old new result
+IsServed help (Watch asked) old new result = HasWatched asked old new result

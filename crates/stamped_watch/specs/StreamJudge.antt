@@ -1,10 +1,11 @@
 -- What a judge knows of a stream whose bytes come.
-use Rattle.std.specs.Prelude.{ℕ, ◌≡◌, ◌≢◌, ◌<◌, ◌++◌, List, [], length, Option, Some, None, MatchOption, ⊤}
+use Rattle.std.specs.Prelude.{ℕ, ◌≡◌, ◌<◌, ◌++◌, List, [], length, Option, Some, None, MatchOption, ⊤}
 use Rattle.std.specs.List.{count_by}
 use Rattle.stamp_core.specs.Limits.{Bounds}
 use Rattle.stamp_watch.specs.declared.ended_call.EndedCall.{EndedCall}
 use Rattle.stamp_watch.specs.declared.event.Event.{Event}
 use Rattle.stamp_watch.specs.declared.late.LateJudge.{LateJudge}
+use Rattle.stamp_watch.specs.Course.{KeepsEnd}
 use Rattle.stamp_watch.specs.EndedCall.{ended_from}
 use Rattle.stamp_watch.specs.LateJudge.{HasFoundNothingLater, IsLateJudge}
 use Rattle.stamped_watch.specs.declared.finding.Finding.{Finding}
@@ -38,9 +39,14 @@ ended_in None number = None
 ended_in (Some inner) number =
     ended_from inner.delay.judge.course.first inner.delay.judge.course.events.items number
 
--- the call is kept that ends where the stream is stuck
+-- the event of this number is kept, with the beginning of the call that it ends
+abbrev pub KeepsEndAt : Option LateJudge → ℕ → Type 0
+KeepsEndAt None k = ⊥
+KeepsEndAt (Some inner) k = KeepsEnd inner.delay.judge.course k
+
+-- so is the event at which the stream is stuck
 abbrev pub KeepsCall : Option LateJudge → Finding → Type 0
-KeepsCall judge (Stuck k) = ended_in judge k ≢ None
+KeepsCall judge (Stuck k) = KeepsEndAt judge k
 KeepsCall judge finding = Unit {0}
 
 -- the call that is kept as the one which ends where the stream is stuck ends there in the stream

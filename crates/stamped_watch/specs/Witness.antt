@@ -1,22 +1,43 @@
 -- Witnesses: small histories that are stuck where a run is.
-use Rattle.std.specs.Prelude.{ℕ, ◌≡◌, ◌⊎◌, ◌++◌, ◌∷◌, [], List, length, Option, Some, true}
-use Rattle.std.specs.Io.KnownBytes.{Consumes}
-use Rattle.stamp_cli.specs.Results.{Results, taken_since}
+use Rattle.std.specs.Prelude.{ℕ, ◌≡◌, ◌+◌, ◌++◌, ◌∷◌, [], List, length, min, Option, Some, None, Bool, true}
+use Rattle.std.specs.Prelude.{Result, Ok, Err, Vec}
+use Rattle.std.specs.declared.alloc.Global.{Global}
+use Rattle.stamp_cli.specs.Shell.{SinkView}
+use Rattle.stamp_cli.specs.declared.shell.Lack.{Lack}
+use Rattle.stamp_cli.specs.declared.shell.Lack.TheVariants as told
 use Rattle.stamp_core.specs.Limits.{Bounds}
+use Rattle.stamp_core.specs.Word.{word_at}
 use Rattle.stamp_explain.specs.declared.observed.Observation.{Observation}
 use Rattle.stamp_explain.specs.declared.observed.Returned.{Returned}
 use Rattle.stamp_explain.specs.Observed.{ObservedHistory}
 use Rattle.stamp_observed.specs.Behind.{IsStuckWith}
+use Rattle.stamp_observed.specs.declared.behind.Sought.{Sought}
 use Rattle.stamp_observed.specs.ObservedText.{observed_text}
 use Rattle.stamp_watch.specs.declared.ended_call.EndedCall.{EndedCall}
 use Rattle.stamp_watch.specs.declared.event.Event.{Event}
+use Rattle.stamp_watch.specs.declared.late.LateJudge.{LateJudge}
 use Rattle.stamp_watch.specs.declared.online.Judge.{Judge}
 use Rattle.stamp_watch.specs.EndedCall.{ended_at, ended_from}
+use Rattle.stamp_watch.specs.Start.{word_of}
+use Rattle.stamped_watch.specs.declared.finding.Finding.{Finding}
 use Rattle.stamped_watch.specs.declared.finding.Finding.TheVariants.{Stuck}
 use Rattle.stamped_watch.specs.declared.orders.Watching.{Watching}
+use Rattle.stamped_watch.specs.declared.witness.NoWitness.{NoWitness}
+use Rattle.stamped_watch.specs.declared.witness.NoWitness.TheVariants as lack
+use Rattle.stamped_watch.specs.declared.witness.Shown.{Shown}
+use Rattle.stamped_watch.specs.declared.witness.Shown.TheVariants.{NotDue, Given}
+use Rattle.stamped_watch.specs.Note.{EndsThere}
+use Rattle.stamped_watch.specs.Possible.{BeganLate, KeepsOf}
 use Rattle.stamped_watch.specs.Progress.{IsWritten}
-use Rattle.stamped_watch.specs.Served.{IsFoundOfSource}
 use Rattle.stamped_watch.specs.Stream.{IsStream}
+
+-- so many starts are tried at most
+abbrev pub most_starts : ℕ
+most_starts = 64
+
+-- so many configurations are looked at by a search at most
+abbrev pub most_searched : ℕ
+most_searched = 16384
 
 -- the observed call is the one that ended, by a return
 pub record IsCallOf (ended : EndedCall) (e : Observation) : Type 0 where
@@ -44,6 +65,39 @@ pub record IsWitnessText (judge : Judge) (number : ℕ) (text : List ℕ) : Type
   pub witness : IsWitnessAt judge number small
   pub text_is : text ≡ observed_text small ++ 10 ∷ []
 
+-- a small history was sought that is stuck at the call that ended, behind the word of this start, by searches that give
+-- up so
+pub record IsSoughtFrom (judge : Judge) (ended : EndedCall) (most start : ℕ) (sought : Sought) : Type 0 where
+  pub limits_are : sought.limits ≡ judge.course.base.limits
+  pub word : ℕ
+  pub of_start : word_of judge.course.base start ≡ Some word
+  pub word_is : sought.word ≡ word_at judge.course.base.limits word
+  pub call : IsCallOf ended sought.ended
+  pub most_is : sought.most ≡ most
+
+-- so it was from each start, of which the first has this number
+abbrev pub AreSoughtOn : Judge → EndedCall → ℕ → ℕ → List Sought → Type 0
+AreSoughtOn judge ended most start [] = Unit {0}
+AreSoughtOn judge ended most start (sought ∷ others) =
+    IsSoughtFrom judge ended most start sought × AreSoughtOn judge ended most (start + 1) others
+
+-- none was found from the first 64 starts, or from all
+pub record AreInVain (judge : Judge) (ended : EndedCall) (most : ℕ) (sought : List Sought) : Type 0 where
+  pub each : AreSoughtOn judge ended most 0 sought
+  pub all : length sought ≡ min (length judge.course.base.positions.items) most_starts
+
+-- why there is no witness of the call that ended
+abbrev pub IsLackingHere : Judge → EndedCall → ℕ → NoWitness → Type 0
+IsLackingHere judge ended most lack.BeganLate = ⊥
+IsLackingHere judge ended most lack.Withdrawn = ended.reply ≡ None
+IsLackingHere judge ended most (lack.NotFound sought) = AreInVain judge ended most sought.items
+IsLackingHere judge ended most lack.Memory = Unit {0}
+
+-- the text of a witness of the call that ended, or why there is none
+abbrev pub IsTextHere : Judge → ℕ → EndedCall → ℕ → Result (Vec ℕ Global) NoWitness → Type 0
+IsTextHere judge number ended most (Ok text) = IsWitnessText judge number text.items
+IsTextHere judge number ended most (Err why) = IsLackingHere judge ended most why
+
 -- the call is the one that the event with this number ends in the stream of these bytes
 pub record IsWitnessIn (bytes : List ℕ) (number : ℕ) (small : ObservedHistory) : Type 0 where
   pub limits : Bounds
@@ -60,27 +114,56 @@ pub record IsTextIn (bytes : List ℕ) (number : ℕ) (text : List ℕ) : Type 0
   pub witness : IsWitnessIn bytes number small
   pub text_is : text ≡ observed_text small ++ 10 ∷ []
 
--- the stream that was read is stuck at an event, and this is the text of a witness of that
-pub record IsShown (asked : Watching) (left left' : Option (List ℕ)) (old new : Results) (text : List ℕ) : Type 0
-  where
-    pub number : ℕ
-    pub found : IsFoundOfSource asked left left' old new (Stuck number)
-    pub bytes : List ℕ
-    pub took : Consumes left left' bytes
-    pub count : length bytes ≡ taken_since old new
-    pub witness : IsTextIn bytes number text
+-- what the judge keeps is of these bytes: a witness was sought from its starts, and none was found
+pub record IsSoughtInVain (asked : Watching) (bytes : List ℕ) (k : ℕ) (sought : List Sought) : Type 0 where
+  pub inner : LateJudge
+  pub keeps : KeepsOf asked.ahead bytes inner
+  pub ended : EndedCall
+  pub there : EndsThere bytes k ended
+  pub in_vain : AreInVain inner.delay.judge ended (min asked.most most_searched) sought
 
--- it was asked for, and written
-pub record HasShownOne (asked : Watching) (left left' : Option (List ℕ)) (reads reads' : Results)
-    (sent sent' : Option (List ℕ)) (writes writes' : Results) : Type 0 where
-  pub asked_is : asked.witness ≡ true
+-- the call that ends there was withdrawn
+pub record IsWithdrawnAt (bytes : List ℕ) (k : ℕ) : Type 0 where
+  pub ended : EndedCall
+  pub there : EndsThere bytes k ended
+  pub no_reply : ended.reply ≡ None
+
+-- why there is no witness that the stream is stuck at the event of this number
+abbrev pub IsLacking : Watching → List ℕ → ℕ → NoWitness → Type 0
+IsLacking asked bytes k lack.BeganLate = BeganLate asked.ahead bytes k
+IsLacking asked bytes k lack.Withdrawn = IsWithdrawnAt bytes k
+IsLacking asked bytes k (lack.NotFound sought) = IsSoughtInVain asked bytes k sought.items
+IsLacking asked bytes k lack.Memory = Unit {0}
+
+-- the text of one, or why there is none
+abbrev pub IsText : Watching → List ℕ → ℕ → Result (Vec ℕ Global) NoWitness → Type 0
+IsText asked bytes k (Ok text) = IsTextIn bytes k text.items
+IsText asked bytes k (Err why) = IsLacking asked bytes k why
+
+-- the text of a witness was written
+pub record HasGiven (bytes : List ℕ) (k : ℕ) (old new : SinkView) : Type 0 where
   pub text : List ℕ
-  pub is : IsShown asked left left' reads reads' text
-  pub written : IsWritten text sent sent' writes writes'
+  pub is : IsTextIn bytes k text
+  pub written : IsWritten text old.sent new.sent old.writes new.writes
 
--- a witness was written, if it is asked for; or nothing
-abbrev pub HasShown : Watching → Option (List ℕ) → Option (List ℕ) → Results → Results → Option (List ℕ) →
-    Option (List ℕ) → Results → Results → Type 0
-HasShown asked left left' reads reads' sent sent' writes writes' =
-    ((sent' ≡ sent) × (writes' ≡ writes)) ⊎
-    HasShownOne asked left left' reads reads' sent sent' writes writes'
+-- where a witness is due
+abbrev pub HasShownAt : Watching → List ℕ → ℕ → SinkView → SinkView → Result Shown NoWitness → Type 0
+HasShownAt asked bytes k old new (Ok NotDue) = ⊥
+HasShownAt asked bytes k old new (Ok Given) = HasGiven bytes k old new
+HasShownAt asked bytes k old new (Err why) = (new ≡ old) × IsLacking asked bytes k why
+
+-- one is due if it is asked for and the stream is stuck
+abbrev pub HasShownIf : Bool → Watching → List ℕ → Finding → SinkView → SinkView → Result Shown NoWitness → Type 0
+HasShownIf true asked bytes (Stuck k) old new shown = HasShownAt asked bytes k old new shown
+HasShownIf on asked bytes finding old new shown = (new ≡ old) × (shown ≡ Ok NotDue)
+
+abbrev pub HasShown : Watching → List ℕ → Finding → SinkView → SinkView → Result Shown NoWitness → Type 0
+HasShown asked bytes finding old new shown = HasShownIf asked.witness asked bytes finding old new shown
+
+-- what is told of why there is no witness
+abbrev pub lack_of : Result Shown NoWitness → Option Lack
+lack_of (Ok shown) = None
+lack_of (Err lack.BeganLate) = Some told.BeganLate
+lack_of (Err lack.Withdrawn) = Some told.Withdrawn
+lack_of (Err (lack.NotFound sought)) = Some told.NotFound
+lack_of (Err lack.Memory) = Some told.Memory

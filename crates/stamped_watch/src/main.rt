@@ -1,6 +1,7 @@
 //! Judges a stream of a lock's events of any length: bytes in, one line out.
 #![tactic(auto)]
 
+ghost use Rattle.stamped_watch.specs.declared.help.TheConstants.{HELP};
 ghost use Rattle.stamped_watch.specs.Order.{order_in};
 ghost use Rattle.stamped_watch.specs.Served.{IsServed};
 
@@ -24,20 +25,11 @@ use crate::help::HELP;
 use crate::orders::{WatchOrder, file_in, order_of, witness_in};
 use crate::serving::serve_asked;
 use stamp_cli::{
-    Answered, CommandFault, Program, ServeFault, Sink, Source, WriteSink, named_fault_line, run,
+    Answered, CommandFault, Lack, Program, ServeFault, Sink, Source, named_fault_line, run,
     serve_help,
 };
 use std::alloc::Global;
-use std::io;
 use std::process::ExitCode;
-
-/// Tells how the program is called.
-fn tell_help<K: Sink>(sink: &mut K) -> Result<Answered, ServeFault> {
-    Ok(Answered {
-        verdict: serve_help(HELP, sink)?,
-        note: None,
-    })
-}
 
 /// The program `stamped_watch`.
 struct StampedWatch;
@@ -49,7 +41,7 @@ impl Program for StampedWatch {
 
     ghost order_in = { order_in };
 
-    ghost serves = { IsServed };
+    ghost serves = { IsServed HELP.now };
 
     fn order_of(arguments: &[&str]) -> Result<WatchOrder, CommandFault> {
         order_of(arguments)
@@ -63,28 +55,7 @@ impl Program for StampedWatch {
         witness_in(arguments)
     }
 
-    fn answer<S: Source, K: Sink>(
-        alloc: Global,
-        order: WatchOrder,
-        source: &mut S,
-        sink: &mut K,
-    ) -> Result<Answered, ServeFault> {
-        let mut told = WriteSink::new(io::sink());
-        Self::answer_telling(alloc, order, source, sink, &mut told)
-    }
-
-    fn answer_telling<S: Source, K: Sink, T: Sink>(
-        alloc: Global,
-        order: WatchOrder,
-        source: &mut S,
-        sink: &mut K,
-        told: &mut T,
-    ) -> Result<Answered, ServeFault> {
-        let mut witness = WriteSink::new(io::sink());
-        Self::answer_showing(alloc, order, source, sink, told, &mut witness)
-    }
-
-    fn answer_showing<S: Source, K: Sink, T: Sink, W: Sink>(
+    fn answer<S: Source, K: Sink, T: Sink, W: Sink>(
         alloc: Global,
         order: WatchOrder,
         source: &mut S,
@@ -93,7 +64,7 @@ impl Program for StampedWatch {
         witness: &mut W,
     ) -> Result<Answered, ServeFault> {
         match order {
-            WatchOrder::Help => tell_help(sink),
+            WatchOrder::Help => Ok(Answered::alone(serve_help(HELP, sink)?)),
             WatchOrder::Watch(asked) => serve_asked(alloc, asked, source, sink, told, witness),
         }
     }
@@ -108,6 +79,19 @@ impl Program for StampedWatch {
 
     fn unwritten_witness() -> &'static str {
         "stamped_watch: can't write the witness"
+    }
+
+    fn no_witness(lack: Lack) -> &'static str {
+        match lack {
+            Lack::BeganLate => "stamped_watch: no witness where a call began late",
+            Lack::Withdrawn => "stamped_watch: no witness of a withdrawn call",
+            Lack::NotFound => "stamped_watch: no witness was found",
+            Lack::Memory => "stamped_watch: no memory for the witness",
+        }
+    }
+
+    fn no_note() -> &'static str {
+        "stamped_watch: no memory for the note"
     }
 
     fn fault_line(alloc: Global, fault: &ServeFault) -> Option<String> {

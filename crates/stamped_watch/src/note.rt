@@ -1,13 +1,16 @@
 //! The note of what is found, for standard error: of a stream that is stuck which call ended there, and which replies
 //! were possible; and else why it is not judged further.
 
-ghost use Rattle.std.specs.Prelude.{◌≡◌, IfOk, Some, string_bytes};
-ghost use Rattle.stamped_watch.specs.Note.{IsNote, end_text, ended_text, late_text, note_text, stuck_text, text_in, within_text};
+ghost use Rattle.std.specs.Prelude.{◌≡◌, ℕ, IfOk, List, Some, string_bytes};
+ghost use Rattle.stamped_watch.specs.declared.finding.Finding.TheVariants.{Stuck};
+ghost use Rattle.stamped_watch.specs.Note.{IsNote, IsStuckNote, end_text, ended_text, late_text, stuck_text, within_text};
 ghost use Rattle.stamped_watch.specs.Possible.{items_in};
+ghost use Rattle.stamped_watch.specs.StreamJudge.{EndsInStream, KeepsCall, KeepsEndAt, KeepsFed, KeepsFedSome};
 
 use crate::finding::Finding;
 use crate::orders::Watching;
 use crate::possible::possible_text;
+use crate::stream_judge::StreamJudge;
 use stamp_core::Reply;
 use stamp_watch::EndedCall;
 use std::alloc::{AllocError, Global};
@@ -73,39 +76,35 @@ fn late_text(alloc: Global, ahead: usize) -> Result<String, AllocError>
     )
 }
 
-/// The note of what was found, where this call ends at the event at which the stream is stuck.
-fn note_of(
-    alloc: Global,
-    asked: Watching,
-    finding: &Finding,
-    ended: &Option<EndedCall>,
-    replies: &Option<Vec<Reply>>,
-) -> Result<Option<String>, AllocError>
-    ensures { IfOk result (λ note. text_in note
-        ≡ note_text asked finding.now ended.now (items_in replies.now)) }
+/// The note of a stream that is stuck at the event with this number: which call ends there, and which replies it could
+/// have had.
+fn stuck_note(alloc: Global, judge: &StreamJudge, number: u64) -> Result<String, AllocError>
+    requires keeps { KeepsFedSome judge.now }
+    requires end { KeepsEndAt judge.now.judge number }
+    ensures { IfOk result (λ text. (ahead : ℕ) (fed : List ℕ) → KeepsFed ahead fed judge.now
+        → EndsInStream fed judge.now.judge (Stuck number) → IsStuckNote ahead fed number (string_bytes text)) }
 {
-    match (finding, ended) {
-        (Finding::Stuck(event), Some(ended)) => {
-            Ok(Some(stuck_text(alloc, *event, ended, replies)?))
-        }
-        (Finding::StuckWithin(_, _), _) => Ok(Some(within_text(alloc)?)),
-        (Finding::Late(_), _) => Ok(Some(late_text(alloc, asked.ahead)?)),
-        _ => Ok(None),
-    }
+    let ended = judge.ended_at(number);
+    let replies = judge.possible_at(number, &ended)?;
+    stuck_text(alloc, number, &ended, &replies)
 }
 
-/// The same note, or none where memory for it is refused.
-pub(crate) fn note_if_room(
+/// The note of what was found, if one is due.
+pub(crate) fn note_of(
     alloc: Global,
     asked: Watching,
     finding: &Finding,
-    ended: &Option<EndedCall>,
-    replies: &Option<Vec<Reply>>,
-) -> Option<String>
-    ensures { IsNote asked finding.now ended.now (items_in replies.now) (text_in result) }
+    judge: &StreamJudge,
+) -> Result<Option<String>, AllocError>
+    requires keeps { KeepsFedSome judge.now }
+    requires end { KeepsCall judge.now.judge finding.now }
+    ensures { (fed : List ℕ) → KeepsFed asked.ahead fed judge.now → EndsInStream fed judge.now.judge finding.now
+        → IsNote asked fed finding.now result }
 {
-    match note_of(alloc, asked, finding, ended, replies) {
-        Ok(note) => note,
-        Err(_) => None,
+    match finding {
+        Finding::Stuck(event) => Ok(Some(stuck_note(alloc, judge, *event)?)),
+        Finding::StuckWithin(_, _) => Ok(Some(within_text(alloc)?)),
+        Finding::Late(_) => Ok(Some(late_text(alloc, asked.ahead)?)),
+        _ => Ok(None),
     }
 }

@@ -1,27 +1,23 @@
 //! A stream from the bytes that come in to the line that goes out.
 
-ghost use Rattle.std.specs.Prelude.{◌≡◌, ◌<◌, ◌≤◌, [], IfOk, List, None, Option, length, vec_len, ℕ};
-ghost use Rattle.stamp_cli.specs.Results.{IsReadOrMemoryFault, Results};
+ghost use Rattle.std.specs.Prelude.{◌≡◌, ◌<◌, ◌≤◌, ℕ, [], IfOk, List, None, OnErr, length, vec_len};
+ghost use Rattle.stamp_cli.specs.Results.{IsReadOrMemoryFault};
 ghost use Rattle.stamp_cli.specs.Serving.{HasWritten, RefusesAsDue, WritesAnswer, WritesFront};
 ghost use Rattle.stamp_cli.specs.declared.faults.ServeFault.TheVariants.{Memory, ReadFault, WriteFault};
-ghost use Rattle.stamped_watch.specs.Note.{IsCallTold};
-ghost use Rattle.stamped_watch.specs.Progress.{HasTold};
-ghost use Rattle.stamped_watch.specs.Possible.{ArePossibleFor, ArePossibleIn, items_in};
+ghost use Rattle.stamped_watch.specs.Progress.{HasTold, IsNewTelling};
 ghost use Rattle.stamped_watch.specs.StreamJudge.{EndsInStream, IsFed, KeepsCall, KeepsFed, KeepsFedSome};
 ghost use Rattle.stamped_watch.specs.Served.{AnswersStream, HasReadOn, HasWatched, IsAnsweredBy, IsFoundOfSource, line_of};
-ghost use Rattle.stamped_watch.specs.Progress.{IsNewTelling};
 ghost use Rattle.stamped_watch.specs.Witness.{HasShown};
 ghost use Rattle.stamped_watch.specs.inner.Served.{KeepsAll};
 
 use crate::finding::Finding;
 use crate::finding_text::line_of_finding;
-use crate::note::note_if_room;
+use crate::note::note_of;
 use crate::orders::Watching;
 use crate::stream_judge::StreamJudge;
 use crate::telling::Telling;
-use stamp_cli::{Answered, Line, ServeFault, Sink, Source, write_text};
-use stamp_core::Reply;
-use stamp_watch::EndedCall;
+use crate::witness::{NoWitness, Shown, lack_of};
+use stamp_cli::{Answered, Line, ServeFault, Sink, Source, Verdict, write_text};
 use std::alloc::{AllocError, Global};
 
 /// The most bytes of one read.
@@ -71,75 +67,52 @@ fn fed_from<S: Source, T: Sink>(
     }
 }
 
-/// The call that ends at the event at which the stream is stuck.
-fn ended_at(finding: &Finding, judge: &StreamJudge) -> Option<EndedCall>
-    requires { KeepsCall judge.now.judge finding.now }
-    ensures { (fed : List ℕ) → EndsInStream fed judge.now.judge finding.now → IsCallTold fed finding.now result }
-{
-    match finding {
-        Finding::Stuck(event) => judge.ended_at(*event),
-        _ => None,
-    }
-}
-
-/// The replies that this call could have had, which returns at the event with this number. None where they can't be
-/// told, or memory for them is refused.
-fn possible_there(judge: &StreamJudge, event: u64, ended: &EndedCall) -> Option<Vec<Reply>>
-    requires { KeepsFedSome judge.now }
-    ensures { (ahead : ℕ) (fed : List ℕ) → KeepsFed ahead fed judge.now
-        → ArePossibleIn fed event ended.now.call (items_in result) }
-{
-    match judge.possible_at(event, &ended.call) {
-        Ok(replies) => replies,
-        Err(_) => None,
-    }
-}
-
-/// So it is with the call that ends where the stream is stuck.
-fn possible_for(
+/// Writes a witness of a stream that is stuck, if that is asked for and one is found, or tells why there is none. Where
+/// a write fails nothing more is.
+fn show_witness<W: Sink>(
+    asked: Watching,
     finding: &Finding,
-    ended: &Option<EndedCall>,
     judge: &StreamJudge,
-) -> Option<Vec<Reply>>
-    requires { KeepsFedSome judge.now }
-    ensures { (ahead : ℕ) (fed : List ℕ) → KeepsFed ahead fed judge.now
-        → ArePossibleFor fed finding.now ended.now (items_in result) }
-{
-    match (finding, ended) {
-        (Finding::Stuck(event), Some(ended)) => possible_there(judge, *event, ended),
-        _ => None,
-    }
-}
-
-/// Writes a witness of a stream that is stuck, if that is asked for and one is found. Without memory for it none is
-/// written. Where a write fails nothing more is.
-fn show_witness<W: Sink>(asked: Watching, finding: &Finding, judge: &StreamJudge, witness: &mut W)
-    ensures { (left left_then : Option (List ℕ)) (reads reads_then : Results)
-        → IsFoundOfSource asked left left_then reads reads_then finding.now
-        → KeepsAll asked.ahead left left_then reads reads_then judge.now finding.now
-        → HasShown asked left left_then reads reads_then (W.sent witness.old) (W.sent witness.new)
-        (W.writes witness.old) (W.writes witness.new) }
+    witness: &mut W,
+) -> Result<Shown, NoWitness>
+    requires keeps { KeepsFedSome judge.now }
+    requires end { KeepsCall judge.now.judge finding.now }
+    ensures { (fed : List ℕ) → KeepsFed asked.ahead fed judge.now → EndsInStream fed judge.now.judge finding.now
+        → HasShown asked fed finding.now (record { sent = W.sent witness.old; writes = W.writes witness.old })
+        (record { sent = W.sent witness.new; writes = W.writes witness.new }) result }
 {
     if !asked.witness {
-        return;
+        return Ok(Shown::NotDue);
     }
     let Finding::Stuck(event) = finding else {
-        return;
+        return Ok(Shown::NotDue);
     };
-    if let Ok(Some(text)) = judge.witness_at(*event) {
-        let _ = write_text(witness, &text);
-    }
+    let text = judge.witness_at(*event, asked.most)?;
+    let _ = write_text(witness, &text);
+    Ok(Shown::Given)
+}
+
+/// What is answered of a stream beside the line that was written.
+#[derive(Drop)]
+pub struct Watched {
+    /// What the line says: `Bad` unless the stream is explained.
+    pub verdict: Verdict,
+    /// The line for standard error, without its line feed: `Some` if the stream is stuck, unexplained, or not judged
+    /// further for a call that began late. `Err` in place of `Some`: memory for the line was refused.
+    pub note: Result<Option<String>, AllocError>,
+    /// What was done for a witness, or why there is none.
+    pub shown: Result<Shown, NoWitness>,
 }
 
 /// Judges the stream that it reads of the source, of any length, and writes one line of that. It reads on only while
 /// all but the last events that came, at most 64 and twice those looked at ahead, are explained. What it answers
 /// besides is for standard error: of a stream that is stuck which call ended there and which replies were possible, and
-/// else why it is not judged further, if it is not. It refuses as 1 `ReadFault` exactly where a read answers an error,
+/// else why it is not judged further, if it is not; or that memory for this was refused. It refuses as 1 `ReadFault` exactly where a read answers an error,
 /// as 6 `WriteFault` exactly where a write does or takes no byte, and as 5 `Memory`; what was read is gone also after a
 /// refusal. If it is asked for, it tells on the way how far the stream is judged, by a line behind each 2^24 events. A
 /// write of such a line that fails, or takes no byte, is the last of those, and changes nothing else.
-/// If a witness is asked for, the text of one is written where the stream is stuck at a return and one is found: an
-/// observed history, judged by `explain`, that is stuck at the call which returned there. A write of it that fails
+/// If a witness is asked for, the text of one is written where the stream is stuck: an observed history, judged by
+/// `explain`, that is stuck at the call which returned there. Or it answers why there is none. A write of it that fails
 /// changes nothing else either.
 pub fn serve_stream<S: Source, K: Sink, T: Sink, W: Sink>(
     alloc: Global,
@@ -148,15 +121,18 @@ pub fn serve_stream<S: Source, K: Sink, T: Sink, W: Sink>(
     sink: &mut K,
     told: &mut T,
     witness: &mut W,
-) -> Result<Answered, ServeFault>
+) -> Result<Watched, ServeFault>
     // However it ends, there is no read after one that took no byte.
     ensures reads { HasReadOn ReadFault (S.left source.old) (S.left source.new)
         (S.reads source.old) (S.reads source.new) result }
 
-    // The line of what is found of all that was read is written, and nothing else; the verdict and the note are its.
+    // The line of what is found of all that was read is written, and nothing else. The verdict and the note are its, and
+    // the witness that is due was written, or there is none.
     ensures ok { WritesAnswer (AnswersStream asked (S.left source.old) (S.left source.new)
         (S.reads source.old) (S.reads source.new)) (IsAnsweredBy asked (S.left source.old)
-        (S.left source.new) (S.reads source.old) (S.reads source.new)) line_of
+        (S.left source.new) (S.reads source.old) (S.reads source.new)
+        (record { sent = W.sent witness.old; writes = W.writes witness.old })
+        (record { sent = W.sent witness.new; writes = W.writes witness.new })) line_of
         (K.sent sink.old) (K.sent sink.new) (K.writes sink.old) (K.writes sink.new) result }
 
     // No stream is refused.
@@ -174,9 +150,8 @@ pub fn serve_stream<S: Source, K: Sink, T: Sink, W: Sink>(
     ensures told { HasTold asked (S.left source.old) (S.left source.new) (S.reads source.old) (S.reads source.new)
         (T.sent told.old) (T.sent told.new) (T.writes told.old) (T.writes told.new) result }
 
-    // Of a stream that is stuck a witness may be written, if it is asked for, and else nothing is.
-    ensures shown { HasShown asked (S.left source.old) (S.left source.new) (S.reads source.old) (S.reads source.new)
-        (W.sent witness.old) (W.sent witness.new) (W.writes witness.old) (W.writes witness.new) }
+    // A refusal leaves the sink for a witness as it was.
+    ensures silent { OnErr result (witness.new ≡ witness.old) }
 {
     let mut judge = StreamJudge::new(alloc, asked.most, asked.ahead);
     let mut telling = Telling::new(alloc, asked.progress);
@@ -185,14 +160,16 @@ pub fn serve_stream<S: Source, K: Sink, T: Sink, W: Sink>(
     let Line { mut text, verdict } = line_of_finding(alloc, &finding)?;
     text.push(b'\n')?;
     write_text(sink, &text)?;
-    let ended = ended_at(&finding, &judge);
-    let replies = possible_for(&finding, &ended, &judge);
-    let note = note_if_room(alloc, asked, &finding, &ended, &replies);
-    show_witness(asked, &finding, &judge, witness);
-    Ok(Answered { verdict, note })
+    let note = note_of(alloc, asked, &finding, &judge);
+    let shown = show_witness(asked, &finding, &judge, witness);
+    Ok(Watched {
+        verdict,
+        note,
+        shown,
+    })
 }
 
-/// Serves a judgement, as `serve_stream` does.
+/// Serves a judgement, as `serve_stream` does, and answers what the shell of a program has to tell.
 pub(crate) fn serve_asked<S: Source, K: Sink, T: Sink, W: Sink>(
     alloc: Global,
     asked: Watching,
@@ -201,14 +178,27 @@ pub(crate) fn serve_asked<S: Source, K: Sink, T: Sink, W: Sink>(
     told: &mut T,
     witness: &mut W,
 ) -> Result<Answered, ServeFault>
-    ensures watched { HasWatched asked
-        (record { left = S.left source.old; reads = S.reads source.old; sent = K.sent sink.old; writes = K.writes sink.old })
-        (record { left = S.left source.new; reads = S.reads source.new; sent = K.sent sink.new; writes = K.writes sink.new })
+    ensures { HasWatched asked
+        (record {
+          ends = record { left = S.left source.old; reads = S.reads source.old; sent = K.sent sink.old; writes = K.writes sink.old };
+          told = record { sent = T.sent told.old; writes = T.writes told.old };
+          witness = record { sent = W.sent witness.old; writes = W.writes witness.old };
+        })
+        (record {
+          ends = record { left = S.left source.new; reads = S.reads source.new; sent = K.sent sink.new; writes = K.writes sink.new };
+          told = record { sent = T.sent told.new; writes = T.writes told.new };
+          witness = record { sent = W.sent witness.new; writes = W.writes witness.new };
+        })
         result }
-    ensures told { HasTold asked (S.left source.old) (S.left source.new) (S.reads source.old) (S.reads source.new)
-        (T.sent told.old) (T.sent told.new) (T.writes told.old) (T.writes told.new) result }
-    ensures shown { HasShown asked (S.left source.old) (S.left source.new) (S.reads source.old) (S.reads source.new)
-        (W.sent witness.old) (W.sent witness.new) (W.writes witness.old) (W.writes witness.new) }
 {
-    serve_stream(alloc, asked, source, sink, told, witness)
+    let Watched {
+        verdict,
+        note,
+        shown,
+    } = serve_stream(alloc, asked, source, sink, told, witness)?;
+    Ok(Answered {
+        verdict,
+        note,
+        no_witness: lack_of(&shown),
+    })
 }

@@ -3,16 +3,18 @@
 //! Bytes are taken 16 by 16: the header, by which the judge of the events is made, and then event after event. Those
 //! of a header or an event that is not whole yet are kept.
 
-ghost use Rattle.std.specs.Prelude.{◌≡◌, ◌+◌, ◌^◌, ◌<◌, ◌++◌, ◌∷◌, [], ⊤, IfOk, IfSome, IsSome, MatchOption, OnOk, List, None, Some, length, ℕ};
+ghost use Rattle.std.specs.Prelude.{◌≡◌, ◌+◌, ◌^◌, ◌<◌, ◌++◌, ◌∷◌, [], ⊤, IfOk, IsSome, MatchOption, OnOk, List, None, Some, length, ℕ};
 ghost use Rattle.stamp_core.specs.Limits.{Bounds};
 ghost use Rattle.stamp_watch.specs.declared.event.Event.{Event};
 ghost use Rattle.stamp_watch.specs.LateJudge.{HasFoundNothingLater, IsLateJudge, IsLateJudgeOfSome};
 ghost use Rattle.stamped_watch.specs.EventBytes.{kind_of};
 ghost use Rattle.stamped_watch.specs.Finding.{IsFindingOf, IsSoFar};
-ghost use Rattle.stamped_watch.specs.Possible.{ArePossibleIn, items_in};
+ghost use Rattle.stamped_watch.specs.declared.orders.Watching.{Watching};
+ghost use Rattle.stamped_watch.specs.declared.finding.Finding.TheVariants.{Stuck};
+ghost use Rattle.stamped_watch.specs.Possible.{AreToldOf, items_in};
 ghost use Rattle.stamped_watch.specs.Progress.{IsSoFarOf};
-ghost use Rattle.stamped_watch.specs.StreamJudge.{EndsInStream, ended_in, HasTaken, IsFed, IsFedSome, KeepsCall, KeepsFed, KeepsFedSome};
-ghost use Rattle.stamped_watch.specs.Witness.{IsTextIn};
+ghost use Rattle.stamped_watch.specs.StreamJudge.{EndsInStream, ended_in, HasTaken, IsFed, IsFedSome, KeepsCall, KeepsEndAt, KeepsFed, KeepsFedSome};
+ghost use Rattle.stamped_watch.specs.Witness.{IsText};
 ghost use Rattle.stamped_watch.specs.inner.StreamJudge.{AreCounted, EndsInRunOf, HasTakenSome, IsFoundUnless, IsGivenOne, IsOneMore, KeepsPart, KeepsSoFar, KeepsStill};
 
 use crate::event_bytes::event_in;
@@ -20,9 +22,8 @@ use crate::finding::{Finding, broken_at, finding_of, is_explained};
 use crate::header::header_in;
 use crate::misplaced::why_misplaced;
 use crate::so_far::SoFar;
-use crate::witness::witness_text;
-use stamp_core::{Call, Reply};
-use stamp_history::ReadError;
+use crate::witness::{NoWitness, witness_text};
+use stamp_core::Reply;
 use stamp_watch::{EndedCall, Event, LateJudge, StreamEvent};
 use std::alloc::{AllocError, Global};
 
@@ -269,44 +270,55 @@ impl StreamJudge {
         })
     }
 
-    /// The call that the event with this number ends, if it begins among the events that the judge keeps.
-    pub(crate) fn ended_at(&self, number: u64) -> Option<EndedCall>
-        ensures { result ≡ ended_in self.now.judge number }
+    /// The call that the event with this number ends, at which the stream was found stuck.
+    pub(crate) fn ended_at(&self, number: u64) -> EndedCall
+        requires { KeepsEndAt self.now.judge number }
+        ensures { ended_in self.now.judge number ≡ Some result }
     {
-        match &self.judge {
-            Some(judge) => judge.ended_at(number),
-            None => None,
+        let Some(judge) = &self.judge else {
+            unreachable!();
+        };
+        match judge.ended_at(number) {
+            Some(ended) => ended,
+            None => unreachable!(),
         }
     }
 
-    /// Which replies the call could have had that returns at the event with this number, if that can be told.
+    /// Which replies the call could have had that ends at the event with this number, at which the stream was found
+    /// stuck. Nothing where the call is given stamps or was withdrawn, a call before began late, or with one of the
+    /// replies too many configurations are possible.
     pub(crate) fn possible_at(
         &self,
         number: u64,
-        call: &Call,
+        ended: &EndedCall,
     ) -> Result<Option<Vec<Reply>>, AllocError>
-        requires { KeepsFedSome self.now }
+        requires keeps { KeepsFedSome self.now }
+        requires end { KeepsEndAt self.now.judge number }
+        requires ended { ended_in self.now.judge number ≡ Some ended.now }
         ensures { IfOk result (λ told. (ahead : ℕ) (fed : List ℕ) → KeepsFed ahead fed self.now
-            → ArePossibleIn fed number call.now (items_in told)) }
+            → AreToldOf ahead fed number ended.now (items_in told)) }
     {
         match &self.judge {
-            Some(judge) => judge.possible_at(number, call),
-            None => Ok(None),
+            Some(judge) => judge.possible_at(number, &ended.call),
+            None => unreachable!(),
         }
     }
 
-    /// The text of a witness that the stream is stuck at the event with this number, if one is found, and no call up to
-    /// there began late.
-    pub(crate) fn witness_at(&self, number: u64) -> Result<Option<Vec<u8>>, ReadError>
-        ensures { IfOk result (λ found. IfSome found (λ text. (ahead : ℕ) (fed : List ℕ) → KeepsFed ahead fed self.now
-            → IsTextIn fed number text.items)) }
+    /// The text of a witness that the stream is stuck at the event with this number, or why there is none. A search
+    /// for it gives up once it has looked at more than `most` configurations.
+    pub(crate) fn witness_at(&self, number: u64, most: u64) -> Result<Vec<u8>, NoWitness>
+        requires keeps { KeepsFedSome self.now }
+        requires end { KeepsEndAt self.now.judge number }
+        ensures { (asked : Watching) (fed : List ℕ) → asked.most ≡ most → KeepsFed asked.ahead fed self.now
+            → EndsInStream fed self.now.judge (Stuck number) → IsText asked fed number result }
     {
+        let ended = self.ended_at(number);
         let Some(judge) = &self.judge else {
-            return Ok(None);
+            unreachable!();
         };
         match judge.judge_up_to(number) {
-            Some(inner) => witness_text(self.alloc, inner, number, self.most),
-            None => Ok(None),
+            Some(inner) => witness_text(self.alloc, inner, number, &ended, most),
+            None => Err(NoWitness::BeganLate),
         }
     }
 }

@@ -1,14 +1,21 @@
 //! A small history that is stuck where a run is: a witness of that.
 
-ghost use Rattle.std.specs.Prelude.{IfOk, IfSome};
-ghost use Rattle.stamped_watch.specs.Witness.{IsCallOf, IsWitnessAt, IsWitnessOf, IsWitnessText};
+ghost use Rattle.std.specs.Prelude.{◌≡◌, ◌≢◌, ◌<◌, ◌++◌, ◌∷◌, [], IfOk, None, Some, length, min};
+ghost use Rattle.stamped_watch.specs.declared.witness.NoWitness.TheVariants.{Memory};
+ghost use Rattle.stamp_observed.specs.ObservedText.{observed_text};
+ghost use Rattle.stamp_watch.specs.Course.{KeepsEnd};
+ghost use Rattle.stamp_watch.specs.EndedCall.{ended_from};
+ghost use Rattle.stamp_watch.specs.Possible.{KeepsSome};
+ghost use Rattle.stamped_watch.specs.Witness.{IsCallOf, IsTextHere, lack_of};
+ghost use Rattle.stamped_watch.specs.inner.Witness.{IsSearchedFrom, IsSearchedHere};
 
 use crate::begun::Calls;
+use stamp_cli::Lack;
+use stamp_core::Reply;
 use stamp_explain::{Observation, Observed, Returned};
-use stamp_history::ReadError;
-use stamp_observed::{small_behind, write_observed};
+use stamp_observed::{SearchEnd, Sought, small_behind, write_observed};
 use stamp_watch::{EndedCall, Judge};
-use std::alloc::{AllocError, Global};
+use std::alloc::{AllocError, AllocFailed, Global};
 
 /// So many starts are tried at most.
 const MOST_STARTS: usize = 64;
@@ -16,21 +23,72 @@ const MOST_STARTS: usize = 64;
 /// A search for a witness looks at so many configurations at most.
 const MOST_SEARCHED: u64 = 16_384;
 
-/// The call that ended, as an observer tells it.
-fn observed_call(ended: &EndedCall, first: u64, last: u64) -> Option<Observation>
-    ensures { IfSome result (λ call. IsCallOf ended.now call) }
+/// Why there is no witness.
+#[derive(Drop)]
+pub enum NoWitness {
+    /// A call that begins no later than at the event began late.
+    BeganLate,
+    /// The call that ends there was withdrawn.
+    Withdrawn,
+    /// None was found, from each of these starts.
+    NotFound(Vec<Sought>),
+    /// Memory for it was refused.
+    Memory,
+}
+
+/// What is done for a witness.
+#[derive(Clone, Copy)]
+pub enum Shown {
+    /// Nothing: none is asked for, or the stream isn't stuck.
+    NotDue,
+    /// One was given to its sink.
+    Given,
+}
+
+impl From<AllocError> for NoWitness {
+    ghost from_gives = { λ _ why. why ≡ Memory };
+
+    fn from(_refused: AllocError) -> NoWitness {
+        NoWitness::Memory
+    }
+}
+
+impl<T: Drop> From<AllocFailed<T>> for NoWitness {
+    ghost from_gives = { λ _ why. why ≡ Memory };
+
+    fn from(_refused: AllocFailed<T>) -> NoWitness {
+        NoWitness::Memory
+    }
+}
+
+/// Why there is no witness, if one was due.
+pub(crate) fn lack_of(shown: &Result<Shown, NoWitness>) -> Option<Lack>
+    ensures { result ≡ lack_of shown.now }
 {
-    let reply = ended.reply?;
-    Some(Observation {
+    match shown {
+        Ok(_) => None,
+        Err(NoWitness::BeganLate) => Some(Lack::BeganLate),
+        Err(NoWitness::Withdrawn) => Some(Lack::Withdrawn),
+        Err(NoWitness::NotFound(_)) => Some(Lack::NotFound),
+        Err(NoWitness::Memory) => Some(Lack::Memory),
+    }
+}
+
+/// The call that ended with this reply, as an observer tells it.
+fn observed_call(ended: &EndedCall, reply: Reply, first: u64, last: u64) -> Observation
+    requires { ended.now.reply ≡ Some reply }
+    ensures { IsCallOf ended.now result }
+{
+    Observation {
         thread: ended.lane,
         call: ended.call,
         first,
         returned: Some(Returned { last, reply }),
-    })
+    }
 }
 
-/// A witness that begins at this start, if one is found: stuck at the call that ended at this place among the events
-/// that the judge keeps.
+/// A witness that begins at this start is sought: stuck at the call that ended so at this place among the events that
+/// the judge keeps.
 fn witness_from(
     alloc: Global,
     judge: &Judge,
@@ -38,27 +96,27 @@ fn witness_from(
     place: usize,
     ended: &EndedCall,
     most: u64,
-) -> Result<Option<Observed>, AllocError>
-    ensures { IfOk result (λ found. IfSome found (λ small.
-        IsWitnessOf judge.now.course.base.limits ended.now small)) }
+) -> Result<SearchEnd, AllocError>
+    requires keeps { KeepsSome judge.now }
+    requires start { start < length judge.now.course.base.positions.items }
+    requires reply { ended.now.reply ≢ None }
+    ensures { IfOk result (λ end. IsSearchedFrom judge.now ended.now most start end) }
 {
+    let Some(reply) = ended.reply else {
+        unreachable!();
+    };
     let Some(bits) = judge.word_at(start) else {
-        return Ok(None);
+        unreachable!();
     };
     let Some(word) = judge.limits().word_from_bits(bits) else {
-        return Ok(None);
+        unreachable!();
     };
-    let Some(before) = judge.kept_events().get(..place) else {
-        return Ok(None);
-    };
+    let events = judge.kept_events();
+    let before = &events[..place.min(events.len())];
     let mut calls = Calls::at_start(alloc, judge, start)?;
     calls.push_all(before)?;
-    let Some(first) = calls.take(ended.lane) else {
-        return Ok(None);
-    };
-    let Some(call) = observed_call(ended, first, place as u64 + 1) else {
-        return Ok(None);
-    };
+    let first = calls.take(ended.lane).unwrap_or(0);
+    let call = observed_call(ended, reply, first, before.len() as u64 + 1);
     let others = calls.observations(alloc)?;
     small_behind(alloc, judge.limits(), word, &others, &call, most)
 }
@@ -70,59 +128,68 @@ fn any_witness(
     place: usize,
     ended: &EndedCall,
     most: u64,
-) -> Result<Option<Observed>, AllocError>
-    ensures { IfOk result (λ found. IfSome found (λ small.
-        IsWitnessOf judge.now.course.base.limits ended.now small)) }
+) -> Result<Observed, NoWitness>
+    requires keeps { KeepsSome judge.now }
+    requires reply { ended.now.reply ≢ None }
+    ensures { IsSearchedHere judge.now ended.now most result }
 {
+    let mut in_vain = Vec::new(alloc);
     for start in 0..judge.starts().min(MOST_STARTS) {
-        let found = witness_from(alloc, judge, start, place, ended, most)?;
-        if found.is_some() {
-            return Ok(found);
+        match witness_from(alloc, judge, start, place, ended, most)? {
+            SearchEnd::Small(small) => return Ok(small),
+            SearchEnd::NotFound(sought) => in_vain.push(sought)?,
         }
     }
-    Ok(None)
+    Err(NoWitness::NotFound(in_vain))
 }
 
 /// A witness that the run is stuck at the event with this number: a small history that is stuck at the call which ends
 /// there. It begins where the events begin that the judge keeps. A run that is stuck there is so from one of the starts.
-/// None where that event is no return that is kept with the beginning of its call, or where none of the first 64 starts
-/// led to one: a search gives up once it has looked at more than `most` configurations, or 16,384.
+/// There is none of a call that was withdrawn, and none may be found from the first 64 starts: a search gives up once it
+/// has looked at more than `most` configurations, or 16,384.
 fn witness_of(
     alloc: Global,
     judge: &Judge,
     number: u64,
+    ended: &EndedCall,
     most: u64,
-) -> Result<Option<Observed>, AllocError>
-    ensures { IfOk result (λ found. IfSome found (λ small. IsWitnessAt judge.now number small)) }
+) -> Result<Observed, NoWitness>
+    requires keeps { KeepsSome judge.now }
+    requires end { KeepsEnd judge.now.course number }
+    ensures { IsSearchedHere judge.now ended.now (min most 16384) result }
 {
-    let Some(ended) = judge.ended_at(number) else {
-        return Ok(None);
-    };
-    let Some(place) = number.checked_sub(judge.first_kept()) else {
-        return Ok(None);
-    };
-    any_witness(
-        alloc,
-        judge,
-        place as usize,
-        &ended,
-        most.min(MOST_SEARCHED),
-    )
+    if ended.reply.is_none() {
+        return Err(NoWitness::Withdrawn);
+    }
+    let place = (number - judge.first_kept()) as usize;
+    any_witness(alloc, judge, place, ended, most.min(MOST_SEARCHED))
 }
 
-/// Such a witness as a text of one line, with its line feed.
+/// An observed history as a text of one line, with its line feed.
+fn line_of(alloc: Global, small: &Observed) -> Result<Vec<u8>, AllocError>
+    ensures { IfOk result (λ text. text.items ≡ observed_text small.now ++ 10 ∷ []) }
+{
+    let mut text = match write_observed(alloc, small) {
+        Ok(text) => text,
+        Err(_) => return Err(AllocError),
+    };
+    text.push(b'\n')?;
+    Ok(text)
+}
+
+/// Such a witness as a text.
 pub(crate) fn witness_text(
     alloc: Global,
     judge: &Judge,
     number: u64,
+    ended: &EndedCall,
     most: u64,
-) -> Result<Option<Vec<u8>>, ReadError>
-    ensures { IfOk result (λ found. IfSome found (λ text. IsWitnessText judge.now number text.items)) }
+) -> Result<Vec<u8>, NoWitness>
+    requires keeps { KeepsSome judge.now }
+    requires end { KeepsEnd judge.now.course number }
+    requires ended { ended_from judge.now.course.first judge.now.course.events.items number ≡ Some ended.now }
+    ensures { IsTextHere judge.now number ended.now (min most 16384) result }
 {
-    let Some(small) = witness_of(alloc, judge, number, most)? else {
-        return Ok(None);
-    };
-    let mut text = write_observed(alloc, &small)?;
-    text.push(b'\n')?;
-    Ok(Some(text))
+    let small = witness_of(alloc, judge, number, ended, most)?;
+    Ok(line_of(alloc, &small)?)
 }

@@ -20,7 +20,7 @@ use Rattle.stamp_watch.specs.declared.late_verdict.LateVerdict.TheVariants.{Is, 
 use Rattle.stamp_watch.specs.declared.online.Judge.{Judge}
 use Rattle.stamp_watch.specs.declared.verdict.Verdict.{Verdict}
 use Rattle.stamp_watch.specs.declared.verdict.Verdict.TheVariants as verdict
-use Rattle.stamp_watch.specs.Late.{IsLate, RestsOn, TellsOf}
+use Rattle.stamp_watch.specs.Late.{IsLate, IsLateFound, RestsOn, TellsOf}
 
 -- so it is before this event waits, whose lane has no call aside
 pub record HasBegun (limits : Bounds) (most ahead : ℕ) (run : List Event) (e : Event) (delay : Delay) : Type 0 where
@@ -72,13 +72,13 @@ abbrev pub IsAloneInFront : List Event → Type 0
 IsAloneInFront [] = ⊥
 IsAloneInFront (event ∷ behind) = IsToBeAside event behind
 
--- the verdict rests on what came before this event alone
+-- the verdict rests on what came before this event alone; that a run is broken does not rest on when calls begin
 abbrev pub RestsBefore : Verdict → ℕ → Type 0
 RestsBefore verdict.Explained n = Unit {0}
 RestsBefore (verdict.Stuck k) n = k < n
 RestsBefore (verdict.StuckWithin k m) n = m ≤ n
 RestsBefore (verdict.Undecided k why) n = ⊥
-RestsBefore (verdict.Broken k) n = ⊥
+RestsBefore (verdict.Broken k) n = Unit {0}
 
 -- no call is aside, and the events up to this one show that nothing is lost by the calls that began late
 abbrev pub IsSettled : List Event → Option ℕ → ℕ → Type 0
@@ -145,3 +145,8 @@ abbrev pub IsLateRest : Bounds → List Event → ℕ → ℕ → LateVerdict �
 IsLateRest limits run most ahead (Is verdict) = IsRest limits run most None verdict
 IsLateRest limits run most ahead (Late k) = (later : List Event) → IsOver run later →
     IsLate limits (run ++ later) most ahead k
+
+-- what is found of a run whose next event may not come there, whatever comes later
+abbrev pub IsLateBreak : Bounds → List Event → ℕ → ℕ → LateVerdict → Type 0
+IsLateBreak limits run most ahead finding = (e : Event) → ¬ AreOfLock (run ++ e ∷ []) →
+    IsLateFound limits (run ++ e ∷ []) most ahead finding

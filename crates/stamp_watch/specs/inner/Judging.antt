@@ -18,7 +18,7 @@ use Rattle.stamp_watch.specs.AsObserved.{ending_of}
 use Rattle.stamp_watch.specs.Foretold.{ends_as}
 use Rattle.stamp_watch.specs.Judging.{IsJudging}
 use Rattle.stamp_watch.specs.Run.{AreExplained}
-use Rattle.stamp_watch.specs.Verdict.{AreOfLock, AreTooMany, NoMoreAreOfLock, is_lock_reply}
+use Rattle.stamp_watch.specs.Verdict.{AreTooMany, IsInFormUpTo, is_lock_reply}
 use Rattle.stamp_watch.specs.inner.Lanes.{SetsBit}
 
 abbrev pub IsFreeLane : ℕ → ℕ → Type 0
@@ -43,12 +43,6 @@ SetsBusy busy (event.Withdraws lane) after = SetsBit busy after lane 0
 abbrev pub IsBusyThen : ℕ → Event → Option ℕ → Type 0
 IsBusyThen busy e None = ¬ MayComeIn busy e
 IsBusyThen busy e (Some after) = MayComeIn busy e × SetsBusy busy e after
-
--- so many of the events, from the first on, are in form
-pub record IsInFormUpTo (events : List Event) (k : ℕ) : Type 0 where
-  pub within : k ≤ length events
-  pub whole : AreOfLock (take k events)
-  pub broken : NoMoreAreOfLock events k
 
 -- these are all events, from the first on, that are in form
 pub record AreTaken (events taken : List Event) : Type 0 where

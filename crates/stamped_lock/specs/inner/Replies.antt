@@ -1,4 +1,4 @@
--- Which calls never lose.
+-- Which calls never lose, and which only ask.
 use Rattle.stamp_core.specs.declared.call.Call.{Call}
 use Rattle.stamp_core.specs.declared.call.Call.TheVariants.{Optimistic, Validate, UnlockWrite}
 use Rattle.stamp_core.specs.declared.call.Call.TheVariants.{IsWriteLocked, IsReadLocked, ReadCount}
@@ -13,3 +13,12 @@ NeverLoses IsWriteLocked = Unit {0}
 NeverLoses IsReadLocked = Unit {0}
 NeverLoses ReadCount = Unit {0}
 NeverLoses _ = ⊥
+
+-- the calls that change nothing: they only ask
+abbrev pub AsksOnly : Call → Type 0
+AsksOnly Optimistic = Unit {0}
+AsksOnly (Validate s) = Unit {0}
+AsksOnly IsWriteLocked = Unit {0}
+AsksOnly IsReadLocked = Unit {0}
+AsksOnly ReadCount = Unit {0}
+AsksOnly _ = ⊥

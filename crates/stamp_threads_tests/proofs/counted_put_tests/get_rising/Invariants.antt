@@ -1,5 +1,5 @@
 use Rattle.std.proofs.Common.{◌≡◌}
 use Rattle.stamp_threads_tests.proofs.counted_put_tests.get_rising.Given as goal
 
-abbrev pub invariant-loop : goal.invariant-loop
-invariant-loop l = l.pass.table ≡ l.shared.table
+abbrev pub invariant-loop-i : goal.invariant-loop-i
+invariant-loop-i g l = l.pass.table ≡ l.shared.table

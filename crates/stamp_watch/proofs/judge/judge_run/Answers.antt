@@ -3,8 +3,8 @@ use Rattle.std.specs.Prelude.{take}
 use Rattle.std.proofs.lemmas.Result.{IfOk-weaker}
 use Rattle.stamp_watch.specs.declared.event.Event.{Event}
 use Rattle.stamp_watch.specs.Judging.{IsFound}
-use Rattle.stamp_watch.specs.inner.Judging.{IsInFormUpTo, IsOutcome}
-use Rattle.stamp_watch.specs.Verdict.{AreOfLock}
+use Rattle.stamp_watch.specs.inner.Judging.{IsOutcome}
+use Rattle.stamp_watch.specs.Verdict.{AreOfLock, IsInFormUpTo}
 use Rattle.stamp_watch.proofs.Judged.{broken_at, explained_whole, found_in_whole, undecided_at, base_first}
 use Rattle.stamp_watch.proofs.Judged.{judging_from_first, stuck_behind}
 use Rattle.stamp_watch.proofs.Taking.{taken_whole}

@@ -2,7 +2,6 @@ use Rattle.std.proofs.Common.{◌≡◌, true, rules}
 use Rattle.std.specs.Prelude.{IsErrAnd}
 use Rattle.stamp_cli.specs.declared.faults.ServeFault.{ServeFault}
 use Rattle.stamp_cli.specs.declared.faults.ServeFault.TheVariants.{Memory, WriteFault}
-use Rattle.stamped_watch.specs.Possible.{items_in}
 use Rattle.stamped_watch.proofs.ReadingOn.{reads_none, writes_none}
 use Rattle.stamped_watch.proofs.LinesTold.{told_nothing, told_of_answer}
 use Rattle.stamp_cli.specs.Results.{any_since}
@@ -40,26 +39,15 @@ returns-clause-ok g c =
       c.in_ok-finding.ensures.found,
       record {
         verdict = search rules;
-        ended = c.ended_at-ended.result;
-        replies = items_in c.possible_for-replies.result;
-        note = search rules;
         bytes = all.bytes;
         took = all.took;
         count = all.count;
-        call = c.ended_at-ended.ensures all.bytes all.there;
-        possible = c.possible_for-replies.ensures c.args.asked.ahead all.bytes all.keeps;
+        note = c.note_of-note.ensures all.bytes all.keeps all.there;
+        witness = c.show_witness-shown.ensures all.bytes all.keeps all.there;
       },
       search rules,
       search rules,
     )
-
-pub possible_for-replies-requires : goal.possible_for-replies-requires
-possible_for-replies-requires g c =
-    let all = c.in_ok-finding.ensures.keeps in record {
-      ahead = c.args.asked.ahead;
-      fed = all.bytes;
-      keeps = all.keeps;
-    }
 
 pub returns-in_err-write_text-clause-writes : goal.returns-in_err-write_text-clause-writes
 returns-in_err-write_text-clause-writes g c =
@@ -69,8 +57,3 @@ returns-in_err-write_text-clause-writes g c =
     written_badly (g.K.Sink.sent c.args.sink.now) (g.K.Sink.sent c.write_text.new.sink)
     (g.K.Sink.writes c.args.sink.now) (g.K.Sink.writes c.write_text.new.sink) c.from_residual-in_err-write_text.result
     is any
-
-pub returns-clause-shown : goal.returns-clause-shown
-returns-clause-shown g c = c.show_witness.ensures (g.S.Source.left c.args.source.now)
-    (g.S.Source.left c.fed_from.new.source) (g.S.Source.reads c.args.source.now)
-    (g.S.Source.reads c.fed_from.new.source) c.in_ok-finding.ensures.found c.in_ok-finding.ensures.keeps

@@ -16,9 +16,9 @@ returns-then-unwritten g c =
         stamp = c.in-Some.stamp;
         some = some;
         between = before;
-        began = c.in-Some.ensures;
+        began = c.in-Some.ensures.made;
         ran = search rules;
         ended = valid;
       };
-      unwritten = unwritten c.in-Some.stamp c.args.self.now before after some c.in-Some.ensures valid;
+      unwritten = unwritten c.in-Some.stamp c.args.self.now before after some c.in-Some.ensures.made valid;
     })

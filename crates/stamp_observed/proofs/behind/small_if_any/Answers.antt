@@ -1,0 +1,42 @@
+use Rattle.std.proofs.Common.{◌≡◌, ◌≤◌, ◌+◌, IfSome, arith, length, rules}
+use Rattle.stamp_core.specs.LockEvent.{write_count}
+use Rattle.stamp_observed.specs.declared.behind.StuckHistory.{StuckHistory}
+use Rattle.stamp_observed.specs.inner.Behind.{IsFaultWith, IsStuckBehind}
+use Rattle.stamp_observed.proofs.StuckBehind.{few_more, stuck_with, stuck_with_few}
+use Rattle.stamp_observed.proofs.behind.small_if_any.Goals as goal
+
+pub small_of-requires-clause-observed : goal.small_of-requires-clause-observed
+small_of-requires-clause-observed c =
+    let with : IsFaultWith c.args.ended.now c.in-Some.fault = search rules in
+    let some : IfSome c.in_ok-stuck.field-0 (λ (s : StuckHistory). IsStuckBehind c.args.limits c.args.ended.now s) =
+    c.in_ok-stuck.ensures c.args.ended.now with in
+    let is : IsStuckBehind c.args.limits c.args.ended.now c.in-Some-2.stuck = search rules in is.observed
+
+pub small_of-requires-clause-stuck : goal.small_of-requires-clause-stuck
+small_of-requires-clause-stuck c =
+    let with : IsFaultWith c.args.ended.now c.in-Some.fault = search rules in
+    let some : IfSome c.in_ok-stuck.field-0 (λ (s : StuckHistory). IsStuckBehind c.args.limits c.args.ended.now s) =
+    c.in_ok-stuck.ensures c.args.ended.now with in
+    let is : IsStuckBehind c.args.limits c.args.ended.now c.in-Some-2.stuck = search rules in is.stuck
+
+pub returns-clause-stuck : goal.returns-clause-stuck
+returns-clause-stuck c =
+    let with : IsFaultWith c.args.ended.now c.in-Some.fault = search rules in
+    let some : IfSome c.in_ok-stuck.field-0 (λ (s : StuckHistory). IsStuckBehind c.args.limits c.args.ended.now s) =
+    c.in_ok-stuck.ensures c.args.ended.now with in
+    let is : IsStuckBehind c.args.limits c.args.ended.now c.in-Some-2.stuck = search rules in
+    stuck_with c.args.limits c.args.ended.now c.args.most c.in-Some-2.stuck c.in_ok-small_of.field-0 is
+    c.in_ok-small_of.ensures
+
+pub returns-clause-few : goal.returns-clause-few
+returns-clause-few c limits events range represents =
+    let with : IsFaultWith c.args.ended.now c.in-Some.fault = search rules in
+    let some : IfSome c.in_ok-stuck.field-0 (λ (s : StuckHistory). IsStuckBehind c.args.limits c.args.ended.now s) =
+    c.in_ok-stuck.ensures c.args.ended.now with in
+    let is : IsStuckBehind c.args.limits c.args.ended.now c.in-Some-2.stuck = search rules in
+    let writes : c.writes.result ≡ write_count events = c.writes.ensures limits events range represents in
+    let within : c.saturating_add.result ≤ write_count events + length c.args.others.now + 1 =
+    omega (arith, writes, c.saturating_add-versions.ensures, c.saturating_add.ensures) in
+    few_more within (stuck_with_few c.args.limits c.args.ended.now c.args.most c.in-Some-2.stuck
+    c.in_ok-small_of.field-0 c.saturating_add.result is c.in_ok-small_of.ensures
+    (c.leaves_out_few.ensures c.if-not-leaves_out_few.false))
