@@ -8,7 +8,7 @@
 # minutes). The archive is then FOLDER/crates/stamped_c/out/libstamped_c.a.
 set -euo pipefail
 top=$(cd "$(dirname "$0")/../.." && pwd)
-library=${2:+$(cd "$2" && pwd)}
+library=${2:+$(cd "$2" && pwd -P)}
 mkdir "$1"
 cd "$1"
 
