@@ -9,6 +9,7 @@ be tried, beside which others are; no edits at all; libraries that don't belong 
 and a crate of which a gate counts other functions that may wait than crates.txt says."""
 import os
 import shutil
+import signal
 import subprocess
 import sys
 import tempfile
@@ -178,12 +179,13 @@ def build(top, crate):
 
 
 def kill_a_gate(top):
-    """Begins a gate, and kills it once it has proved a crate."""
-    gate = subprocess.Popen(["rt", "ci"], cwd=top, stdout=subprocess.PIPE, stderr=subprocess.STDOUT, text=True)
+    """Begins a gate, and kills it, with all that it started, once it has proved a crate."""
+    gate = subprocess.Popen(["rt", "ci"], cwd=top, stdout=subprocess.PIPE, stderr=subprocess.STDOUT, text=True,
+                            start_new_session=True)
     for line in gate.stdout:
         if line.startswith("rt: lowest "):
             break
-    gate.kill()
+    os.killpg(gate.pid, signal.SIGKILL)
     gate.communicate()
 
 

@@ -3,10 +3,11 @@
     refused_memory.py SHIM STAMPED EXPLAIN WATCH PICTURE TRIAL
 
 With ample memory each ends as the table says. A refused run of `stamped`, `stamped_explain`, `stamped_watch`
-or `stamped_picture` ends with the memory line (or with none, where memory for the line is refused too),
-status 1 and nothing on standard output, or as with ample memory; where a note or a witness is due, also with a line
-that there was no memory for it. One of TRIAL ends with status 1 and no output, or as with ample memory. A refused
-step of a schedule is made again there, so some refused runs end as with ample memory.
+or `stamped_picture` ends with the memory line, status 1 and nothing on standard output, or as with ample memory;
+where a note or a witness is due, also with a line that there was no memory for it. Each of these lines is told in
+some run: one allocation alone is refused, so there is memory for the line. Where another fault is told with ample
+memory, that for its line may be refused, and then none is told. One of TRIAL ends with status 1 and no output, or as
+with ample memory. A refused step of a schedule is made again there, so some refused runs end as with ample memory.
 
 No run leaves a block: what a refused call was given by value, or had made, is dropped. With a word
 of REFUSALS, TRIAL makes calls that are refused for another cause than want of memory.
@@ -81,6 +82,7 @@ FOUND = (
     b'{"call":["unlock",384],"first":192,"last":383,"point":192,"reply":"done","thread":0}],'
     b'"format":1,"readers":1,"versions":1,"width":0}\n'
 )
+SILENT = (1, b"", b"")
 NO_INPUT = (1, b"", b"stamped_explain: no input\n")
 TRIED_LINE = (
     b"stamped_explain: 0 of 2 calls overlapped another; failed: attempts 0, validations 0, conversions 0\n"
@@ -129,27 +131,30 @@ def drawn(picture, text, status, *words):
 
 
 def runs_of(runs, words, text, wanted, refusals):
-    """Refuses each allocation, one in each run; returns how many there were, and how many runs bore it."""
+    """Refuses each allocation, one in each run; returns how many there were, and how many runs bore it. Each of
+    the refusals must come."""
     ample, _ = runs.ended(words, text)
     if ample != wanted:
         sys.exit(f"{words}: {ample}, and not {wanted}")
-    borne = 0
+    # Memory for the line that tells of another fault may be refused.
+    borne, ends, silent = 0, set(), [SILENT] if ample[:2] == SILENT[:2] else []
     for number in range(1, MOST):
         answer, was_refused = runs.ended(words, text, REFUSE=number)
-        if answer != ample and not (was_refused and answer in refusals):
+        if answer != ample and not (was_refused and answer in [*refusals, *silent]):
             sys.exit(f"{words} with allocation {number} refused: {answer}, and not {ample}")
         if not was_refused:
+            if not ends.issuperset(refusals):
+                sys.exit(f"{words}: of {number - 1} refused runs none ended with one of {refusals}")
             return number - 1, borne
         borne += answer == ample
+        ends.add(answer)
     sys.exit(f"{words}: over {MOST} allocations")
 
 
 def main():
     shim, stamped, explain, watch, picture, trial = (os.path.abspath(path) for path in sys.argv[1:])
     runs = CountedRuns(shim)
-    told, untold, unwatched, undrawn = (
-        [(1, b"", line_of(it, "memory")), (1, b"", b"")] for it in (stamped, explain, watch, picture)
-    )
+    told, untold, unwatched, undrawn = ([(1, b"", line_of(it, "memory"))] for it in (stamped, explain, watch, picture))
     unwitnessed = [(1, b"stuck 4\n", line_of(watch, "no memory for the witness") + UNREAD_LINE)]
     table = [
         ([stamped, "replay"], REPLAY, (0, REPLIES, b""), told),
@@ -206,7 +211,7 @@ def main():
         ([picture, "--from", "2"], b"", bad_line(picture), undrawn),
         ([picture, "--text", "--width", "0"], b"", bad_line(picture), undrawn),
     ]
-    right = b"", (0, b"right\n", b""), [(1, b"", b"")]
+    right = b"", (0, b"right\n", b""), [SILENT]
     table += [([trial, word], *right) for word in [*REFUSALS, "worked", "make", "check", "migrate"]]
     table += [([trial], *right)]
     trials = {}

@@ -3,8 +3,8 @@
     calls.py [--write]
 
 Run at the top of the repository. A library is a crate with a `lib.rt`, but for those of tests. What `lib.rt` exports is
-listed by its file, in the file's order: the signature, and the first sentence of its doc comment. The names that it
-hands on from another library stand before that. What lies between the two marks on the page is the script's, and the
+listed by its file, in the file's order: the signature, an enum's variants or a struct's public fields, and the first
+sentence of its doc comment. The names that it hands on from another library stand before that. What lies between the two marks on the page is the script's, and the
 rest is kept."""
 import glob
 import itertools
@@ -79,6 +79,18 @@ def with_impl(signature):
     return name + (f"<{', '.join(kept)}>" if kept else "") + rest
 
 
+def members(kind, text):
+    """The variants of an enum, or the public fields of a struct, in braces on one line; nothing where there are none."""
+    opened = re.search(r"^[^{;(]*\{", text)
+    if kind not in ("enum", "struct") or not opened:
+        return ""
+    body, _ = bracketed(re.sub(r"//[^\n]*|#\[[^\n]*\]\n", "", text[opened.end() - 1:].replace("{", "(").replace("}", ")")))
+    parts = [re.sub(r" \( (.*?),? \)$", r" { \1 }", re.sub(r"\s+", " ", it)) for it in parts_of(body[1:-1])]
+    if kind == "struct":
+        parts = [it.removeprefix("pub ") for it in parts if it.startswith("pub ")]
+    return f" {{ {', '.join(it.partition(' = ')[0] for it in parts)} }}" if parts else ""
+
+
 # Items.
 
 class Item:
@@ -88,7 +100,7 @@ class Item:
         self.name, self.owner, self.path = name, owner, path
         self.told = first_sentence(comment)
         path_of = f"{owner}::" if owner else ""
-        self.signature = path_of + with_impl(header(text)) if kind == "fn" else f"{kind} {path_of}{header(text)}"
+        self.signature = path_of + with_impl(header(text)) if kind == "fn" else f"{kind} {path_of}{header(text)}{members(kind, text)}"
 
     def row(self):
         return f"- `{self.signature}`: {self.told}."

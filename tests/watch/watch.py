@@ -7,8 +7,9 @@ withdrawn, and some under way at the end. Their streams are explained, with all 
 stream is stuck at an event exactly where what was seen by then is stuck as a history, and is explained before; where
 no call is withdrawn, it is so of the whole history, too. Both programs tell the same call and reply, and, but for
 stamps, the same possible replies. A witness of a stuck stream is a history that is stuck at the same call, and found of
-nine in ten; of no other stream is one written. Progress is told each 2^24 events. Broken streams are told at their event. A stream may come in pieces of any length, the program ends once something is found, and long streams take no more memory than
-short ones."""
+nine in ten, behind many events, too; of no other stream is one written. Without one its file stays, and if one was due
+it is told why. Progress is told each 2^24 events. Broken streams are told at their event. A stream may come in pieces
+of any length, the program ends once something is found, and long streams take no more memory than short ones."""
 import contextlib
 import json
 import os
@@ -239,20 +240,80 @@ def try_stuck(watch):
     return len(STUCK)
 
 
+SHORT = [(header() + events, told) for events, told in STUCK]
+# The judge has let go of the first events.
+LONG = [
+    (header() + SEEN * 4_000 + STUCK[3][0], "8004, lane 1: validate 256 answered yes; possible: no"),
+    (header() + SEEN * 4_000 + STUCK[4][0], "8003, lane 1: unlock_write 384 answered mismatch; possible: done"),
+]
+# The first options, and whether the stream is in a file that is named last.
+FORMS = [([], False), ([], True), (["--progress"], False), (["--progress"], True), (["--most", "99"], True)]
+LACKS = [
+    (LATE[-1][0], ["--ahead", "66"], "stuck 21", "no witness where a call began late",
+     "event 21, lane 2: optimistic answered 256"),
+    # Its effect was seen.
+    (event(2) + event(14, 1) + event(YES, 1) + event(WITHDRAWN), [], "stuck 3", "no witness of a withdrawn call",
+     "event 3, lane 0: write_lock was withdrawn"),
+    # A witness has another call, so that a search looks at more than one configuration.
+    (STUCK[3][0], ["--most", "1"], "stuck 4", "no witness was found", f"event {STUCK[3][1]}"),
+]
+NOT_STUCK = [
+    (SEEN, [], "ok 1"), (LATE[1][0], ["--ahead", "66"], "undecided 1"), (READ + READ, [], "bad 1 open"),
+    (READ + event(STAMP, 3, 257)[:15], [], "bad 1 cut"),
+]
+OLD = "an old text\n"
+
+
+def must_have_witness(watch, explain, path, told, stream, *words):
+    """The stream is stuck as is told, and its witness, too. Counts the calls of that."""
+    line, note = judged(watch, stream, *words)
+    must_be("witness", (line, note), (f"stuck {told.partition(',')[0]}", f"stamped_watch: event {told}"))
+    must_be(f"witness of {words}", os.path.exists(path), True)
+    return must_be_witness("witness", explain, path, note)
+
+
+def try_forms(watch, explain, path):
+    """A witness is written whatever is asked for besides."""
+    stream, told = SHORT[0]
+    run_events = path + ".events"
+    with open(run_events, "wb") as file:
+        file.write(stream)
+    for first, is_named in FORMS:
+        given = (b"", *first, "--witness", path, run_events) if is_named else (stream, *first, "--witness", path)
+        must_have_witness(watch, explain, path, told, *given)
+
+
+def try_without_witness(watch, path):
+    """Where no witness is written FILE stays: it isn't made, and an old text is there afterwards. If one was due it is
+    told why there is none."""
+    rows = [(*row, f"stamped_watch: {lack}\nstamped_watch: {note}") for *row, lack, note in LACKS]
+    for events, words, line, *told in [*rows, *NOT_STUCK]:
+        given = (header() + events, *words, "--witness", path)
+        for old in (None, OLD):
+            if old:
+                with open(path, "w", encoding="utf-8") as file:
+                    file.write(old)
+            found, *note = judged(watch, *given)
+            must_be("no witness", (found, note[:len(told)]), (line, told))
+            must_be("no witness", os.path.exists(path), old is not None)
+        with open(path, encoding="utf-8") as file:
+            must_be("no witness", file.read(), OLD)
+        os.remove(path)
+
+
 def try_witnesses(watch, explain, path):
-    """Where it can't be written the answer is the same. Of a stream that isn't stuck at a return none is written."""
-    for events, told in STUCK:
-        line, note = judged(watch, header() + events, "--ahead", "99", "--witness", path, "--most", "99")
-        must_be("witness", (line, note), (f"stuck {told.partition(',')[0]}", f"stamped_watch: event {told}"))
-        must_be_witness("witness", explain, path, note)
-    events, told = STUCK[0]
+    """Where it can't be written the answer is the same."""
+    for stream, told in SHORT:
+        must_have_witness(watch, explain, path, told, stream, "--ahead", "99", "--witness", path, "--most", "99")
+    for stream, told in LONG:
+        calls = must_have_witness(watch, explain, path, told, stream, "--witness", path)
+        must_be("another call in the witness", calls > 1, True)
+    stream, told = SHORT[0]
     for unwritten in (os.path.join(path, "none"), "/dev/full"):
-        must_be("unwritten", judged(watch, header() + events, "--witness", unwritten),
+        must_be("unwritten", judged(watch, stream, "--witness", unwritten),
                 ("stuck 2", f"stamped_watch: can't write the witness\nstamped_watch: event {told}"))
-    for stream, found in ((header() + SEEN, "ok 1"), (header() + READ + READ, "bad 1 open"),
-                          (header() + READ + event(STAMP, 3, 257)[:15], "bad 1 cut")):
-        must_be("no witness", judged(watch, stream, "--witness", path)[0], found)
-        must_be("no witness", os.path.exists(path), False)
+    try_forms(watch, explain, path)
+    try_without_witness(watch, path)
 
 
 def fed(command, pieces, **words):

@@ -8,6 +8,8 @@ mod counted_put_tests;
 #[cfg(test)]
 mod enter_tests;
 #[cfg(test)]
+mod limits_tests;
+#[cfg(test)]
 mod lock_tests;
 #[cfg(test)]
 mod looks;

@@ -23,7 +23,7 @@ fn shared_book(alloc: Global) -> Result<Arc<Shared, Global>, Fail> {
 #[derive(Drop)]
 struct Told {
     both: Barrier,
-    /// The stamp that it was answered, 0 for none, and one more; 0 before.
+    /// The stamp that it was answered, 0 for none, and one more; 0 until it has made all its calls.
     stamp: AtomicU64,
 }
 
@@ -70,15 +70,15 @@ impl Waiter {
     }
 }
 
-/// Makes the call, tells the stamp, and releases.
+/// Makes the call, releases, and tells the stamp then.
 fn acquire_once<R: Wait>(rt: &R, shared: &Shared, thread: u64, call: Call, told: &Told)
     requires thread { thread < 64 }
     requires lock_call { IsTrue (is_lock_call call) }
 {
     told.both.wait(rt);
     if let Ok(Reply::Stamp(stamp)) = shared.call(rt, thread, call) {
-        told.stamp.store(stamp.saturating_add(1), Ordering::SeqCst);
         let _ = shared.call(rt, thread, Call::Unlock(stamp));
+        told.stamp.store(stamp.saturating_add(1), Ordering::SeqCst);
     }
 }
 
@@ -178,6 +178,31 @@ fn a_downgrade_wakes_the_reader_among_writers(rt: HostRuntime) -> Result<(), Fai
         let mut written = [first.stamp(), second.stamp(), third.stamp()];
         written.sort_unstable();
         assert!(rt; written == [Some(640), Some(896), Some(1_152)]);
+    }
+    Ok(())
+}
+
+/// So it isn't enough to wake half of those who wait. All come in at last, and leave.
+#[test]
+fn a_downgrade_wakes_the_reader_behind_eight_writers(rt: HostRuntime) -> Result<(), Fail> {
+    for _ in 0..4u64 {
+        let shared = shared_book(rt.alloc())?;
+        assert!(rt; tells(&rt, &shared, 0, Call::WriteLock, Ok(Reply::Stamp(384))));
+        let mut writers = Vec::new(rt.alloc());
+        for thread in 1..=8u64 {
+            let writer = Waiter::start(&rt, rt.alloc(), &shared, thread, Call::WriteLock)?;
+            writers.push(writer)?;
+        }
+        let reader = Waiter::start(&rt, rt.alloc(), &shared, 9, Call::ReadLock)?;
+        assert!(rt; tells(&rt, &shared, 0, Call::ToRead(384), Ok(Reply::Stamp(513))));
+        assert!(rt; reader.stamp() == Some(514));
+        assert!(rt; tells(&rt, &shared, 0, Call::UnlockRead(513), Ok(Reply::Done)));
+        let mut written = [0; 8];
+        for (stamp, writer) in written.iter_mut().zip(writers.iter()) {
+            *stamp = writer.stamp().ok_or("a writer waits for ever")?;
+        }
+        written.sort_unstable();
+        assert!(rt; written == [640, 896, 1_152, 1_408, 1_664, 1_920, 2_176, 2_432]);
     }
     Ok(())
 }

@@ -29,10 +29,10 @@ use Rattle.stamp_watch.proofs.PossibleLate.{keeps_beside, keeps_of}
 use Rattle.stamp_watch.proofs.Running.{broken_found, over_broken, over_here, rest_now}
 
 small_of : (limits : Bounds) (most ahead : ℕ) (run : List Event) (delay : Delay) →
-    IsDelayed limits most ahead run delay → length delay.waiting.events.items ≤ ahead + 1 → IsSmallDelay ahead delay
+    IsDelayed limits most ahead run delay → length delay.waiting.events.items ≤ ahead + 1 →
+    IsSmallDelay most ahead delay
 small_of limits most ahead run delay is few = record {
   limits = limits;
-  most = most;
   given = is.given;
   judge_of = is.judge_of;
   waiting = few;
@@ -67,7 +67,7 @@ goes_on limits most ahead run judge delayed going lanes few room none = record {
 }
 
 pub has_found : (limits : Bounds) (most ahead : ℕ) (run : List Event) (judge : LateJudge) (f : LateVerdict) →
-    judge.delay.ahead ≡ ahead - 64 → IsSmallDelay ahead judge.delay → KeepsLater limits run judge →
+    judge.delay.ahead ≡ ahead - 64 → IsSmallDelay most ahead judge.delay → KeepsLater limits run judge →
     KeepsEndLate judge.delay f → EndsInRunLate run judge.delay f → judge.found ≡ Some f →
     IsLateFound limits run most ahead f → IsLateJudge limits most ahead run judge
 has_found limits most ahead run judge f window small keeps tells there some found = record {

@@ -171,6 +171,7 @@ module _ (limits : Bounds) (run given : List Event) (k : ℕ) (less : k < length
       (λ in_found. let has = (is.each reply).0 in_found in (has.0, possible_then reply has.1)),
       (λ has. (is.each reply).1 (has.0, possible_before reply has.1)),
     );
+    once = is.once;
   }
 
   too_many_then : (most : ℕ) (tried : List LockReply) → AreTooManyWith limits given k most tried →

@@ -169,10 +169,9 @@ pub record IsDelayed (limits : Bounds) (most ahead : ℕ) (run : List Event) (de
 abbrev pub kept_of : Delay → ℕ
 kept_of delay = length delay.waiting.events.items + length delay.aside.items + length delay.judge.course.events.items
 
--- few events are kept
-pub record IsSmallDelay (ahead : ℕ) (delay : Delay) : Type 0 where
+-- few events are kept, by a judge that goes on with so many configurations
+pub record IsSmallDelay (most ahead : ℕ) (delay : Delay) : Type 0 where
   pub limits : Bounds
-  pub most : ℕ
   pub given : List Event
   pub judge_of : IsJudge limits most (reach_of ahead) given delay.judge
   pub waiting : length delay.waiting.events.items ≤ ahead + 1

@@ -49,7 +49,7 @@ EndsInRunLate run delay (Late k) = Unit {0}
 -- events, by which it can judge again; among these is what tells of the event at which the run was found stuck
 pub record IsLateJudge (limits : Bounds) (most ahead : ℕ) (run : List Event) (judge : LateJudge) : Type 0 where
   pub window : judge.delay.ahead ≡ ahead - 64
-  pub small : IsSmallDelay ahead judge.delay
+  pub small : IsSmallDelay most ahead judge.delay
   pub keeps : KeepsLater limits run judge
   pub state : MatchOption judge.found (IsLateUnderWay limits most ahead run judge)
       (λ finding. IsLateFound limits run most ahead finding)

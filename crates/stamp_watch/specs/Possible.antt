@@ -1,9 +1,9 @@
 -- Which replies were possible at a return of a run, and what a judge keeps of the run for that.
-use Rattle.std.specs.Prelude.{ℕ, ◌≡◌, ◌-◌, ◌+◌, ◌^◌, ◌<◌, ◌≤◌, ◌↔◌, ◌++◌, List, [], ◌∷◌, length, take, map, slice_get}
+use Rattle.std.specs.Prelude.{ℕ, ◌≡◌, ◌≢◌, ◌-◌, ◌+◌, ◌^◌, ◌<◌, ◌≤◌, ◌↔◌, ◌++◌, List, [], ◌∷◌, length, take, map, slice_get}
 use Rattle.std.specs.Prelude.{Option, Some, None, MatchOption, Vec}
 use Rattle.std.specs.declared.alloc.Global.{Global}
 use Rattle.std.proofs.Common.{zero, suc}
-use Rattle.std.specs.List.{Contains}
+use Rattle.std.specs.List.{AllPairs, Contains}
 use Rattle.stamp_core.specs.Limits.{Bounds}
 use Rattle.stamp_core.specs.LockDecision.{reply_as}
 use Rattle.stamp_core.specs.declared.call.Call.{Call}
@@ -29,11 +29,12 @@ pub record IsPossibleReply (limits : Bounds) (run : List Event) (k : ℕ) (reply
   pub there : slice_get run k ≡ Some (Returns lane own)
   pub explained : AreExplained limits (take k run ++ Returns lane reply ∷ [])
 
--- of the replies that were tried these are the possible ones
+-- of the replies that were tried these are the possible ones, all different if those are
 pub record ArePossibleAmong (limits : Bounds) (run : List Event) (k : ℕ) (tried : List LockReply)
     (found : List Reply) : Type 0 where
   pub each : (reply : Reply) →
       Contains found reply ↔ (Contains (map reply_as tried) reply × IsPossibleReply limits run k reply)
+  pub once : AllPairs (λ (a b : Reply). a ≢ b) (map reply_as tried) → AllPairs (λ (a b : Reply). a ≢ b) found
 
 -- with this reply there are too many configurations before some event
 pub record AreTooManyFor (limits : Bounds) (run : List Event) (k most : ℕ) (reply : LockReply) : Type 0 where

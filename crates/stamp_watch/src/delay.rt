@@ -137,9 +137,9 @@ impl Delay {
 
     /// How many events it keeps.
     pub(crate) fn kept(&self) -> usize
-        requires { (ahead : ℕ) × IsSmallDelay ahead self.now }
+        requires { (most : ℕ) × (ahead : ℕ) × IsSmallDelay most ahead self.now }
         ensures many { kept_of self.now < 2 ^ 64 → result ≡ kept_of self.now }
-        ensures few { (ahead : ℕ) → IsSmallDelay ahead self.now → result ≤ 4 * (ahead + 1024) }
+        ensures few { (most ahead : ℕ) → IsSmallDelay most ahead self.now → result ≤ 4 * (ahead + 1024) }
     {
         let held = self.waiting.len().saturating_add(self.aside.len());
         held.saturating_add(self.judge.kept())
@@ -385,7 +385,7 @@ impl Delay {
         requires room { self.old.passed + length self.old.waiting.events.items < 2 ^ 64 }
         ensures rest { IfOk result (λ finding. (limits : Bounds) (most ahead : ℕ) (run : List Event)
             → IsDelayed limits most ahead run self.old → IsLateRest limits run most ahead finding) }
-        ensures small { IfOk result (λ _. (ahead : ℕ) → IsSmallDelay ahead self.old → IsSmallDelay ahead self.new) }
+        ensures small { IfOk result (λ _. (most ahead : ℕ) → IsSmallDelay most ahead self.old → IsSmallDelay most ahead self.new) }
         ensures keeps { IfOk result (λ _. (limits : Bounds) (most ahead : ℕ) (run : List Event)
             → IsDelayed limits most ahead run self.old → KeepsDelayed limits run self.new) }
         ensures tells { IfOk result (KeepsEndLate self.new) }
@@ -405,7 +405,7 @@ impl Delay {
         requires room { self.old.passed + length self.old.waiting.events.items < 2 ^ 64 }
         ensures broken { IfOk result (λ finding. (limits : Bounds) (most ahead : ℕ) (run : List Event)
             → IsDelayed limits most ahead run self.old → IsLateBreak limits run most ahead finding) }
-        ensures small { IfOk result (λ _. (ahead : ℕ) → IsSmallDelay ahead self.old → IsSmallDelay ahead self.new) }
+        ensures small { IfOk result (λ _. (most ahead : ℕ) → IsSmallDelay most ahead self.old → IsSmallDelay most ahead self.new) }
         ensures keeps { IfOk result (λ _. (limits : Bounds) (most ahead : ℕ) (run : List Event)
             → IsDelayed limits most ahead run self.old → KeepsDelayed limits run self.new) }
         ensures tells { IfOk result (KeepsEndLate self.new) }

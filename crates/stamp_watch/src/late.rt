@@ -215,6 +215,7 @@ impl LateJudge {
         ensures there { IfOk result (λ finding. (limits : Bounds) (most ahead : ℕ) (run : List Event)
             → IsLateJudge limits most ahead run self.old → EndsInRunLate run self.new.delay finding) }
         ensures window { IfOk result (λ _. self.new.delay.ahead ≡ self.old.delay.ahead) }
+        ensures most { IfOk result (λ _. self.new.delay.judge.most ≡ self.old.delay.judge.most) }
     {
         match self.found {
             Some(finding) => Ok(finding),

@@ -89,8 +89,9 @@ pub record SeenAtLast (P : List ℕ → Type 0) (words : List ℕ) (h h' : Recor
 
 -- an update put nothing: the closure, of which Ran is known, declined a value whose words the record held;
 -- or it answered one, and no version was left
-abbrev pub PutNothing : {T : Type 0} → (T → Option T → Type 0) → (List ℕ → Type 0) → (T → List ℕ) →
+abbrev pub PutNothing : {T : Type 0} → (T → Option T → Type 0) → (List ℕ → Type 0) → (T → Type 0) → (T → List ℕ) →
     UpdateError T → RecordHandleView → RecordHandleView → Type 0
-PutNothing Ran P words (update.Declined old) h h' = Ran old None × SeenAtLast P (words old) h h'
-PutNothing {T} Ran P words update.Spent h h' = (old : T) × (value : T) × Ran old (Some value)
+PutNothing Ran P IsValue words (update.Declined old) h h' =
+    IsValue old × Ran old None × SeenAtLast P (words old) h h'
+PutNothing {T} Ran P IsValue words update.Spent h h' = (old : T) × (value : T) × Ran old (Some value)
     × UpdateSpent (λ row. row ≡ words old) h h'

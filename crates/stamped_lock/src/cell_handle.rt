@@ -102,7 +102,7 @@ impl<'a, const N: usize, T: InWords<N>, L: KnownLayout> CellHandle<'a, N, T, L> 
         ensures made { let h = self.old in let w = self.new in
             IfOk result (λ old. Updated (λ value. FnReturnsAt F.Fn f old (Some value)) T.words old h w) }
         ensures err { let h = self.old in let w = self.new in IfErr result (λ error.
-            PutNothing (FnReturnsAt F.Fn f) (AreWordsOf T.is_value T.words) T.words error h w) }
+            PutNothing (FnReturnsAt F.Fn f) (AreWordsOf T.is_value T.words) T.is_value T.words error h w) }
     {
         record_calls::try_update(rt, self.running, &mut self.pass, &f)
     }

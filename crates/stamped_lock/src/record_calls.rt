@@ -284,7 +284,7 @@ pub fn try_update<
         IfOk result (λ old. Updated (λ value. FnReturnsAt F.Fn f.now old (Some value)) T.words old h
         (handle_of running.now pass.new.view)) }
     ensures err { let h = handle_of running.now pass.old.view in
-        IfErr result (λ error. PutNothing (FnReturnsAt F.Fn f.now) P.holds T.words error h
+        IfErr result (λ error. PutNothing (FnReturnsAt F.Fn f.now) P.holds T.is_value T.words error h
         (handle_of running.now pass.new.view)) }
 {
     for _ in rt.forever() {

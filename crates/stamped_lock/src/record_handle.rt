@@ -157,7 +157,7 @@ impl<'a, const N: usize, P: ContentRule, L: KnownLayout> RecordHandle<'a, N, P, 
         ensures made { let h = self.old in let w = self.new in
             IfOk result (λ old. Updated (λ value. FnReturnsAt F.Fn f old (Some value)) T.words old h w) }
         ensures err { let h = self.old in let w = self.new in
-            IfErr result (λ error. PutNothing (FnReturnsAt F.Fn f) P.holds T.words error h w) }
+            IfErr result (λ error. PutNothing (FnReturnsAt F.Fn f) P.holds T.is_value T.words error h w) }
     {
         record_calls::try_update(rt, self.running, &mut self.pass, &f)
     }

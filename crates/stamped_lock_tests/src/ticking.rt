@@ -8,12 +8,13 @@ use std::time::{Clock, Duration};
 /// The number of the error of a clock that fails.
 pub const FAILED: i32 = 71;
 
-/// A runtime whose clock shows one millisecond more each time that it is read, and a lock. By the reading of one
-/// number, counted from 1, all holds of the lock are released; that of another fails.
+/// A runtime whose clock shows one step more each time that it is read, and a lock. By the reading of one number,
+/// counted from 1, all holds of the lock are released; that of another fails.
 #[derive(Drop)]
 pub struct Ticking<'a, R: Wait, L: KnownLayout> {
     rt: &'a R,
     lock: &'a StampedLock<L>,
+    nanos: u64,
     frees: u64,
     fails: u64,
     readings: AtomicU64,
@@ -21,7 +22,7 @@ pub struct Ticking<'a, R: Wait, L: KnownLayout> {
 }
 
 impl<'a, R: Wait, L: KnownLayout> Ticking<'a, R, L> {
-    /// A clock that has not been read.
+    /// A clock that has not been read, of steps of a millisecond.
     pub fn new(
         rt: &'a R,
         lock: &'a StampedLock<L>,
@@ -30,11 +31,18 @@ impl<'a, R: Wait, L: KnownLayout> Ticking<'a, R, L> {
         Ticking {
             rt,
             lock,
+            nanos: 1_000_000,
             frees,
             fails,
             readings: AtomicU64::new(0),
             sleeps: AtomicU64::new(0),
         }
+    }
+
+    /// The clock, of steps of so many nanoseconds.
+    pub fn by(mut self, nanos: u64) -> Ticking<'a, R, L> {
+        self.nanos = nanos;
+        self
     }
 
     /// How often the clock was read, and how often a thread was put to sleep by it.
@@ -62,7 +70,7 @@ impl<R: Wait, L: KnownLayout> Clock for Ticking<'_, R, L> {
         if reading == self.frees {
             self.free();
         }
-        Ok(Duration::from_millis(reading))
+        Ok(Duration::from_nanos(self.nanos.saturating_mul(reading)))
     }
 
     fn since_1970(&self) -> io::Result<Duration> {

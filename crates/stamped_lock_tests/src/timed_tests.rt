@@ -52,9 +52,8 @@ fn try_for<L: KnownLayout, R: Wait + Clock>(
     rt: &R,
     lock: &mut LockHandle<'_, L>,
     writes: bool,
-    millis: u64,
+    time: Duration,
 ) -> Ended {
-    let time = Duration::from_millis(millis);
     if writes {
         how_it_ended(lock.try_write_for(rt, time))
     } else {
@@ -72,7 +71,8 @@ fn assert_rows<L: KnownLayout>(
         let mut handle = lock.enter();
         let stamp = answer(rt, &mut handle, held, None).unwrap_or(0);
         let ticking = Ticking::new(rt, lock, (frees, fails));
-        assert!(rt; try_for(&ticking, &mut handle, writes, millis) == want);
+        let time = Duration::from_millis(millis);
+        assert!(rt; try_for(&ticking, &mut handle, writes, time) == want);
         assert!(rt; ticking.asked() == (readings, 0));
         let left = Stamp::new(stamp).is_some_and(|stamp| handle.unlock(rt, stamp).is_ok());
         assert!(rt; left == (want != CameIn));
@@ -86,7 +86,7 @@ fn assert_free<L: KnownLayout>(rt: &(impl Abort + Wait), lock: &StampedLock<L>) 
     for writes in [false, true] {
         let mut handle = lock.enter();
         let ticking = Ticking::new(rt, lock, (0, 1));
-        assert!(rt; try_for(&ticking, &mut handle, writes, 0) == CameIn);
+        assert!(rt; try_for(&ticking, &mut handle, writes, Duration::ZERO) == CameIn);
         assert!(rt; ticking.asked() == (0, 0));
         assert!(rt; handle.try_unlock_write(rt) == writes);
         handle.try_unlock_read(rt);
@@ -108,13 +108,46 @@ fn a_call_tries_until_its_time_is_over_or_its_clock_fails(rt: HostRuntime) -> Re
     Ok(())
 }
 
+/// By how many nanoseconds the clock goes on at each reading, for how many a call tries while the holder stays, and
+/// how often it has read the clock when it gives up.
+const FINE_ROWS: [(u64, u64, u64); 10] = [
+    (1_000_000, 1_500_000, 3),
+    (1_000_000, 1_000_001, 3),
+    (1_000_000, 1_000_000, 2),
+    (400_000, 500_000, 3),
+    (400_000, 1_500_000, 5),
+    (400, 500, 3),
+    (400, 1_500, 5),
+    (1, 3, 4),
+    (700_000_000, 1_500_000_000, 4),
+    (999_999_999, 1_000_000_000, 3),
+];
+
+#[test]
+fn a_call_gives_up_no_nanosecond_too_soon(rt: HostRuntime) -> Result<(), Fail> {
+    let lock = made(rt.alloc())?;
+    lock.enter().try_write(&rt);
+    for writes in [false, true] {
+        for (nanos, time, readings) in FINE_ROWS {
+            let (mut handle, ticking) = (lock.enter(), Ticking::new(&rt, &lock, (0, 0)).by(nanos));
+            let time = Duration::from_nanos(time);
+            assert!(rt;
+                try_for(&ticking, &mut handle, writes, time) == GaveUp,
+                "{time:?}"
+            );
+            assert!(rt; ticking.asked() == (readings, 0), "{nanos}, {time:?}");
+        }
+    }
+    Ok(())
+}
+
 /// By the clock of the system.
 #[test]
 fn no_time_is_enough_for_one_try(rt: HostRuntime) -> Result<(), Fail> {
     let lock = made(rt.alloc())?;
     let (mut one, mut other) = (lock.enter(), lock.enter());
-    assert!(rt; try_for(&rt, &mut one, false, 0) == CameIn);
-    assert!(rt; try_for(&rt, &mut other, true, 0) == GaveUp);
-    assert!(rt; try_for(&rt, &mut other, false, 0) == CameIn);
+    assert!(rt; try_for(&rt, &mut one, false, Duration::ZERO) == CameIn);
+    assert!(rt; try_for(&rt, &mut other, true, Duration::ZERO) == GaveUp);
+    assert!(rt; try_for(&rt, &mut other, false, Duration::ZERO) == CameIn);
     Ok(())
 }

@@ -16,7 +16,7 @@ use Rattle.stamp_watch.specs.declared.event.Event.TheVariants.{Begins, Returns, 
 use Rattle.stamp_watch.specs.declared.late.LateJudge.{LateJudge}
 use Rattle.stamp_watch.specs.Course.{KeepsEnd}
 use Rattle.stamp_watch.specs.EndedCall.{begun_in, ended, ended_at, ended_by, ended_from}
-use Rattle.stamp_watch.specs.Possible.{CanTell, plain_replies}
+use Rattle.stamp_watch.specs.Possible.{AreTooManyWith, CanTell, plain_replies}
 use Rattle.stamp_watch.specs.Possible.{items_in as replies_told}
 use Rattle.stamp_watch.specs.PossibleLate.{CanTellLater, IsToldLater, IsToldLaterOf}
 use Rattle.stamp_watch.specs.Start.{BeganLateBy}
@@ -61,7 +61,7 @@ kept_return first items k x r is some = by (nat_le first k) is
     by false none = absurd (cc)
 
 -- what the judge of the events tells of the event at which the stream is stuck is told of the stream
-module _ (ahead : ℕ) (fed : List ℕ) (inner : LateJudge) (keeps : KeepsOf ahead fed inner) (k : ℕ) where
+module _ (most ahead : ℕ) (fed : List ℕ) (inner : LateJudge) (keeps : KeepsOf most ahead fed inner) (k : ℕ) where
   long : (first : ℕ) → inner.delay.first_late ≡ Some first → IsOpenFor keeps.events first (ahead - 64)
   long first same = subst (λ (n : ℕ). IsOpenFor keeps.events first n) keeps.window
       (subst (λ (o : Option ℕ). MatchOption o ⊤ (λ (f : ℕ). IsOpenFor keeps.events f inner.delay.ahead)) same
@@ -107,7 +107,7 @@ module _ (ahead : ℕ) (fed : List ℕ) (inner : LateJudge) (keeps : KeepsOf ahe
 
     many : (tried : List LockReply) → plain_replies inner.delay.judge.course.base.limits x.call ≡ Some tried →
         IsToldLater inner k tried None → (r : Reply) → x.reply ≡ Some r →
-        MatchOption inner.delay.first_late ⊤ (λ (first : ℕ). k < first) → AreUntold ahead fed k x
+        MatchOption inner.delay.first_late ⊤ (λ (first : ℕ). k < first) → AreUntold most ahead fed k x
     many tried same told r some before =
         let at = kept_return inner.delay.judge.course.first inner.delay.judge.course.events.items k x r is some in
         too_many (record {
@@ -117,21 +117,21 @@ module _ (ahead : ℕ) (fed : List ℕ) (inner : LateJudge) (keeps : KeepsOf ahe
           stream = keeps.stream;
           tried = tried;
           are = plain_in (Some tried) same;
-          most = inner.delay.judge.most;
-          too_many = told (record {
-            can = record { seen = end.behind; lane = at.lane; own = at.own; there = at.there };
-            before = before;
-          }) keeps.limits keeps.events keeps.keeps;
+          too_many = subst (λ (n : ℕ). AreTooManyWith keeps.limits keeps.events k n tried) keeps.most_is
+              (told (record {
+                can = record { seen = end.behind; lane = at.lane; own = at.own; there = at.there };
+                before = before;
+              }) keeps.limits keeps.events keeps.keeps);
         })
 
     late_or_many : (tried : List LockReply) →
         plain_replies inner.delay.judge.course.base.limits x.call ≡ Some tried → IsToldLater inner k tried None →
-        (r : Reply) → x.reply ≡ Some r → (o : Option ℕ) → inner.delay.first_late ≡ o → AreUntold ahead fed k x
+        (r : Reply) → x.reply ≡ Some r → (o : Option ℕ) → inner.delay.first_late ≡ o → AreUntold most ahead fed k x
     late_or_many tried same told r some None never = many tried same told r some
         (subst (λ (o : Option ℕ). MatchOption o ⊤ (λ (first : ℕ). k < first)) (sym never) tt)
     late_or_many tried same told r some (Some first) late = by (nat_lt k first) refl
       where
-        by : (t : Bool) → nat_lt k first ≡ t → AreUntold ahead fed k x
+        by : (t : Bool) → nat_lt k first ≡ t → AreUntold most ahead fed k x
         by true less = many tried same told r some
             (subst (λ (o : Option ℕ). MatchOption o ⊤ (λ (f : ℕ). k < f)) (sym late) (grind (arith, nat_tests)))
         by false not_less = began_late (late_told (subst (λ (o : Option ℕ). MatchOption o ⊥ (λ (f : ℕ). f ≤ k))
@@ -139,7 +139,7 @@ module _ (ahead : ℕ) (fed : List ℕ) (inner : LateJudge) (keeps : KeepsOf ahe
 
     untold_of : (o : Option (List LockReply)) → plain_replies inner.delay.judge.course.base.limits x.call ≡ o →
         MatchOption o (untold ≡ None) (λ tried. IsToldLater inner k tried untold) →
-        (reply : Option Reply) → x.reply ≡ reply → AreUntold ahead fed k x
+        (reply : Option Reply) → x.reply ≡ reply → AreUntold most ahead fed k x
     untold_of None same told reply of = given_stamps (record {
       limits = keeps.limits;
       events = keeps.events;
@@ -152,7 +152,7 @@ module _ (ahead : ℕ) (fed : List ℕ) (inner : LateJudge) (keeps : KeepsOf ahe
         late_or_many tried same told r of inner.delay.first_late refl
 
     pub possible_told : (told : Option (Vec Reply Global)) → IsToldLaterOf inner k x.call (replies_told told) →
-        AreToldOf ahead fed k x (items_in told)
+        AreToldOf most ahead fed k x (items_in told)
     possible_told None is_told = untold_of (plain_replies inner.delay.judge.course.base.limits x.call) refl is_told
         x.reply refl
     possible_told (Some found) is_told =

@@ -36,25 +36,27 @@ none_of None is = refl
 
 -- what the judge of the events keeps where nothing was found
 keeps_under_way : (most ahead : ℕ) (taken : List ℕ) (begun withdrawn : ℕ) (inner : LateJudge) →
-    IsUnderWay most ahead taken begun withdrawn inner → KeepsOf ahead taken inner
+    IsUnderWay most ahead taken begun withdrawn inner → KeepsOf most ahead taken inner
 keeps_under_way most ahead taken begun withdrawn inner way = record {
   limits = way.limits;
   events = way.events;
   rest = [];
   stream = way.stream;
   keeps = way.judge_of.keeps;
+  most_is = way.judge_of.small.judge_of.most_is;
   window = way.judge_of.window;
 }
 
 -- it keeps that, too, of more bytes
-pub keeps_more : (ahead : ℕ) (bytes more : List ℕ) (inner : LateJudge) → KeepsOf ahead bytes inner →
-    KeepsOf ahead (bytes ++ more) inner
-keeps_more ahead bytes more inner keeps = record {
+pub keeps_more : (most ahead : ℕ) (bytes more : List ℕ) (inner : LateJudge) → KeepsOf most ahead bytes inner →
+    KeepsOf most ahead (bytes ++ more) inner
+keeps_more most ahead bytes more inner keeps = record {
   limits = keeps.limits;
   events = keeps.events;
   rest = keeps.rest ++ more;
   stream = stream_longer bytes more keeps.limits keeps.events keeps.rest keeps.stream;
   keeps = keeps.keeps;
+  most_is = keeps.most_is;
   window = keeps.window;
 }
 
@@ -65,7 +67,7 @@ on_with : (most ahead : ℕ) (taken : List ℕ) (judge : StreamJudge) (inner : L
 on_with most ahead taken judge inner same far none some way = record {
   most_is = same;
   ahead_is = far;
-  kept = subst (λ (o : Option LateJudge). MatchOption o ⊤ (λ i. KeepsOf ahead taken i)) (sym some)
+  kept = subst (λ (o : Option LateJudge). MatchOption o ⊤ (λ i. KeepsOf most ahead taken i)) (sym some)
       (keeps_under_way most ahead taken judge.begun judge.withdrawn inner way);
   tells = subst (λ (o : Option Finding). MatchOption o ⊤ (KeepsCall judge.judge)) (sym none) tt;
   there = subst (λ (o : Option Finding). MatchOption o ⊤ (EndsInStream taken judge.judge)) (sym none) tt;
@@ -101,7 +103,7 @@ module _ (most ahead : ℕ) (taken bytes : List ℕ) (old : StreamJudge) (has : 
     no_header_taken why many wrong = record {
       most_is = has.most_is;
       ahead_is = has.ahead_is;
-      kept = subst (λ (o : Option LateJudge). MatchOption o ⊤ (λ i. KeepsOf ahead (taken ++ bytes) i))
+      kept = subst (λ (o : Option LateJudge). MatchOption o ⊤ (λ i. KeepsOf most ahead (taken ++ bytes) i))
           (sym no_judge) tt;
       tells = tt;
       there = λ k same x is. absurd (cc);
@@ -134,13 +136,14 @@ module _ (most ahead : ℕ) (taken bytes : List ℕ) (old : StreamJudge) (has : 
       given_one = given way_on.limits most ahead way_on.events way_on.judge_of
 
       keeps_of : KeepsRun way_on.limits way_on.events inner next ⊎
-          KeepsRun way_on.limits (way_on.events ++ e ∷ []) inner next → KeepsOf ahead (taken ++ bytes) next
+          KeepsRun way_on.limits (way_on.events ++ e ∷ []) inner next → KeepsOf most ahead (taken ++ bytes) next
       keeps_of (inl before) = record {
         limits = way_on.limits;
         events = way_on.events;
         rest = bytes;
         stream = stream_behind taken bytes way_on.limits way_on.events way_on.stream;
         keeps = before.keeps;
+        most_is = before.most_is ∙ way_on.judge_of.small.judge_of.most_is;
         window = before.window ∙ way_on.judge_of.window;
       }
       keeps_of (inr then) = record {
@@ -149,6 +152,7 @@ module _ (most ahead : ℕ) (taken bytes : List ℕ) (old : StreamJudge) (has : 
         rest = [];
         stream = stream_then;
         keeps = then.keeps;
+        most_is = then.most_is ∙ way_on.judge_of.small.judge_of.most_is;
         window = then.window ∙ way_on.judge_of.window;
       }
 
@@ -221,6 +225,7 @@ module _ (most ahead : ℕ) (taken bytes : List ℕ) (old : StreamJudge) (has : 
         rest = bytes;
         stream = stream_behind taken bytes way_on.limits way_on.events way_on.stream;
         keeps = kept.keeps;
+        most_is = kept.most_is ∙ way_on.judge_of.small.judge_of.most_is;
         window = kept.window ∙ way_on.judge_of.window;
       };
       tells = tells;
@@ -348,14 +353,14 @@ fed_found most ahead fed more judge some is = record {
 
 -- what its judge keeps is of all that it was fed
 pub keeps_fed : (most ahead : ℕ) (fed : List ℕ) (judge : StreamJudge) → IsFed most ahead fed judge →
-    KeepsFed ahead fed judge
+    KeepsFed most ahead fed judge
 keeps_fed most ahead fed judge is = by judge.judge is.has_taken.kept
   where
-    by : (o : Option LateJudge) → MatchOption o ⊤ (λ i. KeepsOf ahead is.taken i) →
-        MatchOption o ⊤ (λ i. KeepsOf ahead fed i)
+    by : (o : Option LateJudge) → MatchOption o ⊤ (λ i. KeepsOf most ahead is.taken i) →
+        MatchOption o ⊤ (λ i. KeepsOf most ahead fed i)
     by None none = tt
-    by (Some inner) keeps = subst (λ (xs : List ℕ). KeepsOf ahead xs inner) (sym is.parts)
-        (keeps_more ahead is.taken is.later inner keeps)
+    by (Some inner) keeps = subst (λ (xs : List ℕ). KeepsOf most ahead xs inner) (sym is.parts)
+        (keeps_more most ahead is.taken is.later inner keeps)
 
 -- and so is the call that ends where that was found stuck
 pub there_fed : (most ahead : ℕ) (fed : List ℕ) (judge : StreamJudge) → IsFed most ahead fed judge → (f : Finding) →
@@ -379,15 +384,17 @@ there_ended most ahead fed judge is none inner next some explained f other there
 -- and what it keeps is
 pub keeps_ended : (most ahead : ℕ) (fed : List ℕ) (judge : StreamJudge) → IsFed most ahead fed judge →
     judge.found ≡ None → (inner next : LateJudge) → judge.judge ≡ Some inner → KeepsStill inner next →
-    KeepsOf ahead fed next
+    KeepsOf most ahead fed next
 keeps_ended most ahead fed judge is none inner next some keeps =
     let way = way_on most ahead is.taken [] judge is.has_taken none inner some in
     let kept = keeps way.limits most ahead way.events way.judge_of in
-    subst (λ (xs : List ℕ). KeepsOf ahead xs next) (sym is.parts) (keeps_more ahead is.taken is.later next (record {
+    subst (λ (xs : List ℕ). KeepsOf most ahead xs next) (sym is.parts)
+    (keeps_more most ahead is.taken is.later next (record {
       limits = way.limits;
       events = way.events;
       rest = [];
       stream = way.stream;
       keeps = kept.keeps;
+      most_is = kept.most_is ∙ way.judge_of.small.judge_of.most_is;
       window = kept.window ∙ way.judge_of.window;
     }))

@@ -164,9 +164,10 @@ same_ended run given (Some first) k x (some, many, same) none ended_is =
     ap (λ (xs : List Event). ended_at xs k) (take-append-drop first given) ∙ ended_is
 
 -- what is a witness by the events of the judge inside is one by those of the stream
-witness_of_kept : (ahead : ℕ) (fed : List ℕ) (inner : LateJudge) → KeepsOf ahead fed inner → (k : ℕ) (base : Judge) →
+witness_of_kept : (most ahead : ℕ) (fed : List ℕ) (inner : LateJudge) → KeepsOf most ahead fed inner → (k : ℕ)
+    (base : Judge) →
     IsJudgeUpTo inner k base → (small : ObservedHistory) → IsWitnessAt base k small → IsWitnessIn fed k small
-witness_of_kept ahead fed inner keeps k base up small at =
+witness_of_kept most ahead fed inner keeps k base up small at =
     let of_run = keeps.keeps in
     let kept = of_run.keeps in
     let same : IsWitnessAt inner.delay.judge k small =
@@ -183,31 +184,32 @@ witness_of_kept ahead fed inner keeps k base up small at =
       witness = subst (λ (l : Bounds). IsWitnessOf l same.ended small) kept.from_base.judging.limits_are same.witness;
     }
 
-pub witness_told : (ahead : ℕ) (fed : List ℕ) (judge : StreamJudge) → KeepsFed ahead fed judge → (inner : LateJudge) →
+pub witness_told : (most ahead : ℕ) (fed : List ℕ) (judge : StreamJudge) → KeepsFed most ahead fed judge →
+    (inner : LateJudge) →
     judge.judge ≡ Some inner → (k : ℕ) (base : Judge) → IsJudgeUpTo inner k base → (text : List ℕ) →
     IsWitnessText base k text → IsTextIn fed k text
-witness_told ahead fed judge keeps inner some k base up text is = record {
+witness_told most ahead fed judge keeps inner some k base up text is = record {
   small = is.small;
-  witness = witness_of_kept ahead fed inner
-      (subst (λ (o : Option LateJudge). MatchOption o ⊤ (λ i. KeepsOf ahead fed i)) some keeps) k base up is.small
+  witness = witness_of_kept most ahead fed inner
+      (subst (λ (o : Option LateJudge). MatchOption o ⊤ (λ i. KeepsOf most ahead fed i)) some keeps) k base up is.small
       is.witness;
   text_is = is.text_is;
 }
 
 -- so it is with a text that was sought, or with why there is none
-module _ (asked : Watching) (fed : List ℕ) (judge : StreamJudge) (keeps : KeepsFed asked.ahead fed judge)
+module _ (asked : Watching) (fed : List ℕ) (judge : StreamJudge) (keeps : KeepsFed asked.most asked.ahead fed judge)
     (inner : LateJudge) (some : judge.judge ≡ Some inner) (k : ℕ) (ends : EndsInStream fed judge.judge (Stuck k)) where
-  kept_of : KeepsOf asked.ahead fed inner
-  kept_of = subst (λ (o : Option LateJudge). MatchOption o ⊤ (λ i. KeepsOf asked.ahead fed i)) some keeps
+  kept_of : KeepsOf asked.most asked.ahead fed inner
+  kept_of = subst (λ (o : Option LateJudge). MatchOption o ⊤ (λ i. KeepsOf asked.most asked.ahead fed i)) some keeps
 
   pub none_behind_late : BeganLateBy inner k → BeganLate asked.ahead fed k
-  none_behind_late late = late_told asked.ahead fed inner kept_of k late
+  none_behind_late late = late_told asked.most asked.ahead fed inner kept_of k late
 
   pub text_told : (base : Judge) → IsJudgeUpTo inner k base → (x : EndedCall) → ended_in judge.judge k ≡ Some x →
       (most : ℕ) → asked.most ≡ most → (r : Result (Vec ℕ Global) NoWitness) →
       IsTextHere base k x (min most 16384) r → IsText asked fed k r
   text_told base up x of most same (Ok text) is =
-      witness_told asked.ahead fed judge keeps inner some k base up text.items is
+      witness_told asked.most asked.ahead fed judge keeps inner some k base up text.items is
   text_told base up x of most same (Err lack.BeganLate) is = absurd is
   text_told base up x of most same (Err lack.Withdrawn) is =
       record { ended = x; there = ends k refl x of; no_reply = is }
@@ -215,6 +217,7 @@ module _ (asked : Watching) (fed : List ℕ) (judge : StreamJudge) (keeps : Keep
     inner = inner;
     keeps = kept_of;
     ended = x;
+    kept = subst (λ (o : Option LateJudge). ended_in o k ≡ Some x) some of;
     there = ends k refl x of;
     in_vain = subst (λ (j : Judge). AreInVain j x (min asked.most most_searched) sought.items) up.is
         (subst (λ (m : ℕ). AreInVain base x (min m 16384) sought.items) (sym same) is);

@@ -45,17 +45,17 @@ pub record EndsThere (bytes : List ℕ) (k : ℕ) (ended : EndedCall) : Type 0 w
 
 -- the text tells of the call that ends at the event of this number in the stream, and of the replies that it could have
 -- had
-pub record IsStuckNote (ahead : ℕ) (bytes : List ℕ) (k : ℕ) (text : List ℕ) : Type 0 where
+pub record IsStuckNote (most ahead : ℕ) (bytes : List ℕ) (k : ℕ) (text : List ℕ) : Type 0 where
   pub ended : EndedCall
   pub there : EndsThere bytes k ended
   pub replies : Option (List Reply)
-  pub told : AreToldOf ahead bytes k ended replies
+  pub told : AreToldOf most ahead bytes k ended replies
   pub says : text ≡ stuck_text k ended replies
 
 -- the note of what is found of a stream that is stuck, unexplained, or not judged further for calls that began late. In
 -- its place: memory was refused. Of another there is none
 abbrev pub IsNote : Watching → List ℕ → Finding → Result (Option (String Global)) AllocError → Type 0
-IsNote asked bytes (Stuck k) (Ok (Some text)) = IsStuckNote asked.ahead bytes k (string_bytes text)
+IsNote asked bytes (Stuck k) (Ok (Some text)) = IsStuckNote asked.most asked.ahead bytes k (string_bytes text)
 IsNote asked bytes (Stuck k) (Ok None) = ⊥
 IsNote asked bytes (Stuck k) (Err e) = Unit {0}
 IsNote asked bytes (StuckWithin k m) (Ok (Some text)) = string_bytes text ≡ within_text

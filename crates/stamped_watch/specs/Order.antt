@@ -1,6 +1,6 @@
 -- The command line of the program that judges streams.
 use Rattle.std.specs.Prelude.{ℕ, List, [], ◌∷◌, Option, Some, None, Result, Ok, Err, codes, nat_le, if◌then◌else◌}
-use Rattle.std.specs.Prelude.{◌&&◌, ◌||◌, Bool, true, false, not, drop, option_map, option_and_then}
+use Rattle.std.specs.Prelude.{◌&&◌, ◌||◌, Bool, true, false, not, drop, option_map, option_and_then, slice_get}
 use Rattle.std.specs.Option.{is_some, option_map_or}
 use Rattle.std.specs.Str.{bytes_eq}
 use Rattle.std.specs.Str.Parse.{starts_with_minus}
@@ -106,3 +106,8 @@ plain_file _ = None
 
 abbrev pub file_in : List (List ℕ) → Option (List ℕ)
 file_in words = if begins_with_progress words then plain_file (drop 1 words) else plain_file words
+
+-- the file for a witness: the word behind the first --witness
+abbrev pub witness_in : List (List ℕ) → Option (List ℕ)
+witness_in [] = None
+witness_in (word ∷ words) = if bytes_eq word (codes "--witness") then slice_get words 0 else witness_in words

@@ -15,14 +15,15 @@ use Rattle.stamp_watch.specs.PossibleLate.{KeepsLater}
 use Rattle.stamp_watch.specs.Verdict.{IsOpenFor}
 use Rattle.stamped_watch.specs.Stream.{IsStream}
 
--- the bytes are a header, events and a rest; what the judge of the events keeps is of those, and a call begins later
--- for it that is open for all but 64 of so many events
-pub record KeepsOf (ahead : ℕ) (bytes : List ℕ) (inner : LateJudge) : Type 0 where
+-- the bytes are a header, events and a rest; what the judge of the events keeps is of those. More than so many
+-- configurations are too many for it, and a call begins later that is open for all but 64 of so many events
+pub record KeepsOf (most ahead : ℕ) (bytes : List ℕ) (inner : LateJudge) : Type 0 where
   pub limits : Bounds
   pub events : List Event
   pub rest : List ℕ
   pub stream : IsStream bytes limits events rest
   pub keeps : KeepsLater limits events inner
+  pub most_is : inner.delay.judge.most ≡ most
   pub window : inner.delay.ahead ≡ ahead - 64
 
 -- of all replies that the call may be given these are the possible ones, at the event of this number in the stream
@@ -53,28 +54,27 @@ pub record BeganLate (ahead : ℕ) (bytes : List ℕ) (k : ℕ) : Type 0 where
   pub by : first ≤ k
   pub open_for : IsOpenFor events first (ahead - 64)
 
--- with one of the replies that the call may be given too many configurations are possible
-pub record AreTooManyAt (bytes : List ℕ) (k : ℕ) (call : Call) : Type 0 where
+-- with one of the replies that the call may be given more than so many configurations are possible
+pub record AreTooManyAt (most : ℕ) (bytes : List ℕ) (k : ℕ) (call : Call) : Type 0 where
   pub limits : Bounds
   pub events : List Event
   pub rest : List ℕ
   pub stream : IsStream bytes limits events rest
   pub tried : List LockReply
   pub are : plain_replies limits call ≡ Some tried
-  pub most : ℕ
   pub too_many : AreTooManyWith limits events k most tried
 
 -- why no replies are told of the call that ends at the event of this number
-pub data AreUntold (ahead : ℕ) (bytes : List ℕ) (k : ℕ) (ended : EndedCall) : Type 0 where
-  given_stamps : IsGivenStamps bytes ended.call → AreUntold ahead bytes k ended
-  withdrawn : ended.reply ≡ None → AreUntold ahead bytes k ended
-  began_late : BeganLate ahead bytes k → AreUntold ahead bytes k ended
-  too_many : AreTooManyAt bytes k ended.call → AreUntold ahead bytes k ended
+pub data AreUntold (most ahead : ℕ) (bytes : List ℕ) (k : ℕ) (ended : EndedCall) : Type 0 where
+  given_stamps : IsGivenStamps bytes ended.call → AreUntold most ahead bytes k ended
+  withdrawn : ended.reply ≡ None → AreUntold most ahead bytes k ended
+  began_late : BeganLate ahead bytes k → AreUntold most ahead bytes k ended
+  too_many : AreTooManyAt most bytes k ended.call → AreUntold most ahead bytes k ended
 
 -- the replies that it could have had are told, or there is a cause that they aren't
-abbrev pub AreToldOf : ℕ → List ℕ → ℕ → EndedCall → Option (List Reply) → Type 0
-AreToldOf ahead bytes k ended None = AreUntold ahead bytes k ended
-AreToldOf ahead bytes k ended (Some found) = ArePossibleAt bytes k ended.call found
+abbrev pub AreToldOf : ℕ → ℕ → List ℕ → ℕ → EndedCall → Option (List Reply) → Type 0
+AreToldOf most ahead bytes k ended None = AreUntold most ahead bytes k ended
+AreToldOf most ahead bytes k ended (Some found) = ArePossibleAt bytes k ended.call found
 
 abbrev pub items_in : Option (Vec Reply Global) → Option (List Reply)
 items_in None = None

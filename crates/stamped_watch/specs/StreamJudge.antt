@@ -61,7 +61,7 @@ pub record HasTaken (most ahead : ℕ) (taken : List ℕ) (judge : StreamJudge) 
   pub state : MatchOption judge.found (MatchOption judge.judge (IsFresh taken judge.begun judge.withdrawn)
       (λ inner. IsUnderWay most ahead taken judge.begun judge.withdrawn inner))
       (λ finding. IsFoundOf most ahead taken finding)
-  pub kept : MatchOption judge.judge ⊤ (λ inner. KeepsOf ahead taken inner)
+  pub kept : MatchOption judge.judge ⊤ (λ inner. KeepsOf most ahead taken inner)
   pub tells : MatchOption judge.found ⊤ (KeepsCall judge.judge)
   pub there : MatchOption judge.found ⊤ (EndsInStream taken judge.judge)
 
@@ -82,10 +82,11 @@ pub record IsFedSome (judge : StreamJudge) : Type 0 where
   pub is : IsFed most ahead fed judge
 
 -- what its judge keeps is of these bytes
-abbrev pub KeepsFed : ℕ → List ℕ → StreamJudge → Type 0
-KeepsFed ahead fed judge = MatchOption judge.judge ⊤ (λ inner. KeepsOf ahead fed inner)
+abbrev pub KeepsFed : ℕ → ℕ → List ℕ → StreamJudge → Type 0
+KeepsFed most ahead fed judge = MatchOption judge.judge ⊤ (λ inner. KeepsOf most ahead fed inner)
 
 pub record KeepsFedSome (judge : StreamJudge) : Type 0 where
+  pub most : ℕ
   pub ahead : ℕ
   pub fed : List ℕ
-  pub keeps : KeepsFed ahead fed judge
+  pub keeps : KeepsFed most ahead fed judge

@@ -114,11 +114,13 @@ pub record IsTextIn (bytes : List ℕ) (number : ℕ) (text : List ℕ) : Type 0
   pub witness : IsWitnessIn bytes number small
   pub text_is : text ≡ observed_text small ++ 10 ∷ []
 
--- what the judge keeps is of these bytes: a witness was sought from its starts, and none was found
+-- what the judge keeps is of these bytes, with the call that ends at the event of this number: a witness was sought
+-- from its starts, and none was found
 pub record IsSoughtInVain (asked : Watching) (bytes : List ℕ) (k : ℕ) (sought : List Sought) : Type 0 where
   pub inner : LateJudge
-  pub keeps : KeepsOf asked.ahead bytes inner
+  pub keeps : KeepsOf asked.most asked.ahead bytes inner
   pub ended : EndedCall
+  pub kept : ended_from inner.delay.judge.course.first inner.delay.judge.course.events.items k ≡ Some ended
   pub there : EndsThere bytes k ended
   pub in_vain : AreInVain inner.delay.judge ended (min asked.most most_searched) sought
 

@@ -81,8 +81,8 @@ fn late_text(alloc: Global, ahead: usize) -> Result<String, AllocError>
 fn stuck_note(alloc: Global, judge: &StreamJudge, number: u64) -> Result<String, AllocError>
     requires keeps { KeepsFedSome judge.now }
     requires end { KeepsEndAt judge.now.judge number }
-    ensures { IfOk result (λ text. (ahead : ℕ) (fed : List ℕ) → KeepsFed ahead fed judge.now
-        → EndsInStream fed judge.now.judge (Stuck number) → IsStuckNote ahead fed number (string_bytes text)) }
+    ensures { IfOk result (λ text. (most ahead : ℕ) (fed : List ℕ) → KeepsFed most ahead fed judge.now
+        → EndsInStream fed judge.now.judge (Stuck number) → IsStuckNote most ahead fed number (string_bytes text)) }
 {
     let ended = judge.ended_at(number);
     let replies = judge.possible_at(number, &ended)?;
@@ -98,7 +98,7 @@ pub(crate) fn note_of(
 ) -> Result<Option<String>, AllocError>
     requires keeps { KeepsFedSome judge.now }
     requires end { KeepsCall judge.now.judge finding.now }
-    ensures { (fed : List ℕ) → KeepsFed asked.ahead fed judge.now → EndsInStream fed judge.now.judge finding.now
+    ensures { (fed : List ℕ) → KeepsFed asked.most asked.ahead fed judge.now → EndsInStream fed judge.now.judge finding.now
         → IsNote asked fed finding.now result }
 {
     match finding {

@@ -245,8 +245,10 @@ pub fn file_in<'a>(args: &[&'a str]) -> Option<&'a str>
     }
 }
 
-/// The file for a witness: the word behind the first `--witness` of the arguments, if there is one. Tested, not proved.
-pub fn witness_in<'a>(args: &[&'a str]) -> Option<&'a str> {
+/// The file for a witness: the word behind the first `--witness` of the arguments, if there is one.
+pub fn witness_in<'a>(args: &[&'a str]) -> Option<&'a str>
+    ensures { option_map (λ file. file.now) result ≡ order.witness_in (map (λ arg. arg.now) args.now) }
+{
     for (i, arg) in args.iter().enumerate() {
         if *arg == "--witness" {
             return args.get(i + 1).copied();

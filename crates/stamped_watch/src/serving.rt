@@ -50,7 +50,7 @@ fn fed_from<S: Source, T: Sink>(
     ensures only { IsReadOrMemoryFault result }
     ensures told { HasTold asked (S.left source.old) (S.left source.new) (S.reads source.old) (S.reads source.new)
         (T.sent told.old) (T.sent told.new) (T.writes told.old) (T.writes told.new) result }
-    ensures keeps { IfOk result (KeepsAll asked.ahead (S.left source.old) (S.left source.new)
+    ensures keeps { IfOk result (KeepsAll asked.most asked.ahead (S.left source.old) (S.left source.new)
         (S.reads source.old) (S.reads source.new) judge.new) }
     ensures tells { IfOk result (KeepsCall judge.new.judge) }
 {
@@ -77,7 +77,7 @@ fn show_witness<W: Sink>(
 ) -> Result<Shown, NoWitness>
     requires keeps { KeepsFedSome judge.now }
     requires end { KeepsCall judge.now.judge finding.now }
-    ensures { (fed : List ℕ) → KeepsFed asked.ahead fed judge.now → EndsInStream fed judge.now.judge finding.now
+    ensures { (fed : List ℕ) → KeepsFed asked.most asked.ahead fed judge.now → EndsInStream fed judge.now.judge finding.now
         → HasShown asked fed finding.now (record { sent = W.sent witness.old; writes = W.writes witness.old })
         (record { sent = W.sent witness.new; writes = W.writes witness.new }) result }
 {

@@ -236,7 +236,7 @@ impl StreamJudge {
         ensures found { IfOk result (λ finding. (most ahead : ℕ) (fed : List ℕ) → IsFed most ahead fed self.old
             → IsFindingOf most ahead fed finding) }
         ensures kept { IfOk result (λ _. (most ahead : ℕ) (fed : List ℕ) → IsFed most ahead fed self.old
-            → KeepsFed ahead fed self.new) }
+            → KeepsFed most ahead fed self.new) }
         ensures tells { IfOk result (KeepsCall self.new.judge) }
         ensures there { IfOk result (λ finding. (most ahead : ℕ) (fed : List ℕ) → IsFed most ahead fed self.old
             → EndsInStream fed self.new.judge finding) }
@@ -295,8 +295,8 @@ impl StreamJudge {
         requires keeps { KeepsFedSome self.now }
         requires end { KeepsEndAt self.now.judge number }
         requires ended { ended_in self.now.judge number ≡ Some ended.now }
-        ensures { IfOk result (λ told. (ahead : ℕ) (fed : List ℕ) → KeepsFed ahead fed self.now
-            → AreToldOf ahead fed number ended.now (items_in told)) }
+        ensures { IfOk result (λ told. (most ahead : ℕ) (fed : List ℕ) → KeepsFed most ahead fed self.now
+            → AreToldOf most ahead fed number ended.now (items_in told)) }
     {
         match &self.judge {
             Some(judge) => judge.possible_at(number, &ended.call),
@@ -309,7 +309,7 @@ impl StreamJudge {
     pub(crate) fn witness_at(&self, number: u64, most: u64) -> Result<Vec<u8>, NoWitness>
         requires keeps { KeepsFedSome self.now }
         requires end { KeepsEndAt self.now.judge number }
-        ensures { (asked : Watching) (fed : List ℕ) → asked.most ≡ most → KeepsFed asked.ahead fed self.now
+        ensures { (asked : Watching) (fed : List ℕ) → asked.most ≡ most → KeepsFed asked.most asked.ahead fed self.now
             → EndsInStream fed self.now.judge (Stuck number) → IsText asked fed number result }
     {
         let ended = self.ended_at(number);

@@ -20,7 +20,7 @@ abbrev pub Attempted : {T : Type 0} → (T → Option T → Type 0) → (List �
     (T → List ℕ) → Result T T → RecordHandleView → RecordHandleView → Type 0
 Attempted Ran P IsValue words (Ok old) h h' = IsValue old × P (words old)
     × Updated (λ value. Ran old (Some value)) words old h h'
-Attempted Ran P IsValue words (Err old) h h' = Ran old None × SeenAtLast P (words old) h h'
+Attempted Ran P IsValue words (Err old) h h' = IsValue old × Ran old None × SeenAtLast P (words old) h h'
 
 -- an update by a closure that may decline, of which Ran is known, was refused: as spent only where it answered
 -- a value on the old one, which the record held

@@ -27,10 +27,10 @@ pub record IsFedAndTold (asked : Watching) (left left' : Option (List ℕ)) (old
   pub told : HasToldSoFar asked fed_so.bytes telling sent sent' writes writes'
 
 -- what the judge keeps is of all that the reads took, and so is the call that ends where that was found stuck
-pub record KeepsAll (ahead : ℕ) (left left' : Option (List ℕ)) (old new : Results) (judge : StreamJudge)
+pub record KeepsAll (most ahead : ℕ) (left left' : Option (List ℕ)) (old new : Results) (judge : StreamJudge)
     (finding : Finding) : Type 0 where
   pub bytes : List ℕ
   pub took : Consumes left left' bytes
   pub count : length bytes ≡ taken_since old new
-  pub keeps : KeepsFed ahead bytes judge
+  pub keeps : KeepsFed most ahead bytes judge
   pub there : EndsInStream bytes judge.judge finding

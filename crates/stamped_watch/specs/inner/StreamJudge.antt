@@ -55,9 +55,10 @@ abbrev pub IsGivenOne : Bounds → ℕ → ℕ → List Event → Event → Late
 IsGivenOne limits most ahead run e judge None = IsGoingOn limits most ahead (run ++ e ∷ []) judge
 IsGivenOne limits most ahead run e judge (Some finding) = IsFoundWith limits most ahead run e finding
 
--- what the judge keeps is of the run, and for it calls begin later as before
+-- what the judge keeps is of the run, and for it as many configurations are too many, and calls begin later, as before
 pub record KeepsRun (limits : Bounds) (run : List Event) (old new : LateJudge) : Type 0 where
   pub keeps : KeepsLater limits run new
+  pub most_is : new.delay.judge.most ≡ old.delay.judge.most
   pub window : new.delay.ahead ≡ old.delay.ahead
 
 -- so it is of the run, or of the run with the event

@@ -9,6 +9,7 @@ f-requires g c = c.requires.callable _ _ c.in_ok-word.ensures.value c.in_ok-word
 
 pub returns-in_default-clause-ok : goal.returns-in_default-clause-ok
 returns-in_default-clause-ok g c = (
+  c.in_ok-word.ensures.value,
   record { shown = _; shows = refl; says = record { met = c.in_default.ensures } },
   seen_now _ _ _ _ _ refl c.in_ok-word.ensures.ok,
 )

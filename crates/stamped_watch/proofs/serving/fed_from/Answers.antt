@@ -192,7 +192,7 @@ returns-then-taken-eq0-clause-keeps g c =
       took = all_took once;
       count = all_counted once;
       keeps = let none : take c.in-Ok.taken c.read.new.buffer ≡ [] = rw c.if-taken-eq0.true refl in
-          subst (λ (xs : List ℕ). KeepsFed c.args.asked.ahead xs c.end.new.self)
+          subst (λ (xs : List ℕ). KeepsFed c.args.asked.most c.args.asked.ahead xs c.end.new.self)
           (sym (append-nil inv.bytes) ∙ ap (λ (xs : List ℕ). inv.bytes ++ xs) (sym none))
           (c.in_ok-end.ensures.kept c.args.asked.most c.args.asked.ahead inv.bytes inv.fed);
       there = let none : take c.in-Ok.taken c.read.new.buffer ≡ [] = rw c.if-taken-eq0.true refl in

@@ -22,11 +22,19 @@ returns-clause-found c limits most ahead run is = inr (record {
 
 pub returns-then-is_explained-clause-kept : goal.returns-then-is_explained-clause-kept
 returns-then-is_explained-clause-kept c limits most ahead run is =
-    record { keeps = c.in_ok-verdict.ensures.keeps limits most ahead run is; window = c.in_ok-verdict.ensures.window }
+    record {
+      keeps = c.in_ok-verdict.ensures.keeps limits most ahead run is;
+      most_is = c.in_ok-verdict.ensures.most;
+      window = c.in_ok-verdict.ensures.window;
+    }
 
 pub returns-clause-kept : goal.returns-clause-kept
 returns-clause-kept c limits most ahead run is =
-    record { keeps = c.in_ok-verdict.ensures.keeps limits most ahead run is; window = c.in_ok-verdict.ensures.window }
+    record {
+      keeps = c.in_ok-verdict.ensures.keeps limits most ahead run is;
+      most_is = c.in_ok-verdict.ensures.most;
+      window = c.in_ok-verdict.ensures.window;
+    }
 
 pub returns-then-is_explained-clause-tells : goal.returns-then-is_explained-clause-tells
 returns-then-is_explained-clause-tells c kept = kept

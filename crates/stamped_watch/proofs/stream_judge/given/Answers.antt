@@ -37,22 +37,35 @@ returns-in-None-clause-found c limits most ahead run is =
     so_found limits most ahead run c.args.event.now c.finding_of.result c.in-Some.verdict c.finding_of.ensures holds
 
 pub returns-then-is_full-clause-kept : goal.returns-then-is_full-clause-kept
-returns-then-is_full-clause-kept c limits most ahead run is = inl (record { keeps = is.keeps; window = refl })
+returns-then-is_full-clause-kept c limits most ahead run is =
+    inl (record { keeps = is.keeps; most_is = refl; window = refl })
 
 pub returns-in_default-clause-kept : goal.returns-in_default-clause-kept
 returns-in_default-clause-kept c limits most ahead run is =
     let then = c.in_ok-found.ensures.given limits most ahead run is in
-    inr (record { keeps = then.keeps; window = then.window ∙ sym is.window })
+    inr (record {
+      keeps = then.keeps;
+      most_is = then.small.judge_of.most_is ∙ sym is.small.judge_of.most_is;
+      window = then.window ∙ sym is.window;
+    })
 
 pub returns-in-Some-broken_at-clause-kept : goal.returns-in-Some-broken_at-clause-kept
 returns-in-Some-broken_at-clause-kept c limits most ahead run is =
     let then = c.in_ok-found.ensures.given limits most ahead run is in
-    inr (record { keeps = then.keeps; window = then.window ∙ sym is.window })
+    inr (record {
+      keeps = then.keeps;
+      most_is = then.small.judge_of.most_is ∙ sym is.small.judge_of.most_is;
+      window = then.window ∙ sym is.window;
+    })
 
 pub returns-in-None-clause-kept : goal.returns-in-None-clause-kept
 returns-in-None-clause-kept c limits most ahead run is =
     let then = c.in_ok-found.ensures.given limits most ahead run is in
-    inr (record { keeps = then.keeps; window = then.window ∙ sym is.window })
+    inr (record {
+      keeps = then.keeps;
+      most_is = then.small.judge_of.most_is ∙ sym is.small.judge_of.most_is;
+      window = then.window ∙ sym is.window;
+    })
 
 pub returns-in-None-clause-tells : goal.returns-in-None-clause-tells
 returns-in-None-clause-tells c = call_kept c.finding_of.result c.in-Some.verdict c.push.new.self c.finding_of.ensures

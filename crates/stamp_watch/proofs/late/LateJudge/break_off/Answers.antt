@@ -19,7 +19,8 @@ returns-clause-found c limits most ahead run is = c.in_ok-finding.ensures.broken
 
 pub returns-clause-given : goal.returns-clause-given
 returns-clause-given c limits most ahead run is = has_found limits most ahead (run ++ c.args.event.now ∷ []) _
-    c.in_ok-finding.finding (c.in_ok-finding.ensures.window ∙ is.window) (c.in_ok-finding.ensures.small ahead is.small)
+    c.in_ok-finding.finding (c.in_ok-finding.ensures.window ∙ is.window)
+    (c.in_ok-finding.ensures.small most ahead is.small)
     (keeps_beside limits run c.break_off.new.self c.args.event.now (c.in_ok-finding.ensures.keeps limits most ahead run
     (late_way limits most ahead run c.args.self.now is c.requires.none).delayed)) c.in_ok-finding.ensures.tells
     (more_in_run run (c.args.event.now ∷ []) c.break_off.new.self c.in_ok-finding.finding

@@ -1,3 +1,4 @@
+use Rattle.std.proofs.Common.{◌∙◌, sym}
 use Rattle.std.proofs.lemmas.Result.{IfOk-weaker}
 use Rattle.stamp_watch.proofs.JudgingLate.{few_wait, finding_now, late_found_of, late_rest_now, late_way, tells_of}
 use Rattle.stamp_watch.proofs.JudgingLate.{there_of}
@@ -42,3 +43,8 @@ pub rest-requires-clause-room : goal.rest-requires-clause-room
 rest-requires-clause-room c =
     (late_way c.requires.limits c.requires.most c.requires.ahead c.requires.run c.args.self.now c.requires.judge_of
     c.in-None.is).room
+
+pub returns-in-None-clause-most : goal.returns-in-None-clause-most
+returns-in-None-clause-most c = IfOk-weaker c.rest.result _ _ (λ f small. let some = c.requires in
+    (small some.most some.ahead some.judge_of.small).judge_of.most_is ∙ sym some.judge_of.small.judge_of.most_is)
+    c.rest.ensures.small

@@ -44,7 +44,7 @@ returns c limits run keeps =
     subst (λ (rs : List LockReply). AreChosen P (map reply_as rs) c.loop-k.found.items)
     (take_all c.loop-k.k c.args.replies.now (omega (arith, c.loop-k-test.false)))
     (c.loop-k.invariant limits run keeps) in
-    record { each = chosen P (map reply_as c.args.replies.now) c.loop-k.found.items are }
+    record { each = chosen P (map reply_as c.args.replies.now) c.loop-k.found.items are; once = are.once }
 
 pub returns-in_default-2 : goal.returns-in_default-2
 returns-in_default-2 c can limits run keeps = (

@@ -10,15 +10,15 @@ use Rattle.stamped_watch.proofs.stream_judge.StreamJudge.possible_at.Goals as go
 pub possible_at-requires : goal.possible_at-requires
 possible_at-requires c =
     let keeps = subst (λ (o : Option LateJudge). MatchOption o ⊤
-    (λ i. KeepsOf c.requires.keeps.ahead c.requires.keeps.fed i))
+    (λ i. KeepsOf c.requires.keeps.most c.requires.keeps.ahead c.requires.keeps.fed i))
     c.in-Some.is
     c.requires.keeps.keeps in
     record { limits = keeps.limits; run = keeps.events; keeps = keeps.keeps }
 
 pub returns : goal.returns
-returns c = IfOk-weaker c.possible_at.result _ _ (λ told is_told ahead fed keeps.
-    possible_told ahead fed c.in-Some.judge (subst (λ (o : Option LateJudge). MatchOption o ⊤
-    (λ i. KeepsOf ahead fed i))
+returns c = IfOk-weaker c.possible_at.result _ _ (λ told is_told most ahead fed keeps.
+    possible_told most ahead fed c.in-Some.judge (subst (λ (o : Option LateJudge). MatchOption o ⊤
+    (λ i. KeepsOf most ahead fed i))
     c.in-Some.is keeps) c.args.number c.args.ended.now
     (subst (λ (o : Option LateJudge). KeepsEndAt o c.args.number) c.in-Some.is c.requires.end)
     (subst (λ (o : Option LateJudge). ended_in o c.args.number ≡ Some c.args.ended.now) c.in-Some.is c.requires.ended)
