@@ -1,5 +1,5 @@
 -- When an observed history is stuck at a given call.
-use Rattle.std.specs.Prelude.{ℕ, ◌≡◌, ◌≤◌, List, length, Some}
+use Rattle.std.specs.Prelude.{ℕ, ◌≡◌, ◌≤◌, List, Some}
 use Rattle.stamp_core.specs.Limits.{Bounds, units}
 use Rattle.stamp_core.specs.Word.{LockWord}
 use Rattle.stamp_explain.specs.declared.observed.Observation.{Observation}
@@ -31,13 +31,12 @@ pub record IsStuckWithFew (limits : Bounds) (most : ℕ) (e : Observation) (smal
   pub stuck : IsStuckWith limits e small
   pub few : stuck.versions ≤ most
 
--- a history was sought that is stuck at this call, behind this word, of so many other calls, by searches that give up
--- so
+-- a history was sought that is stuck at this call, behind this word, of these other calls, by searches that give up so
 pub record IsSought (limits : Bounds) (word : LockWord) (others : List Observation) (e : Observation) (most : ℕ)
     (sought : Sought) : Type 0 where
   pub limits_are : sought.limits ≡ limits
   pub word_is : sought.word ≡ word
-  pub others_are : sought.others ≡ length others
+  pub others_are : sought.others.value.items ≡ others
   pub ended_is : sought.ended ≡ e
   pub most_is : sought.most ≡ most
 

@@ -15,6 +15,7 @@ use crate::window::{OlderStamps, behind, versions_left_out};
 use stamp_core::{Limits, Word};
 use stamp_explain::{Observation, Observed};
 use std::alloc::{AllocError, Global};
+use std::snapshot::Snapshot;
 
 /// A history that is stuck at the return of this entry.
 #[derive(Drop)]
@@ -33,8 +34,8 @@ struct StuckHistory {
 pub struct Sought {
     limits: Limits,
     word: Word,
-    /// How many other calls there were.
-    others: usize,
+    /// The other calls.
+    others: Snapshot<Vec<Observation>>,
     ended: Observation,
     most: u64,
 }
@@ -222,20 +223,20 @@ pub fn small_behind(
     alloc: Global,
     limits: Limits,
     word: Word,
-    others: &[Observation],
+    others: Vec<Observation>,
     ended: &Observation,
     most: u64,
 ) -> Result<SearchEnd, AllocError>
-    ensures found { IfOk result (λ found. IsFoundBehind limits word others.now ended.now most found) }
+    ensures found { IfOk result (λ found. IsFoundBehind limits word others.items ended.now most found) }
     ensures few { IfOk result (λ found. IfSmall found (λ small. HoldsForEvents word (λ events.
-        IsStuckWithFew limits (write_count events + length others.now + 1) ended.now small))) }
+        IsStuckWithFew limits (write_count events + length others.items + 1) ended.now small))) }
 {
-    match small_if_any(alloc, limits, word, others, ended, most)? {
+    match small_if_any(alloc, limits, word, others.as_slice(), ended, most)? {
         Some(small) => Ok(SearchEnd::Small(small)),
         None => Ok(SearchEnd::NotFound(Sought {
             limits,
             word,
-            others: others.len(),
+            others: Snapshot::of(&others),
             ended: *ended,
             most,
         })),

@@ -12,3 +12,5 @@ pub mod Showing
 pub mod Ended
 pub mod Replying
 pub mod Watching
+pub mod CallsTold
+pub mod Searching

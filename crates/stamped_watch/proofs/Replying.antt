@@ -16,9 +16,9 @@ use Rattle.stamp_watch.specs.declared.event.Event.TheVariants.{Begins, Returns, 
 use Rattle.stamp_watch.specs.declared.late.LateJudge.{LateJudge}
 use Rattle.stamp_watch.specs.Course.{KeepsEnd}
 use Rattle.stamp_watch.specs.EndedCall.{begun_in, ended, ended_at, ended_by, ended_from}
-use Rattle.stamp_watch.specs.Possible.{AreTooManyWith, CanTell, plain_replies}
+use Rattle.stamp_watch.specs.Possible.{AreTooManyWith, plain_replies}
 use Rattle.stamp_watch.specs.Possible.{items_in as replies_told}
-use Rattle.stamp_watch.specs.PossibleLate.{CanTellLater, IsToldLater, IsToldLaterOf}
+use Rattle.stamp_watch.specs.PossibleLate.{IsToldLater, IsToldLaterOf}
 use Rattle.stamp_watch.specs.Start.{BeganLateBy}
 use Rattle.stamp_watch.specs.Verdict.{IsOpenFor}
 use Rattle.stamped_watch.specs.Possible.{ArePossibleAt, AreToldOf, AreUntold, BeganLate, KeepsOf, items_in}

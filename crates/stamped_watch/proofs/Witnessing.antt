@@ -219,19 +219,20 @@ module _ (asked : Watching) (fed : List ℕ) (judge : StreamJudge) (keeps : Keep
     ended = x;
     kept = subst (λ (o : Option LateJudge). ended_in o k ≡ Some x) some of;
     there = ends k refl x of;
-    in_vain = subst (λ (j : Judge). AreInVain j x (min asked.most most_searched) sought.items) up.is
-        (subst (λ (m : ℕ). AreInVain base x (min m 16384) sought.items) (sym same) is);
+    in_vain = subst (λ (j : Judge). AreInVain j k x (min asked.most most_searched) sought.items) up.is
+        (subst (λ (m : ℕ). AreInVain base k x (min m 16384) sought.items) (sym same) is);
   }
   text_told base up x of most same (Err lack.Memory) is = tt
 
 -- one more start was tried
-pub sought_more : (judge : Judge) (x : EndedCall) (most start : ℕ) (before : List Sought) (sought : Sought) →
-    AreSoughtOn judge x most start before → IsSoughtFrom judge x most (start + length before) sought →
-    AreSoughtOn judge x most start (before ++ sought ∷ [])
-sought_more judge x most start [] sought are is =
-    (subst (λ (n : ℕ). IsSoughtFrom judge x most n sought) (add-zero start) is, tt)
-sought_more judge x most start (s ∷ before) sought are is = (
+pub sought_more : (judge : Judge) (number : ℕ) (x : EndedCall) (most start : ℕ) (before : List Sought)
+    (sought : Sought) → AreSoughtOn judge number x most start before →
+    IsSoughtFrom judge number x most (start + length before) sought →
+    AreSoughtOn judge number x most start (before ++ sought ∷ [])
+sought_more judge number x most start [] sought are is =
+    (subst (λ (n : ℕ). IsSoughtFrom judge number x most n sought) (add-zero start) is, tt)
+sought_more judge number x most start (s ∷ before) sought are is = (
   are.0,
-  sought_more judge x most (start + 1) before sought are.1
-      (subst (λ (n : ℕ). IsSoughtFrom judge x most n sought) (omega arith) is),
+  sought_more judge number x most (start + 1) before sought are.1
+      (subst (λ (n : ℕ). IsSoughtFrom judge number x most n sought) (omega arith) is),
 )

@@ -9,5 +9,6 @@ pub mod FindingText
 pub mod Note
 pub mod Progress
 pub mod Served
+pub mod Calls
 pub mod Witness
 pub mod inner

@@ -1,5 +1,5 @@
 -- Witnesses: small histories that are stuck where a run is.
-use Rattle.std.specs.Prelude.{ℕ, ◌≡◌, ◌+◌, ◌++◌, ◌∷◌, [], List, length, min, Option, Some, None, Bool, true}
+use Rattle.std.specs.Prelude.{ℕ, ◌≡◌, ◌+◌, ◌-◌, ◌++◌, ◌∷◌, [], List, length, take, min, Option, Some, None, Bool, true}
 use Rattle.std.specs.Prelude.{Result, Ok, Err, Vec}
 use Rattle.std.specs.declared.alloc.Global.{Global}
 use Rattle.stamp_cli.specs.Shell.{SinkView}
@@ -7,10 +7,11 @@ use Rattle.stamp_cli.specs.declared.shell.Lack.{Lack}
 use Rattle.stamp_cli.specs.declared.shell.Lack.TheVariants as told
 use Rattle.stamp_core.specs.Limits.{Bounds}
 use Rattle.stamp_core.specs.Word.{word_at}
+use Rattle.stamp_core.specs.declared.reply.Reply.{Reply}
 use Rattle.stamp_explain.specs.declared.observed.Observation.{Observation}
 use Rattle.stamp_explain.specs.declared.observed.Returned.{Returned}
 use Rattle.stamp_explain.specs.Observed.{ObservedHistory}
-use Rattle.stamp_observed.specs.Behind.{IsStuckWith}
+use Rattle.stamp_observed.specs.Behind.{IsSought, IsStuckWith}
 use Rattle.stamp_observed.specs.declared.behind.Sought.{Sought}
 use Rattle.stamp_observed.specs.ObservedText.{observed_text}
 use Rattle.stamp_watch.specs.declared.ended_call.EndedCall.{EndedCall}
@@ -18,7 +19,8 @@ use Rattle.stamp_watch.specs.declared.event.Event.{Event}
 use Rattle.stamp_watch.specs.declared.late.LateJudge.{LateJudge}
 use Rattle.stamp_watch.specs.declared.online.Judge.{Judge}
 use Rattle.stamp_watch.specs.EndedCall.{ended_at, ended_from}
-use Rattle.stamp_watch.specs.Start.{word_of}
+use Rattle.stamp_watch.specs.Start.{waiting_of, word_of}
+use Rattle.stamped_watch.specs.Calls.{Told, told_along, told_beside, told_end}
 use Rattle.stamped_watch.specs.declared.finding.Finding.{Finding}
 use Rattle.stamped_watch.specs.declared.finding.Finding.TheVariants.{Stuck}
 use Rattle.stamped_watch.specs.declared.orders.Watching.{Watching}
@@ -65,38 +67,45 @@ pub record IsWitnessText (judge : Judge) (number : ℕ) (text : List ℕ) : Type
   pub witness : IsWitnessAt judge number small
   pub text_is : text ≡ observed_text small ++ 10 ∷ []
 
--- a small history was sought that is stuck at the call that ended, behind the word of this start, by searches that give
--- up so
-pub record IsSoughtFrom (judge : Judge) (ended : EndedCall) (most start : ℕ) (sought : Sought) : Type 0 where
-  pub limits_are : sought.limits ≡ judge.course.base.limits
-  pub word : ℕ
-  pub of_start : word_of judge.course.base start ≡ Some word
-  pub word_is : sought.word ≡ word_at judge.course.base.limits word
-  pub call : IsCallOf ended sought.ended
-  pub most_is : sought.most ≡ most
+-- what is told of the calls up to the event of this number, from a start on
+abbrev pub told_before : Judge → ℕ → ℕ → Told
+told_before judge number start =
+    told_along (waiting_of judge.course.base start) (take (number - judge.course.first) judge.course.events.items)
+
+-- a small history was sought that is stuck at the call that ended there, behind the word of this start, of all other
+-- calls that are told from there on, by searches that give up so
+pub record IsSoughtFrom (judge : Judge) (number : ℕ) (ended : EndedCall) (most start : ℕ) (sought : Sought) : Type 0
+  where
+    pub word : ℕ
+    pub of_start : word_of judge.course.base start ≡ Some word
+    pub reply : Reply
+    pub reply_is : ended.reply ≡ Some reply
+    pub so : IsSought judge.course.base.limits (word_at judge.course.base.limits word)
+        (told_beside ended.lane (told_before judge number start))
+        (told_end ended reply (told_before judge number start)) most sought
 
 -- so it was from each start, of which the first has this number
-abbrev pub AreSoughtOn : Judge → EndedCall → ℕ → ℕ → List Sought → Type 0
-AreSoughtOn judge ended most start [] = Unit {0}
-AreSoughtOn judge ended most start (sought ∷ others) =
-    IsSoughtFrom judge ended most start sought × AreSoughtOn judge ended most (start + 1) others
+abbrev pub AreSoughtOn : Judge → ℕ → EndedCall → ℕ → ℕ → List Sought → Type 0
+AreSoughtOn judge number ended most start [] = Unit {0}
+AreSoughtOn judge number ended most start (sought ∷ others) =
+    IsSoughtFrom judge number ended most start sought × AreSoughtOn judge number ended most (start + 1) others
 
 -- none was found from the first 64 starts, or from all
-pub record AreInVain (judge : Judge) (ended : EndedCall) (most : ℕ) (sought : List Sought) : Type 0 where
-  pub each : AreSoughtOn judge ended most 0 sought
+pub record AreInVain (judge : Judge) (number : ℕ) (ended : EndedCall) (most : ℕ) (sought : List Sought) : Type 0 where
+  pub each : AreSoughtOn judge number ended most 0 sought
   pub all : length sought ≡ min (length judge.course.base.positions.items) most_starts
 
--- why there is no witness of the call that ended
-abbrev pub IsLackingHere : Judge → EndedCall → ℕ → NoWitness → Type 0
-IsLackingHere judge ended most lack.BeganLate = ⊥
-IsLackingHere judge ended most lack.Withdrawn = ended.reply ≡ None
-IsLackingHere judge ended most (lack.NotFound sought) = AreInVain judge ended most sought.items
-IsLackingHere judge ended most lack.Memory = Unit {0}
+-- why there is no witness of the call that ended at the event of this number
+abbrev pub IsLackingHere : Judge → ℕ → EndedCall → ℕ → NoWitness → Type 0
+IsLackingHere judge number ended most lack.BeganLate = ⊥
+IsLackingHere judge number ended most lack.Withdrawn = ended.reply ≡ None
+IsLackingHere judge number ended most (lack.NotFound sought) = AreInVain judge number ended most sought.items
+IsLackingHere judge number ended most lack.Memory = Unit {0}
 
 -- the text of a witness of the call that ended, or why there is none
 abbrev pub IsTextHere : Judge → ℕ → EndedCall → ℕ → Result (Vec ℕ Global) NoWitness → Type 0
 IsTextHere judge number ended most (Ok text) = IsWitnessText judge number text.items
-IsTextHere judge number ended most (Err why) = IsLackingHere judge ended most why
+IsTextHere judge number ended most (Err why) = IsLackingHere judge number ended most why
 
 -- the call is the one that the event with this number ends in the stream of these bytes
 pub record IsWitnessIn (bytes : List ℕ) (number : ℕ) (small : ObservedHistory) : Type 0 where
@@ -122,7 +131,7 @@ pub record IsSoughtInVain (asked : Watching) (bytes : List ℕ) (k : ℕ) (sough
   pub ended : EndedCall
   pub kept : ended_from inner.delay.judge.course.first inner.delay.judge.course.events.items k ≡ Some ended
   pub there : EndsThere bytes k ended
-  pub in_vain : AreInVain inner.delay.judge ended (min asked.most most_searched) sought
+  pub in_vain : AreInVain inner.delay.judge k ended (min asked.most most_searched) sought
 
 -- the call that ends there was withdrawn
 pub record IsWithdrawnAt (bytes : List ℕ) (k : ℕ) : Type 0 where

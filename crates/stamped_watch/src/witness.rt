@@ -6,6 +6,7 @@ ghost use Rattle.stamp_observed.specs.ObservedText.{observed_text};
 ghost use Rattle.stamp_watch.specs.Course.{KeepsEnd};
 ghost use Rattle.stamp_watch.specs.EndedCall.{ended_from};
 ghost use Rattle.stamp_watch.specs.Possible.{KeepsSome};
+ghost use Rattle.stamped_watch.specs.Calls.{ended_call, return};
 ghost use Rattle.stamped_watch.specs.Witness.{IsCallOf, IsTextHere, lack_of};
 ghost use Rattle.stamped_watch.specs.inner.Witness.{IsSearchedFrom, IsSearchedHere};
 
@@ -77,7 +78,8 @@ pub(crate) fn lack_of(shown: &Result<Shown, NoWitness>) -> Option<Lack>
 /// The call that ended with this reply, as an observer tells it.
 fn observed_call(ended: &EndedCall, reply: Reply, first: u64, last: u64) -> Observation
     requires { ended.now.reply ≡ Some reply }
-    ensures { IsCallOf ended.now result }
+    ensures call { IsCallOf ended.now result }
+    ensures told { result ≡ ended_call ended.now first (return last reply) }
 {
     Observation {
         thread: ended.lane,
@@ -87,20 +89,21 @@ fn observed_call(ended: &EndedCall, reply: Reply, first: u64, last: u64) -> Obse
     }
 }
 
-/// A witness that begins at this start is sought: stuck at the call that ended so at this place among the events that
+/// A witness that begins at this start is sought: stuck at the call that ended so at the event with this number, which
 /// the judge keeps.
 fn witness_from(
     alloc: Global,
     judge: &Judge,
     start: usize,
-    place: usize,
+    number: u64,
     ended: &EndedCall,
     most: u64,
 ) -> Result<SearchEnd, AllocError>
     requires keeps { KeepsSome judge.now }
     requires start { start < length judge.now.course.base.positions.items }
+    requires end { KeepsEnd judge.now.course number }
     requires reply { ended.now.reply ≢ None }
-    ensures { IfOk result (λ end. IsSearchedFrom judge.now ended.now most start end) }
+    ensures { IfOk result (λ end. IsSearchedFrom judge.now number ended.now most start end) }
 {
     let Some(reply) = ended.reply else {
         unreachable!();
@@ -112,30 +115,32 @@ fn witness_from(
         unreachable!();
     };
     let events = judge.kept_events();
+    let place = (number - judge.first_kept()) as usize;
     let before = &events[..place.min(events.len())];
     let mut calls = Calls::at_start(alloc, judge, start)?;
     calls.push_all(before)?;
     let first = calls.take(ended.lane).unwrap_or(0);
     let call = observed_call(ended, reply, first, before.len() as u64 + 1);
     let others = calls.observations(alloc)?;
-    small_behind(alloc, judge.limits(), word, &others, &call, most)
+    small_behind(alloc, judge.limits(), word, others, &call, most)
 }
 
 /// The first witness that is found from one of the starts.
 fn any_witness(
     alloc: Global,
     judge: &Judge,
-    place: usize,
+    number: u64,
     ended: &EndedCall,
     most: u64,
 ) -> Result<Observed, NoWitness>
     requires keeps { KeepsSome judge.now }
+    requires end { KeepsEnd judge.now.course number }
     requires reply { ended.now.reply ≢ None }
-    ensures { IsSearchedHere judge.now ended.now most result }
+    ensures { IsSearchedHere judge.now number ended.now most result }
 {
     let mut in_vain = Vec::new(alloc);
     for start in 0..judge.starts().min(MOST_STARTS) {
-        match witness_from(alloc, judge, start, place, ended, most)? {
+        match witness_from(alloc, judge, start, number, ended, most)? {
             SearchEnd::Small(small) => return Ok(small),
             SearchEnd::NotFound(sought) => in_vain.push(sought)?,
         }
@@ -156,13 +161,12 @@ fn witness_of(
 ) -> Result<Observed, NoWitness>
     requires keeps { KeepsSome judge.now }
     requires end { KeepsEnd judge.now.course number }
-    ensures { IsSearchedHere judge.now ended.now (min most 16384) result }
+    ensures { IsSearchedHere judge.now number ended.now (min most 16384) result }
 {
     if ended.reply.is_none() {
         return Err(NoWitness::Withdrawn);
     }
-    let place = (number - judge.first_kept()) as usize;
-    any_witness(alloc, judge, place, ended, most.min(MOST_SEARCHED))
+    any_witness(alloc, judge, number, ended, most.min(MOST_SEARCHED))
 }
 
 /// An observed history as a text of one line, with its line feed.

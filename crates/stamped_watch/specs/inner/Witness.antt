@@ -9,11 +9,13 @@ use Rattle.stamped_watch.specs.declared.witness.NoWitness.{NoWitness}
 use Rattle.stamped_watch.specs.Witness.{IsLackingHere, IsSoughtFrom, IsWitnessOf}
 
 -- what is found from this start
-abbrev pub IsSearchedFrom : Judge → EndedCall → ℕ → ℕ → SearchEnd → Type 0
-IsSearchedFrom judge ended most start (search.Small small) = IsWitnessOf judge.course.base.limits ended small
-IsSearchedFrom judge ended most start (search.NotFound sought) = IsSoughtFrom judge ended most start sought
+abbrev pub IsSearchedFrom : Judge → ℕ → EndedCall → ℕ → ℕ → SearchEnd → Type 0
+IsSearchedFrom judge number ended most start (search.Small small) =
+    IsWitnessOf judge.course.base.limits ended small
+IsSearchedFrom judge number ended most start (search.NotFound sought) =
+    IsSoughtFrom judge number ended most start sought
 
 -- what is found from all starts
-abbrev pub IsSearchedHere : Judge → EndedCall → ℕ → Result ObservedHistory NoWitness → Type 0
-IsSearchedHere judge ended most (Ok small) = IsWitnessOf judge.course.base.limits ended small
-IsSearchedHere judge ended most (Err why) = IsLackingHere judge ended most why
+abbrev pub IsSearchedHere : Judge → ℕ → EndedCall → ℕ → Result ObservedHistory NoWitness → Type 0
+IsSearchedHere judge number ended most (Ok small) = IsWitnessOf judge.course.base.limits ended small
+IsSearchedHere judge number ended most (Err why) = IsLackingHere judge number ended most why
