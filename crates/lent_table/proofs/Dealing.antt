@@ -1,0 +1,177 @@
+-- A table is made of two plots, and gives them back. Assumes `Logic`.
+use Rattle.std.proofs.Common.{◌≡◌, ℕ, [], ◌∷◌, sym, refl, ◌∙◌, subst}
+use seplogic.Ra.Ura.{Ura}
+use base.Fraction.{full_share}
+use base.Share.{quarter, three_quarters}
+use base.Stored.{Coded}
+use base.Logic.{SProp, ent, sep, ex, guard, via}
+use base.Fml.{Lft, Fml, ftrue, fsep, fdead, fbor, finv, flft, fauth}
+use types.Logic.{Logic, sem}
+use types.Kit.{‵, ◌⊛◌, some, given, later, ◌$◌, ◌∵◌, !, qed, move, keep, drop, split, fsplit, fsplit3}
+use types.Kit.{fjoin, fjoin3, fpick, fpack, pick, learn, show, check, use0, use1, use2, updating, await, now, rewrite}
+use types.Kit.{done}
+use types.Tokens.{lft_new, lft_end, name_new, name_agree, bor_new, lent_back}
+use types.Keyed.{entries_new, entries_take}
+use types.Owned.{basic, own_new}
+use denote.RattleType.{RattleType}
+use denote.Builtin.{u64}
+use denote.Memory.{part_at}
+use denote.RawPtr.{Ptr, block_of, count_of, InBlock, at_block, lies_at}
+use denote.Steps.{nothing}
+use Rattle.core.specs.Sync.RawAtomic.{word}
+use Rattle.core.proofs.tally.Steps.{word_out, word_in}
+use Rattle.atomic_table.specs.Seated.{halved, seen, unused}
+use Rattle.atomic_table.proofs.Roster.{resets}
+use Rattle.counted_slot.specs.Counting.{rounds, tag}
+use Rattle.lent_table.specs.Table.{Home, away, lent, writes, State, opening, Closes}
+use Rattle.lent_table.specs.Lending.{TableId, age, lends, writing, home_owns, Placed, seat_owns, standing, inner}
+use Rattle.lent_table.specs.Lending.{common, rights, table_owns, plot_owns}
+
+lent_value : {T : Type 0} (m n : ℕ) (x y : T) → lent m x ≡ lent n y → x ≡ y
+lent_value m n x y e = cc
+
+not_lent : {T : Type 0} (n : ℕ) (y : T) → away ≡ lent n y → ⊥
+not_lent n y e = cc
+
+module _ {M : Type 1} {𝓤 : Ura M} (𝓛 : Logic 𝓤) (R : RattleType) where
+  open 𝓛 use {H}
+
+  abbrev Pr : Type 2
+  Pr = SProp 𝓤
+
+  infix 26 ◌⊢◌
+  infixr 35 ◌∗◌
+  abbrev ◌⊢◌ : Pr → Pr → Type 1
+  P ⊢ Q = ent 𝓤 P Q
+
+  abbrev ◌∗◌ : Pr → Pr → Pr
+  P ∗ Q = sep 𝓤 P Q
+
+  abbrev ⟦◌⟧ : Fml → Pr
+  ⟦ P ⟧ = sem 𝓛 P
+
+  abbrev pub Lain : Ptr → R.Denot → Pr
+  Lain p x = guard 𝓤 (InBlock p) ⟦ part_at R full_share x (block_of p) (count_of p) ⟧
+
+  pub plot_lies : (p : Ptr) (x : R.Denot) → ⟦ plot_owns R p x ⟧ ⊢ Lain p x
+  plot_lies p x = qed 𝓛 (‵ (plot_owns R p x) ∷ []) ∵ fsplit ! $ fpick ! (λ at. drop ! $ check ! at $
+      rewrite ! 0 (λ (r : Ptr). ‵ (lies_at R full_share r x)) (at_block p at) refl $ done !)
+
+  -- a plot's pointer is one
+  pub plot_is : (p : Ptr) (x : R.Denot) → ⟦ plot_owns R p x ⟧ ⊢ guard 𝓤 (InBlock p) ⟦ plot_owns R p x ⟧
+  plot_is p x = qed 𝓛 (‵ (plot_owns R p x) ∷ []) ∵ fsplit ! $ fpick ! (λ at. check ! at $
+      fpack ! (InBlock p) (λ _. ftrue) at $ done !)
+
+  pub plot_in : (p : Ptr) (x : R.Denot) → InBlock p → ⟦ part_at R full_share x (block_of p) (count_of p) ⟧
+      ⊢ ⟦ plot_owns R p x ⟧
+  plot_in p x at = qed 𝓛 (‵ (part_at R full_share x (block_of p) (count_of p)) ∷ []) ∵
+      rewrite ! 0 (λ (r : Ptr). ‵ (lies_at R full_share r x)) (sym (at_block p at)) refl $ nothing ! $
+      fpack ! (InBlock p) (λ _. ftrue) at $ fjoin ! $ done !
+
+module _ {M : Type 1} {𝓤 : Ura M} (𝓛 : Logic 𝓤) (R : RattleType) {V : Type 0} (cv : Coded V)
+    (holds : State R.Denot V → Type 0) (w p : Ptr) where
+  open 𝓛 use {H}
+
+  abbrev b : ℕ
+  b = block_of w
+
+  abbrev o : ℕ
+  o = count_of w
+
+  module _ (n : ℕ) (x : R.Denot) (v : V) where
+    abbrev pub Dealt : TableId → Pr 𝓛 R
+    Dealt z = guard 𝓤 (InBlock w × InBlock p) (sep 𝓤 (sem 𝓛 (table_owns R cv.code holds w p z))
+        (sem 𝓛 (seat_owns R cv.code z 0 (v, writes x))))
+
+    pub deals : holds (opening n v) → ent 𝓤 (sep 𝓤 (sem 𝓛 (plot_owns u64 w n)) (sem 𝓛 (plot_owns R p x)))
+        (H.⇛ (ex 𝓤 Dealt))
+    unfolding Rattle.lent_table.specs.Lending.under
+    deals good = qed 𝓛 (‵ (plot_owns u64 w n) ∷ ‵ (plot_owns R p x) ∷ []) ∵ updating ! $
+        use1 𝓛 (given (InBlock w) (‵ (part_at u64 full_share n b o))) (plot_lies 𝓛 u64 w n) $
+        learn ! (λ in_w. use1 𝓛 (‵ (word b o n)) (word_out 𝓛 b o n) $
+        move ! (1 ∷ []) $ use1 𝓛 (given (InBlock p) (‵ (part_at R full_share x (block_of p) (count_of p))))
+        (plot_lies 𝓛 R p x) $ learn ! (λ in_p.
+        -- the value: its borrow, its name, and the right to have it back
+        lft_new ! tt (λ a. let κ : Lft = a ∷ [] in name_new ! tt (R.coded.code x) (λ δ. move ! (3 ∷ 1 ∷ []) $ fjoin ! $
+        fpack ! R.Denot (λ y. fsep (part_at R full_share y (block_of p) (count_of p)) (fauth δ (R.coded.code y)))
+        x $ bor_new ! tt κ $
+        -- the names of the views and of the round
+        use0 𝓛 (later (some (λ (γ : ℕ). ‵ (unused cv.code γ 0 v))))
+        (via 𝓤 _ (entries_new halved 𝓛 0 (λ _. (full_share, cv.code v)))
+        (basic 𝓛 (ex 𝓤 (λ (γ : ℕ). sem 𝓛 (unused cv.code γ 0 v))))) $ await ! tt $ pick ! (λ γ.
+        use1 𝓛 (‵ (seen cv.code γ 0 full_share v) ⊛ ‵ (unused cv.code γ 1 v)) (entries_take halved 𝓛 γ 0 (λ _.
+        (full_share, cv.code v))) $ split ! $
+        let Quarter : Fml = seen cv.code γ 0 quarter v in let Most : Fml = seen cv.code γ 0 three_quarters v in
+        use1 𝓛 (later (‵ Quarter ⊛ ‵ Most)) (via 𝓤 _ (resets 𝓛 cv γ 0 v v)
+        (basic 𝓛 (sep 𝓤 (sem 𝓛 Quarter) (sem 𝓛 Most)))) $ await ! tt $ split ! $
+        move ! (2 ∷ []) $ fpack ! V (unused cv.code γ 1) v $ move ! (1 ∷ 0 ∷ []) $ fjoin ! $
+        use0 𝓛 (later (some (λ (ρ : ℕ). ‵ (tag ρ full_share 0))))
+        (via 𝓤 _ (own_new 𝓛 rounds (full_share, 0)) (basic 𝓛 (ex 𝓤 (λ (ρ : ℕ). sem 𝓛 (tag ρ full_share 0))))) $
+        await ! tt $ pick ! (λ ρ.
+        let z : TableId = record {
+          atom = a;
+          block = block_of p;
+          offset = count_of p;
+          views_name = γ;
+          round_name =
+              ρ;
+          value_name = δ;
+        } in
+        let s : State R.Denot V = opening n v in let I : Fml = inner R cv.code holds w p z in
+        -- the seat
+        move ! (0 ∷ 5 ∷ 3 ∷ []) $ fjoin3 ! $ fpack ! ℕ (writing R z x) 0 $ move ! (0 ∷ 2 ∷ []) $ fjoin ! $
+        -- the invariant
+        move ! (1 ∷ []) $ nothing ! $ fjoin ! $ nothing ! $ fpack ! (holds s) (λ _. ftrue) good $
+        move ! (5 ∷ 1 ∷ 0 ∷ []) $ fjoin3 ! $
+        fpack ! (State R.Denot V) (standing R cv.code holds w p z) s $ bor_new ! tt κ $
+        use1 𝓛 (later (‵ (finv (fbor κ I)))) (𝓛.invs.inv_new (fbor κ I)) $ await ! tt $
+        nothing ! $ fpack ! (Placed w p z) (λ _. ftrue) (in_w, at_block p in_p) $ fjoin ! $
+        -- [what is common; the right to the word; the seat; the right to the value; the age's token]
+        move ! (1 ∷ 3 ∷ []) $ fjoin ! $ move ! (3 ∷ 1 ∷ 0 ∷ []) $ fjoin3 ! $ now ! $ show ! Dealt z $
+        check ! (in_w, in_p) $ keep ! (0 ∷ 1 ∷ []) $ done !))))))
+
+  module _ (z : TableId) where
+    abbrev Told : Home R.Denot → R.Denot → Type 0
+    Told h x = (m : ℕ) (y : R.Denot) → h ≡ lent m y → x ≡ y
+
+    -- a value that is lent is what its name says
+    home_tells : (h : Home R.Denot) (x : R.Denot) → ent 𝓤
+        (sep 𝓤 (sem 𝓛 (home_owns R z h)) (sem 𝓛 (fauth z.value_name (R.coded.code x))))
+        (guard 𝓤 (Told h x) (sem 𝓛 ftrue))
+    home_tells away x = qed 𝓛 (‵ ftrue ∷ ‵ (fauth z.value_name (R.coded.code x)) ∷ []) ∵
+        check ! (λ m y e. absurd (not_lent m y e)) $ keep ! (0 ∷ []) $ done !
+    home_tells (lent m y) x = qed 𝓛 (‵ (home_owns R z (lent m y)) ∷ ‵ (fauth z.value_name (R.coded.code x)) ∷ []) ∵
+        fpick ! (λ a. fsplit3 ! $ move ! (2 ∷ []) $
+        fsplit ! $ move ! (0 ∷ 4 ∷ []) $ name_agree ! R.coded (λ same. check ! (λ k u e.
+        sym same ∙ lent_value m k y u e) $ nothing ! $ keep ! (0 ∷ []) $ done !))
+
+    abbrev pub Gathered : ℕ × R.Denot → Pr 𝓛 R
+    Gathered t = guard 𝓤 (Closes holds t.0 t.1 × InBlock w × InBlock p)
+        (sep 𝓤 (sem 𝓛 (plot_owns u64 w t.0)) (sem 𝓛 (plot_owns R p t.1)))
+
+    pub table_lies : ent 𝓤 (sem 𝓛 (table_owns R cv.code holds w p z))
+        (guard 𝓤 (InBlock w × InBlock p) (sem 𝓛 (table_owns R cv.code holds w p z)))
+    unfolding Rattle.lent_table.specs.Lending.under
+    table_lies = qed 𝓛 (‵ (flft (age z) full_share) ∷ ‵ (common R cv.code holds w p z)
+        ∷ ‵ (rights R cv.code holds w p z) ∷ []) ∵ move ! (1 ∷ []) $ fsplit ! $
+        fpick ! (λ at. drop ! $ check ! (at.0, subst InBlock (sym at.1) tt) $ nothing ! $
+        fpack ! (Placed w p z) (λ _. ftrue) at $ fjoin ! $ move ! (1 ∷ 0 ∷ []) $ done !)
+
+    pub gathers : ent 𝓤 (sem 𝓛 (table_owns R cv.code holds w p z)) (H.⇛ (ex 𝓤 Gathered))
+    unfolding Rattle.lent_table.specs.Lending.under
+    gathers = qed 𝓛 (‵ (flft (age z) full_share) ∷ ‵ (common R cv.code holds w p z)
+        ∷ ‵ (rights R cv.code holds w p z) ∷ []) ∵ updating ! $ lft_end ! tt $
+        use1 𝓛 (‵ (fdead (age z)) ⊛ ‵ (fdead (age z))) (𝓛.lfts.dead_dup (age z)) $ split ! $ move ! (2 ∷ []) $
+        fsplit ! $ fpick ! (λ at. drop ! $ drop ! $
+        move ! (2 ∷ []) $ fsplit ! $ move ! (2 ∷ 0 ∷ []) $ lent_back ! tt $ fpick ! (λ s. fsplit3 ! $
+        move ! (2 ∷ []) $ fpick ! (λ so. drop ! $
+        move ! (1 ∷ []) $ fsplit ! $ move ! (4 ∷ 3 ∷ []) $ lent_back ! tt $ fpick ! (λ x. fsplit ! $
+        move ! (2 ∷ 1 ∷ []) $
+        use2 𝓛 (given (Told s.home x) (‵ ftrue)) (home_tells s.home x) $ learn ! (λ is. drop ! $
+        let in_p : InBlock p = subst InBlock (sym at.1) tt in
+        rewrite ! 0 (λ (r : Ptr). ‵ (part_at R full_share x (block_of r) (count_of r))) (sym at.1) refl $
+        use1 𝓛 (‵ (plot_owns R p x)) (plot_in 𝓛 R p x in_p) $
+        move ! (2 ∷ []) $ use1 𝓛 (‵ (part_at u64 full_share s.word b o)) (word_in 𝓛 b o s.word) $
+        use1 𝓛 (‵ (plot_owns u64 w s.word)) (plot_in 𝓛 u64 w s.word at.0) $
+        now ! $ show ! Gathered (s.word, x) $ check ! ((s, so, refl, is), at.0, in_p) $ keep ! (0 ∷ 1 ∷ []) $
+        done !)))))

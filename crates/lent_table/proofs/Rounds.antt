@@ -1,0 +1,272 @@
+-- The value is lent for a round, part by part, and the round ends. Assumes `Logic`.
+use Rattle.std.proofs.Common.{◌≡◌, ℕ, suc, ◌+◌, ◌-◌, ◌^◌, ◌<◌, [], ◌∷◌, ◌++◌, refl, sym, arith}
+use seplogic.Ra.Ura.{Ura}
+use base.Fraction.{full_share}
+use base.FractionLaws.{Counts, Counts-all}
+use base.Logic.{via, SProp, ent, sep, upd_i, id⊢}
+use base.Fml.{Lft, Share, Incl, Incl-trans, Fml, ftrue, fsep, fseps, fex, fwand, fupd, fdead, fbor, flft, fobs, fauth}
+use base.Fml.{fshr_bor}
+use contract.BorrowLft.{meet_⊑_left, meet_⊑_right, ⊑_meet}
+use ghost.Rules.{Toks, span}
+use types.Logic.{Logic, sem, lfts}
+use types.Kit.{given, learn, ‵, raw, ◌⊛◌, later, ◌$◌, ◌∵◌, !, qed, by, move, keep, use1, use2, use3}
+use types.Kit.{split, split3, join, group, fsplit, fsplit3, fjoin, fjoin3, fpick, fpack, assume, suffices}
+use types.Kit.{await, updating, now, rewrite, done}
+use types.Tokens.{lft_new, lft_end, lent_back, bor_open, obor_alter, bor_fracture, name_agree, shr_bor_shorten}
+use types.Owned.{basic}
+use denote.RattleType.{RattleType, RowLaws}
+use denote.Memory.{part_at}
+use denote.Moves.{moves}
+use denote.Shares.{Shares}
+use denote.Sharing.{ShrLaws}
+use denote.Sharing as sharing
+use denote.SharingLaws.{beside_shr_laws, some_shr_laws, one_shr_laws, contraction, shortens, nothing_shr_laws}
+use denote.SharingLaws.{within_shr_laws}
+use denote.Steps.{nothing}
+use denote.Struct.Lending.{Lends, Lends-nothing}
+use Rattle.core.proofs.cell.Borrows.{by_one}
+use Rattle.counted_slot.specs.Counting.{tag, share, parts}
+use Rattle.counted_slot.proofs.Parts.{parts_in, parts_cut, parts_glue, parts_whole, parts_agree, renames}
+use Rattle.lent_table.specs.Table.{Home, lent, Hold, none, reads, writes, Act, stays, comes, goes, takes, gives}
+use Rattle.lent_table.specs.Table.{grows, shrinks, home_after, hold_after, Valid}
+use Rattle.lent_table.specs.Lending.{TableId, age, kept, shows, waits, round_of, lends, reading, resting, writing}
+use Rattle.lent_table.specs.Lending.{home_owns, hold_owns, hold_steps, lit, hold_shares}
+
+module _ (R : RattleType) (L : RowLaws R) (z : TableId) where
+  lit_laws : (x : R.Denot) (a : ℕ) → ShrLaws (lit R z x a)
+  lit_laws x a = beside_shr_laws (sharing.one (λ q. flft (a ∷ []) q)) (sharing.within (a ∷ age z) (shows R z x))
+      (one_shr_laws (λ q. flft (a ∷ []) q))
+      (within_shr_laws (a ∷ age z) (shows R z x) (L x z.block z.offset))
+
+  pub shares_laws : (o : Hold R.Denot) → ShrLaws (hold_shares R z o)
+  shares_laws none = nothing_shr_laws
+  shares_laws (reads x) = some_shr_laws ℕ (lit R z x) (lit_laws x)
+  shares_laws (writes x) = nothing_shr_laws
+
+module _ {M : Type 1} {𝓤 : Ura M} (𝓛 : Logic 𝓤) (R : RattleType) (L : RowLaws R) (z : TableId) where
+  open 𝓛 use {H, A}
+
+  abbrev Pr : Type 2
+  Pr = SProp 𝓤
+
+  infix 26 ◌⊢◌
+  infixr 35 ◌∗◌
+  abbrev ◌⊢◌ : Pr → Pr → Type 1
+  P ⊢ Q = ent 𝓤 P Q
+
+  abbrev ◌∗◌ : Pr → Pr → Pr
+  P ∗ Q = sep 𝓤 P Q
+
+  abbrev ⟦◌⟧ : Fml → Pr
+  ⟦ P ⟧ = sem 𝓛 P
+
+  abbrev T : Type 0
+  T = R.Denot
+
+  abbrev γ : ℕ
+  γ = z.round_name
+
+  abbrev α : Lft
+  α = age z
+
+  abbrev V : T → Lft → Fml
+  V = shows R z
+
+  abbrev home : Home T → Fml
+  home = home_owns R z
+
+  abbrev hold : Hold T → Fml
+  hold = hold_steps R z
+
+  V_laws : (x : T) → ShrLaws (V x)
+  V_laws x = L x z.block z.offset
+
+  -- a reader's part is cut from the rest
+  one_more : (k m : ℕ) (x : T) (a : ℕ) → (k ≡ 2 ^ 63 - m) → m < 2 ^ 62
+      → ⟦ parts γ a k ⟧ ∗ ⟦ round_of R z a x ⟧ ⊢ ⟦ home (lent (suc m) x) ⟧ ∗ ⟦ hold (reads x) ⟧
+  one_more k m x a is few = let rest : ℕ = 2 ^ 63 - suc m in qed 𝓛 (‵ (parts γ a k) ∷ ‵ (round_of R z a x) ∷ []) ∵
+      use1 𝓛 (‵ (parts γ a 1) ⊛ ‵ (parts γ a rest)) (parts_cut 𝓛 γ a k 1 rest (omega arith) (omega arith)
+      (omega arith) (omega arith)) $ split ! $
+      move ! (2 ∷ []) $ fsplit ! $ use1 𝓛 (‵ (V x (a ∷ α)) ⊛ ‵ (V x (a ∷ α)))
+      (contraction 𝓛 (V x) (V_laws x) (a ∷ α)) $ split ! $
+      move ! (3 ∷ 0 ∷ []) $ fjoin ! $ fpack ! ℕ (reading R z x) a $
+      move ! (1 ∷ 2 ∷ []) $ fjoin ! $ move ! (2 ∷ 0 ∷ []) $ fjoin ! $ fpack ! ℕ (lends R z (suc m) x) a $ done !
+
+  -- and glued to it again
+  one_less : (m a c : ℕ) → m < 2 ^ 62 → ⟦ parts γ a (2 ^ 63 - suc m) ⟧ ∗ ⟦ parts γ c 1 ⟧ ⊢ ⟦ parts γ a (2 ^ 63 - m) ⟧
+  one_less m a c few = let rest : ℕ = 2 ^ 63 - suc m in let is : rest + 1 ≡ 2 ^ 63 - m = omega arith in
+      qed 𝓛 (‵ (parts γ a rest) ∷ ‵ (parts γ c 1) ∷ []) ∵
+      use2 𝓛 (given (a ≡ c) (‵ (parts γ a rest) ⊛ ‵ (parts γ c 1))) (parts_agree 𝓛 γ a c rest 1) $
+      learn ! (λ same. split ! $
+      rewrite ! 1 (λ (k : ℕ). ‵ (parts γ k 1)) (sym same) refl $
+      use2 𝓛 (‵ (parts γ a (rest + 1))) (parts_glue 𝓛 γ a rest 1 (omega arith) (omega arith)) $
+      rewrite ! 0 (λ (k : ℕ). ‵ (parts γ a k)) is refl $ done !)
+
+  whole : (a : ℕ) → ⟦ share γ a full_share ⟧ ⊢ ⟦ parts γ a (2 ^ 63 - 0) ⟧
+  whole a = parts_in 𝓛 γ a (2 ^ 63) full_share (Counts-all 63)
+
+  pub acts : (h : Home T) (o : Hold T) (a : Act T) → Valid h o a
+      → ⟦ home h ⟧ ∗ ⟦ hold o ⟧ ⊢ ⟦ home (home_after h a) ⟧ ∗ ⟦ hold (hold_after o a) ⟧
+  acts h o stays v = id⊢ 𝓤 _
+  acts h o (comes m x) v = qed 𝓛 (‵ (home h) ∷ ‵ (hold o) ∷ []) ∵ keep ! (0 ∷ []) $
+      rewrite ! 0 (λ (t : Home T). ‵ (home t)) v.0 refl $
+      fpick ! (λ a. fsplit ! $ by ! (one_more (2 ^ 63 - m) m x a refl v.2))
+  acts h o (goes m x) v = let y : T = v.2.0 in qed 𝓛 (‵ (home h) ∷ ‵ (hold o) ∷ []) ∵
+      rewrite ! 0 (λ (t : Home T). ‵ (home t)) v.0 refl $
+      rewrite ! 1 (λ (t : Hold T). ‵ (hold t)) v.2.1 refl $ fpick ! (λ a. fsplit ! $ move ! (2 ∷ []) $
+      fpick ! (λ c. fsplit ! $ move ! (2 ∷ 0 ∷ []) $
+      use2 𝓛 (‵ (parts γ a (2 ^ 63 - m))) (one_less m a c v.1) $ move ! (0 ∷ 2 ∷ []) $ fjoin ! $
+      fpack ! ℕ (lends R z m x) a $ keep ! (0 ∷ []) $
+      nothing ! $ move ! (1 ∷ 0 ∷ []) $ done !))
+  acts h o (takes x) v = qed 𝓛 (‵ (home h) ∷ ‵ (hold o) ∷ []) ∵ keep ! (0 ∷ []) $
+      rewrite ! 0 (λ (t : Home T). ‵ (home t)) v.0 refl $
+      fpick ! (λ a. fsplit ! $ use1 𝓛 (‵ (share γ a full_share)) (parts_whole 𝓛 γ a) $ fjoin ! $
+      fpack ! ℕ (resting R z x) a $ nothing ! $ done !)
+  acts h o (gives x) v = qed 𝓛 (‵ (home h) ∷ ‵ (hold o) ∷ []) ∵ keep ! (1 ∷ []) $
+      rewrite ! 0 (λ (t : Hold T). ‵ (hold t)) v.1 refl $
+      fpick ! (λ a. fsplit ! $ use1 𝓛 (‵ (parts γ a (2 ^ 63 - 0))) (whole a) $ fjoin ! $
+      fpack ! ℕ (lends R z 0 x) a $ nothing ! $ move ! (1 ∷ 0 ∷ []) $ done !)
+  acts h o (grows x) v = let y : T = v.1.0 in qed 𝓛 (‵ (home h) ∷ ‵ (hold o) ∷ []) ∵
+      rewrite ! 0 (λ (t : Home T). ‵ (home t)) v.0 refl $
+      rewrite ! 1 (λ (t : Hold T). ‵ (hold t)) v.1.1 refl $ fpick ! (λ a. fsplit ! $ move ! (2 ∷ []) $
+      fpick ! (λ c. fsplit ! $ move ! (2 ∷ 0 ∷ []) $
+      use2 𝓛 (‵ (parts γ a (2 ^ 63 - 0))) (one_less 0 a c (omega arith)) $
+      use1 𝓛 (‵ (share γ a full_share)) (parts_whole 𝓛 γ a) $
+      move ! (0 ∷ 2 ∷ []) $ fjoin ! $ fpack ! ℕ (resting R z x) a $ keep ! (0 ∷ []) $ nothing ! $ done !))
+  acts h o (shrinks x) v = qed 𝓛 (‵ (home h) ∷ ‵ (hold o) ∷ []) ∵ keep ! (1 ∷ []) $
+      rewrite ! 0 (λ (t : Hold T). ‵ (hold t)) v.1 refl $
+      fpick ! (λ a. fsplit ! $ use1 𝓛 (‵ (parts γ a (2 ^ 63 - 0))) (whole a) $
+      by ! (one_more (2 ^ 63 - 0) 0 x a refl (omega arith)))
+
+  -- a round ends: its last holder has the borrow again
+  ended : (x : T) (a : ℕ) → ⟦ resting R z x a ⟧ ⊢ H.⇛ ⟦ writing R z x a ⟧
+  ended x a = qed 𝓛 (‵ (resting R z x a) ∷ []) ∵ updating ! $ fsplit ! $ fsplit ! $ lft_end ! tt $
+      use1 𝓛 (‵ (fdead (a ∷ α))) (𝓛.lfts.dead-incl (a ∷ α) (a ∷ []) (meet_⊑_left (a ∷ []) α)) $ move ! (2 ∷ []) $
+      fsplit3 ! $ move ! (3 ∷ 2 ∷ []) $
+      lent_back ! tt $ move ! (2 ∷ 0 ∷ []) $ fjoin ! $ move ! (2 ∷ 0 ∷ []) $ fjoin ! $ now ! $ keep ! (0 ∷ []) $ done !
+
+  -- after a step a writer ends its round
+  pub settles : (o : Hold T) → ⟦ hold o ⟧ ⊢ H.⇛ ⟦ hold_owns R z o ⟧
+  settles none = 𝓛.laws.⇛_intro _
+  settles (reads x) = 𝓛.laws.⇛_intro _
+  settles (writes x) = qed 𝓛 (‵ (fex ℕ (resting R z x)) ∷ []) ∵ updating ! $
+      fpick ! (λ a. use1 𝓛 (later (‵ (writing R z x a))) (ended x a) $ await ! tt $
+      fpack ! ℕ (writing R z x) a $ now ! $ done !)
+
+  abbrev C : Fml
+  C = kept R z
+
+  abbrev At : T → Fml
+  At x = part_at R full_share x z.block z.offset
+
+  abbrev Obs : T → Fml
+  Obs x = fobs z.value_name (R.coded.code x)
+
+  abbrev Auth : T → Fml
+  Auth x = fauth z.value_name (R.coded.code x)
+
+  back_in : (κ : Lft) (x : T) → ⟦ Auth x ⟧ ⊢ ⟦ fwand (fsep (fdead κ) (fseps (At x ∷ []))) (fupd C) ⟧
+  unfolding fseps
+  back_in κ x = qed 𝓛 (‵ (Auth x) ∷ []) ∵ assume ! (‵ (fsep (fdead κ) (fsep (At x) ftrue))) $
+      suffices ! ⟦ C ⟧ (upd_i 𝓤 ⟦ C ⟧) $ fsplit3 ! $
+      keep ! (1 ∷ 3 ∷ []) $ fjoin ! $ fpack ! T (λ y. fsep (At y) (Auth y)) x $ done !
+
+  -- the borrow of the place is one of the value that the name says
+  told_value : (x : T) (κ : Lft) (q : Share) → (A.bor κ C ∗ ⟦ Obs x ⟧) ∗ A.lft κ q
+      ⊢ H.⇛ ((A.bor κ (At x) ∗ ⟦ Obs x ⟧) ∗ A.lft κ q)
+  unfolding fseps
+  told_value x κ q = qed 𝓛 ((‵ (fbor κ C) ⊛ ‵ (Obs x)) ∷ ‵ (flft κ q) ∷ []) ∵ updating ! $ split ! $
+      move ! (0 ∷ 2 ∷ []) $ bor_open ! tt $ move ! (1 ∷ []) $
+      fpick ! (λ y. fsplit ! $ move ! (3 ∷ 1 ∷ []) $ name_agree ! R.coded (λ same.
+      rewrite ! 1 (λ (u : T). ‵ (Auth u)) (sym same) refl $
+      rewrite ! 2 (λ (u : T). ‵ (At u)) (sym same) refl $ move ! (2 ∷ []) $ nothing ! $ move ! (1 ∷ 0 ∷ []) $
+      fjoin ! $ move ! (2 ∷ []) $
+      use1 𝓛 (‵ (fwand (fsep (fdead κ) (fseps (At x ∷ []))) (fupd C))) (back_in κ x) $ move ! (3 ∷ 1 ∷ 0 ∷ []) $
+      obor_alter ! tt (At x ∷ []) $
+      use1 𝓛 (‵ (fbor κ (At x)) ⊛ ‵ ftrue) (id⊢ 𝓤 _) $ split ! $ move ! (0 ∷ 3 ∷ []) $ join ! $ now ! $
+      keep ! (0 ∷ 2 ∷ []) $ done !))
+
+  abbrev begun : T → ℕ → Fml
+  begun x a = fsep (flft (a ∷ []) full_share) (round_of R z a x)
+
+  module _ (l : Lft) (shares : Shares 𝓛 R l) (μ : Lft) (s : Share) (τ : Lft) (r : Share) (i : Incl μ α)
+      (j : Incl τ l) where
+    -- a round begins
+    begins : (x : T) → (A.bor α C ∗ ⟦ Obs x ⟧) ∗ A.lft μ s ∗ A.lft τ r
+        ⊢ H.⇛ (⟦ fex ℕ (begun x) ⟧ ∗ A.lft μ s ∗ A.lft τ r)
+    begins x = qed 𝓛 ((‵ (fbor α C) ⊛ ‵ (Obs x)) ∷ ‵ (flft μ s) ∷ ‵ (flft τ r) ∷ []) ∵ updating ! $ split ! $
+        lft_new ! tt (λ a.
+        let κ : Lft = a ∷ α in let ts : Toks = (a ∷ [], full_share) ∷ (μ, s) ∷ (τ, r) ∷ [] in
+        let more : Lft = μ ++ τ in
+        let in_age : Incl (a ∷ more) α = Incl-trans (meet_⊑_right (a ∷ []) more) (Incl-trans (meet_⊑_left μ τ) i) in
+        let sp : Incl (span ts) κ = ⊑_meet (a ∷ more) (a ∷ []) α (meet_⊑_left (a ∷ []) more) in_age in
+        let lives : Incl (span ts) l = Incl-trans (meet_⊑_right (a ∷ []) more) (Incl-trans (meet_⊑_right μ τ) j) in
+        move ! (1 ∷ []) $ use1 𝓛 (later (‵ (fbor κ C) ⊛ ‵ (waits R z a)))
+        (𝓛.more.bor_reborrow α κ C (meet_⊑_right (a ∷ []) α)) $ await ! tt $ split ! $
+        move ! (2 ∷ 4 ∷ 5 ∷ []) $ group ! 3 $ move ! (1 ∷ 3 ∷ []) $ join ! $
+        use2 𝓛 (later ((‵ (fbor κ (At x)) ⊛ ‵ (Obs x)) ⊛ raw (lfts 𝓛 ts)))
+        (by_one 𝓛 κ ts sp (A.bor κ C ∗ ⟦ Obs x ⟧) (A.bor κ (At x) ∗ ⟦ Obs x ⟧) (told_value x κ)) $ await ! tt $
+        split ! $ split ! $ move ! (0 ∷ 2 ∷ []) $
+        use2 𝓛 (later (‵ (V x κ) ⊛ ‵ (flft (a ∷ []) full_share) ⊛ ‵ (flft μ s) ⊛ ‵ (flft τ r)))
+        (shares x κ ts z.block z.offset lives sp) $ await ! tt $
+        split3 ! $ move ! (0 ∷ 3 ∷ 4 ∷ []) $ fjoin3 ! $ move ! (1 ∷ 0 ∷ []) $ fjoin ! $ fpack ! ℕ (begun x) a $
+        now ! $ done !)
+
+    -- before a step a writer begins one
+    pub readies : (o : Hold T) → ⟦ hold_owns R z o ⟧ ∗ A.lft μ s ∗ A.lft τ r ⊢ H.⇛ (⟦ hold o ⟧ ∗ A.lft μ s ∗ A.lft τ r)
+    readies none = 𝓛.laws.⇛_intro _
+    readies (reads x) = 𝓛.laws.⇛_intro _
+    readies (writes x) = qed 𝓛 (‵ (fex ℕ (writing R z x)) ∷ ‵ (flft μ s) ∷ ‵ (flft τ r) ∷ []) ∵ updating ! $
+        fpick ! (λ c. fsplit3 ! $ move ! (2 ∷ 1 ∷ []) $ join ! $
+        move ! (0 ∷ 2 ∷ 3 ∷ []) $ use3 𝓛 (later (‵ (fex ℕ (begun x)) ⊛ ‵ (flft μ s) ⊛ ‵ (flft τ r))) (begins x) $
+        await ! tt $ split3 ! $
+        fpick ! (λ a. fsplit ! $ move ! (4 ∷ []) $ use1 𝓛 (later (‵ (tag γ full_share a)))
+        (via 𝓤 _ (renames 𝓛 γ c a) (basic 𝓛 ⟦ tag γ full_share a ⟧)) $ await ! tt $
+        move ! (1 ∷ 0 ∷ []) $ fjoin ! $ fjoin ! $ fpack ! ℕ (resting R z x) a $ now ! $ done !))
+
+  module _ (x : T) (ν : Lft) where
+    abbrev P : Fml
+    P = fex ℕ (reading R z x)
+
+    again : (u : ℕ) (e : Share) → Counts 63 e 1 → ⟦ tag γ e u ⟧ ∗ ⟦ V x (u ∷ α) ⟧
+        ⊢ ⟦ fwand (fsep (fdead ν) (fseps (flft (u ∷ []) e ∷ []))) (fupd P) ⟧
+    unfolding fseps
+    again u e c = qed 𝓛 (‵ (tag γ e u) ∷ ‵ (V x (u ∷ α)) ∷ []) ∵
+        assume ! (‵ (fsep (fdead ν) (fsep (flft (u ∷ []) e) ftrue))) $
+        suffices ! ⟦ P ⟧ (upd_i 𝓤 ⟦ P ⟧) $ fsplit3 ! $ move ! (1 ∷ 3 ∷ []) $ fjoin ! $
+        use1 𝓛 (‵ (parts γ u 1)) (parts_in 𝓛 γ u 1 e c) $
+        move ! (0 ∷ 3 ∷ []) $ fjoin ! $ fpack ! ℕ (reading R z x) u $ keep ! (0 ∷ []) $ done !
+
+    -- a borrow of a reader's part shows the value, and that the round lasts
+    lights : (q : Share) → A.bor ν P ∗ A.lft ν q ⊢ H.⇛ (⟦ fex ℕ (λ a. lit R z x a ν) ⟧ ∗ A.lft ν q)
+    unfolding fseps
+    lights q = qed 𝓛 (‵ (fbor ν P) ∷ ‵ (flft ν q) ∷ []) ∵ updating ! $ bor_open ! tt $ move ! (1 ∷ []) $
+        fpick ! (λ u. fsplit ! $ fpick ! (λ e. fpick ! (λ c. fsplit ! $
+        move ! (2 ∷ []) $ use1 𝓛 (‵ (V x (u ∷ α)) ⊛ ‵ (V x (u ∷ α))) (contraction 𝓛 (V x) (V_laws x) (u ∷ α)) $
+        split ! $ move ! (3 ∷ 0 ∷ []) $
+        use2 𝓛 (‵ (fwand (fsep (fdead ν) (fseps (flft (u ∷ []) e ∷ []))) (fupd P))) (again u e c) $ nothing ! $
+        move ! (3 ∷ 0 ∷ []) $ fjoin ! $
+        move ! (3 ∷ 0 ∷ 1 ∷ []) $ obor_alter ! tt (flft (u ∷ []) e ∷ []) $
+        use1 𝓛 (‵ (fbor ν (flft (u ∷ []) e)) ⊛ ‵ ftrue) (id⊢ 𝓤 _) $ split ! $
+        bor_fracture ! tt (λ r. flft (u ∷ []) r) e $ move ! (3 ∷ []) $
+        use1 𝓛 (‵ (V x (ν ++ (u ∷ α)))) (shortens 𝓛 (V x) (V_laws x) (u ∷ α) (ν ++ (u ∷ α)) (meet_⊑_right ν (u ∷ α))) $
+        move ! (1 ∷ 0 ∷ []) $ fjoin ! $ fpack ! ℕ (λ a. lit R z x a ν) u $ now ! $ keep ! (0 ∷ 2 ∷ []) $ done !)))
+
+    -- where the age lasts too, the value is shown for as long as the seat
+    pub lit_shows : ⟦ fshr_bor ν (λ q. flft α q) ⟧ ∗ ⟦ fex ℕ (λ a. lit R z x a ν) ⟧ ⊢ ⟦ V x ν ⟧
+    lit_shows = qed 𝓛 (‵ (fshr_bor ν (λ q. flft α q)) ∷ ‵ (fex ℕ (λ a. lit R z x a ν)) ∷ []) ∵ move ! (1 ∷ []) $
+        fpick ! (λ u. fsplit ! $
+        let w : Lft = (u ∷ []) ++ ν in let c : Lft = α ++ w in
+        let in_round : Incl c (u ∷ α) = ⊑_meet c (u ∷ []) α
+        (Incl-trans (meet_⊑_right α w) (meet_⊑_left (u ∷ []) ν)) (meet_⊑_left α w) in
+        move ! (1 ∷ []) $ use1 𝓛 (‵ (V x c)) (shortens 𝓛 (V x) (V_laws x) (ν ++ (u ∷ α)) c
+        (⊑_meet c ν (u ∷ α) (Incl-trans (meet_⊑_right α w) (meet_⊑_right (u ∷ []) ν)) in_round)) $
+        move ! (2 ∷ []) $ shr_bor_shorten ! w (meet_⊑_right (u ∷ []) ν) $ move ! (0 ∷ 1 ∷ []) $
+        use2 𝓛 (‵ (V x w)) (moves 𝓛 (V x) (V_laws x) w α) $
+        move ! (1 ∷ 0 ∷ []) $ by ! (moves 𝓛 (V x) (V_laws x) ν (u ∷ [])))
+
+  pub Lends-hold : (l : Lft) (o : Hold T) → Lends 𝓛 (hold_owns R z o) (hold_shares R z o) l
+  Lends-hold l none = Lends-nothing 𝓛 ftrue l
+  Lends-hold l (reads x) = λ κ ts inc sp. by_one 𝓛 κ ts sp (A.bor κ (fex ℕ (reading R z x))) ⟦ fex ℕ (λ a.
+      lit R z x a κ) ⟧ (lights x κ)
+  Lends-hold l (writes x) = Lends-nothing 𝓛 (fex ℕ (writing R z x)) l

@@ -1,0 +1,150 @@
+-- What a `Shared` and a `Seat` own. The table lends its memory for a lifetime of its own, the age, whose token it
+-- keeps.
+-- While the value is lent, it is shared for a round, a lifetime within the age. Of the round's token each reader
+-- has one part
+-- in 2 ^ 63, and the table the rest; the round's name is agreed upon in the same parts. Whoever has them all ends
+-- the round.
+use Rattle.std.specs.Prelude.{◌≡◌, ℕ, ◌-◌, ◌^◌, [], ◌∷◌}
+use mir.Syntax.{Ty}
+use mir.Raw.{raw}
+use base.Fraction.{full_share}
+use base.Share.{three_quarters}
+use base.Stored.{Gv, Coded, coded×, coded_ℕ, coded_via}
+use base.Fml.{Lft, Fml, ftrue, fsep, fex, fbor, flent, flft, finv, fobs}
+use types.SemTy.{Body}
+use denote.RattleType.{RattleType}
+use denote.Memory.{mem, lone, shared_of}
+use denote.RawPtr.{Ptr, block_ptr, block_of, count_of, InBlock, lies_at}
+use denote.Sharing as sharing
+use Rattle.core.specs.Sync.RawAtomic.{word}
+use Rattle.atomic_table.specs.Seated.{fact, seen, roster}
+use Rattle.counted_slot.specs.Counting.{tag, share, parts}
+use Rattle.lent_table.specs.Table.{Home, away, lent, Hold, none, reads, writes, State, Me}
+
+-- which table it is: what no other table shares with it
+pub record TableId : Type 0 where
+  pub atom : ℕ
+  pub block : ℕ
+  pub offset : ℕ
+  pub views_name : ℕ
+  pub round_name : ℕ
+  pub value_name : ℕ
+
+abbrev pub table_id_coded : Coded TableId
+table_id_coded = coded_via (coded× coded_ℕ (coded× coded_ℕ (coded× coded_ℕ (coded× coded_ℕ (coded× coded_ℕ coded_ℕ)))))
+    (λ (z : TableId). (z.atom, (z.block, (z.offset, (z.views_name, (z.round_name, z.value_name))))))
+    (λ x y e i. record {
+      atom = (e i).0;
+      block = (e i).1.0;
+      offset = (e i).1.1.0;
+      views_name = (e i).1.1.1.0;
+      round_name = (e i).1.1.1.1.0;
+      value_name = (e i).1.1.1.1.1;
+    })
+
+-- the lifetime for which the table lends its memory
+abbrev pub age : TableId → Lft
+age z = z.atom ∷ []
+
+abbrev pub place : TableId → Ptr
+place z = block_ptr z.block z.offset
+
+module _ (R : RattleType) (z : TableId) where
+  -- the value in its place, as its name says it is
+  abbrev pub kept : Fml
+  kept = Body (mem R) z.block z.offset z.value_name
+
+  -- the value x, for reading
+  abbrev pub shows : R.Denot → Lft → Fml
+  shows x = shared_of R x z.block z.offset
+
+  -- the borrow of the value comes back after the round a
+  abbrev pub waits : ℕ → Fml
+  waits a = flent (a ∷ age z) (fbor (age z) kept)
+
+  -- what there is of the round a beside its token
+  abbrev pub round_of : ℕ → R.Denot → Fml
+  round_of a x = fsep (shows x (a ∷ age z)) (fsep (fobs z.value_name (R.coded.code x)) (waits a))
+
+  -- m readers have their parts of the round a
+  abbrev pub lends : ℕ → R.Denot → ℕ → Fml
+  lends m x a = fsep (parts z.round_name a (2 ^ 63 - m)) (round_of a x)
+
+  -- one of them
+  abbrev pub reading : R.Denot → ℕ → Fml
+  reading x a = fsep (parts z.round_name a 1) (shows x (a ∷ age z))
+
+  -- the whole round
+  abbrev pub resting : R.Denot → ℕ → Fml
+  resting x a = fsep (share z.round_name a full_share) (round_of a x)
+
+  -- no round: the borrow of the value, and the name of the last round
+  abbrev pub writing : R.Denot → ℕ → Fml
+  writing x a = fsep (tag z.round_name full_share a) (fsep (fobs z.value_name (R.coded.code x)) (fbor (age z) kept))
+
+  abbrev pub home_owns : Home R.Denot → Fml
+  home_owns away = ftrue
+  home_owns (lent m x) = fex ℕ (lends m x)
+
+  abbrev pub hold_owns : Hold R.Denot → Fml
+  hold_owns none = ftrue
+  hold_owns (reads x) = fex ℕ (reading x)
+  hold_owns (writes x) = fex ℕ (writing x)
+
+  -- the same while a step goes on, where a writer has a round of its own
+  abbrev pub hold_steps : Hold R.Denot → Fml
+  hold_steps none = ftrue
+  hold_steps (reads x) = fex ℕ (reading x)
+  hold_steps (writes x) = fex ℕ (resting x)
+
+  -- what a `&` to a seat that reads shows
+  abbrev pub lit : R.Denot → ℕ → Lft → Fml
+  lit x a = sharing.beside (sharing.one (λ q. flft (a ∷ []) q)) (sharing.within (a ∷ age z) (shows x))
+
+  abbrev pub hold_shares : Hold R.Denot → Lft → Fml
+  hold_shares none = sharing.nothing
+  hold_shares (reads x) = sharing.some ℕ (lit x)
+  hold_shares (writes x) = sharing.nothing
+
+abbrev pub Placed : Ptr → Ptr → TableId → Type 0
+Placed w p z = InBlock w × (p ≡ place z)
+
+abbrev pub seat_owns : (R : RattleType) {V : Type 0} → (V → Gv) → TableId → ℕ → Me R.Denot V → Fml
+seat_owns R c z id me = fsep (hold_owns R z me.1) (seen c z.views_name id three_quarters me.0)
+
+module _ (R : RattleType) {V : Type 0} (c : V → Gv) (holds : State R.Denot V → Type 0) (w p : Ptr) (z : TableId) where
+  abbrev pub standing : State R.Denot V → Fml
+  standing s = fsep (word (block_of w) (count_of w) s.word)
+      (fsep (fsep (home_owns R z s.home) (roster c z.views_name 0 s.views)) (fact (holds s)))
+
+  abbrev pub inner : Fml
+  inner = fex (State R.Denot V) standing
+
+  -- what everybody knows
+  abbrev pub common : Fml
+  common = fsep (fact (Placed w p z)) (finv (fbor (age z) inner))
+
+  -- the rights to have the word and the value back
+  abbrev pub rights : Fml
+  rights = fsep (flent (age z) inner) (flent (age z) (kept R z))
+
+-- It keeps the rule in sight as an argument, where `search` can match it
+unfoldable pub under : (X : Type 1) → X → (X → Fml) → Fml
+under X x F = F x
+
+abbrev pub table_owns : (R : RattleType) {V : Type 0} → (V → Gv) → (State R.Denot V → Type 0) → Ptr → Ptr → TableId
+    → Fml
+table_owns R {V} c holds w p z = under (State R.Denot V → Type 0) holds
+    (λ h. fsep (flft (age z) full_share) (fsep (common R c h w p z) (rights R c h w p z)))
+
+abbrev pub table_shares : (R : RattleType) {V : Type 0} → (V → Gv) → (State R.Denot V → Type 0) → Ptr → Ptr
+    → TableId → Lft → Fml
+table_shares R {V} c holds w p z κ = under (State R.Denot V → Type 0) holds
+    (λ h. fsep (sharing.one (λ q. flft (age z) q) κ) (common R c h w p z))
+
+-- a value in memory that a pointer owns, and the right to free that memory
+abbrev pub plot_owns : (R : RattleType) → Ptr → R.Denot → Fml
+plot_owns R p x = fsep (fact (InBlock p)) (lies_at R full_share p x)
+
+abbrev pub deed_owns : (Ty → Ptr → Fml) → RattleType → Ptr → Fml
+deed_owns frees R p = fsep (fact (InBlock p)) (frees (raw (lone R.mir)) p)

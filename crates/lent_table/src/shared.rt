@@ -1,0 +1,109 @@
+//! The table as threads see it, and what one of them knows and has.
+ghost use Rattle.std.specs.Prelude.{◌≡◌, ℕ};
+ghost use Rattle.lent_table.specs.Table.{State, Hold, Me, Step, none, writes, me_coded, opening, Closes};
+ghost use Rattle.lent_table.specs.Lending.{TableId, table_id_coded, table_owns, table_shares, seat_owns, hold_shares};
+
+use crate::plot::Plot;
+use std::marker::{Model, PhantomData};
+
+/// The rule of a table: a fact about its word, where its value is, and what its seats know. T is the
+/// value, V what a seat knows, and K what the table is told once, when it is made.
+pub trait TableRule<T, V, K> {
+    ghost holds: { K → State T V → Type 0 };
+    // What the first seat knows.
+    ghost first: { K → V };
+}
+
+/// What a step tells its caller.
+pub trait Play<T, V> {
+    // Of the step, the seat before, the number found, and the seat after.
+    ghost then: { Step → Me T V → ℕ → Me T V → Type 0 };
+}
+
+/// The word and the value, for any number of threads.
+pub struct Shared<T, V, K, P: TableRule<T, V, K>> {
+    pub(crate) word: *mut u64,
+    pub(crate) value: *mut T,
+    marker: PhantomData<(P, V, K)>,
+    pub ghost table_id: { TableId } by { table_id_coded },
+    pub ghost key: { K },
+}
+
+impl<T, V, K, P: TableRule<T, V, K>> Model for Shared<T, V, K, P> {
+    ghost also_owns = { λ t. table_owns T.row V.row.coded.code (P.holds t.key) t.word t.value t.table_id };
+
+    ghost also_shares = { λ t _ κ. table_shares T.row V.row.coded.code (P.holds t.key) t.word t.value t.table_id κ };
+}
+
+/// What a thread knows of a table, and what it has of the value. It has no bytes.
+pub struct Seat<T, V> {
+    pub(crate) marker: PhantomData<(T, V)>,
+    pub ghost table_id: { TableId } by { table_id_coded },
+    pub ghost id: { ℕ },
+    pub ghost me: { Me T V } by { me_coded T.code V.code },
+}
+
+impl<T, V> Model for Seat<T, V> {
+    ghost also_owns = { λ s. seat_owns T.row V.row.coded.code s.table_id s.id s.me };
+
+    ghost also_shares = { λ s _ κ. hold_shares T.row s.table_id s.me.1 κ };
+}
+
+impl<T, V, K, P: TableRule<T, V, K>> Shared<T, V, K, P> {
+    pub(crate) fn deal(
+        about: &K,
+        word: Plot<u64>,
+        value: Plot<T>,
+    ) -> (Shared<T, V, K, P>, Seat<T, V>)
+        requires { P.holds about.now (opening word.value (P.first about.now)) }
+        ensures places { (result.0.word ≡ word.at) × (result.0.value ≡ value.at) × (result.0.key ≡ about.now) }
+        ensures seat { (result.1.table_id ≡ result.0.table_id) × (result.1.me ≡ (P.first about.now, writes value.value)) }
+    {
+        let Plot { at: word } = word;
+        let Plot { at: value } = value;
+        (
+            Shared {
+                word,
+                value,
+                marker: PhantomData,
+            },
+            Seat {
+                marker: PhantomData,
+            },
+        )
+    }
+
+    pub(crate) fn gather(self) -> (Plot<u64>, Plot<T>)
+        ensures places { (result.0.at ≡ self.word) × (result.1.at ≡ self.value) }
+        ensures last { Closes (P.holds self.key) result.0.value result.1.value }
+    {
+        let Shared {
+            word,
+            value,
+            marker: _,
+        } = self;
+        (Plot { at: word }, Plot { at: value })
+    }
+}
+
+impl<T, V> Seat<T, V> {
+    /// Whoever may write stands alone: no other seat of the table has anything of the value.
+    pub fn alone(&mut self, other: &mut Seat<T, V>)
+        ensures same { (self.new ≡ self.old) × (other.new ≡ other.old) }
+        ensures alone { other.old.table_id ≡ self.old.table_id → (x : T) → self.old.me.1 ≡ writes x → other.old.me.1 ≡ none }
+    {
+        let _ = other;
+    }
+}
+
+impl<T, V> Drop for Seat<T, V> {
+    fn drop(self) {
+        let Self { marker: _ } = self;
+    }
+}
+
+unsafe impl<T: Send + Sync, V> Send for Seat<T, V> {}
+
+unsafe impl<T: Send + Sync, V, K, P: TableRule<T, V, K>> Send for Shared<T, V, K, P> {}
+
+unsafe impl<T: Send + Sync, V, K, P: TableRule<T, V, K>> Sync for Shared<T, V, K, P> {}
