@@ -49,16 +49,19 @@ module _ {M : Type 1} {𝓤 : Ura M} (𝓛 : Logic 𝓤) (R : RattleType) (L : R
   abbrev Pr : Type 2
   Pr = SProp 𝓤
 
-  infix 26 ◌⊢◌
   infixr 35 ◌∗◌
-  abbrev ◌⊢◌ : Pr → Pr → Type 1
-  P ⊢ Q = ent 𝓤 P Q
+  infix 26 ◌⊢◌
+  -- what a formula means
+  abbrev ⟦◌⟧ : Fml → Pr
+  ⟦ P ⟧ = sem 𝓛 P
 
+  -- P beside Q
   abbrev ◌∗◌ : Pr → Pr → Pr
   P ∗ Q = sep 𝓤 P Q
 
-  abbrev ⟦◌⟧ : Fml → Pr
-  ⟦ P ⟧ = sem 𝓛 P
+  -- P entails Q
+  abbrev ◌⊢◌ : Pr → Pr → Type 1
+  P ⊢ Q = ent 𝓤 P Q
 
   abbrev T : Type 0
   T = R.Denot

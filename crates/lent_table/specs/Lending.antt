@@ -42,12 +42,13 @@ table_id_coded = coded_via (coded× coded_ℕ (coded× coded_ℕ (coded× coded_
       value_name = (e i).1.1.1.1.1;
     })
 
--- the lifetime for which the table lends its memory
-abbrev pub age : TableId → Lft
-age z = z.atom ∷ []
-
+-- where its value lies
 abbrev pub place : TableId → Ptr
 place z = block_ptr z.block z.offset
+
+-- its age: for that lifetime it lends its memory
+abbrev pub age : TableId → Lft
+age z = z.atom ∷ []
 
 module _ (R : RattleType) (z : TableId) where
   -- the value in its place, as its name says it is

@@ -61,16 +61,14 @@ impl<T, V, K, P: TableRule<T, V, K>> Shared<T, V, K, P> {
     {
         let Plot { at: word } = word;
         let Plot { at: value } = value;
-        (
-            Shared {
-                word,
-                value,
-                marker: PhantomData,
-            },
-            Seat {
-                marker: PhantomData,
-            },
-        )
+        let marker = PhantomData;
+        let shared = Shared {
+            word,
+            value,
+            marker,
+        };
+        let marker = PhantomData;
+        (shared, Seat { marker })
     }
 
     pub(crate) fn gather(self) -> (Plot<u64>, Plot<T>)

@@ -24,12 +24,8 @@ impl<T, V, K, P: TableRule<T, V, K>> Shared<T, V, K, P> {
         ensures { (result.1.table_id ≡ self.now.table_id) × (result.1.me.1 ≡ none) × M.then (step 0 0) (P.first self.now.key, none) result.0 result.1.me }
     {
         let found = unsafe { raw::load::<Brand>(self.word, SeqCst) };
-        (
-            found,
-            Seat {
-                marker: PhantomData,
-            },
-        )
+        let marker = PhantomData;
+        (found, Seat { marker })
     }
 
     /// Returns the word as it was, which has become `new` if it was `old`. The seat may take the
