@@ -15,7 +15,7 @@ use denote.RattleType.{RattleType}
 use Rattle.counted_slot.specs.Counting.{rounds, tag, parts}
 use Rattle.counted_slot.proofs.Parts.{none_beside}
 use Rattle.lent_table.specs.Table.{Hold, none, reads, writes}
-use Rattle.lent_table.specs.Lending.{TableId, reading, writing, hold_owns}
+use Rattle.lent_table.specs.Lending.{TableId, writing, hold_owns}
 
 none_writes : {T : Type 0} (x : T) → none ≡ writes x → ⊥
 none_writes x e = cc
@@ -35,9 +35,10 @@ module _ {M : Type 1} {𝓤 : Ura M} (𝓛 : Logic 𝓤) (R : RattleType) (z u :
   stands_alone : (x : R.Denot) (v : Hold R.Denot) → u.round_name ≡ z.round_name
       → ent 𝓤 (Both (writes x) v) (guard 𝓤 (v ≡ none) (Both (writes x) v))
   stands_alone x none e = guard_i 𝓤 (none ≡ none) _ refl
-  stands_alone x (reads y) e = qed 𝓛 (‵ (fex ℕ (writing R z x)) ∷ ‵ (fex ℕ (reading R u y)) ∷ []) ∵
-      fpick ! (λ a. fsplit ! $ move ! (2 ∷ []) $ fpick ! (λ c. fsplit ! $
-      rewrite ! 0 (λ (γ : ℕ). ‵ (parts γ c 1)) e refl $ keep ! (2 ∷ 0 ∷ []) $
+  stands_alone x (reads y) e = qed 𝓛 (‵ (fex ℕ (writing R z x)) ∷ ‵ (hold_owns R u (reads y)) ∷ []) ∵
+      fpick ! (λ a. fsplit ! $
+      move ! (2 ∷ []) $ fsplit ! $ fpick ! (λ c. fsplit ! $ rewrite ! 0 (λ (γ : ℕ). ‵ (parts γ c 1)) e refl $
+      keep ! (3 ∷ 0 ∷ []) $
       by ! (none_beside 𝓛 z.round_name c a 1 _)))
   stands_alone x (writes y) e = qed 𝓛 (‵ (fex ℕ (writing R z x)) ∷ ‵ (fex ℕ (writing R u y)) ∷ []) ∵
       fpick ! (λ a. fsplit ! $ move ! (2 ∷ []) $ fpick ! (λ c. fsplit ! $

@@ -1,5 +1,5 @@
 -- A table is made of two plots, and gives them back. Assumes `Logic`.
-use Rattle.std.proofs.Common.{◌≡◌, ℕ, [], ◌∷◌, sym, refl, ◌∙◌, subst}
+use Rattle.std.proofs.Common.{◌≡◌, ℕ, ◌-◌, ◌^◌, [], ◌∷◌, sym, refl, ◌∙◌, subst}
 use seplogic.Ra.Ura.{Ura}
 use base.Fraction.{full_share}
 use base.Share.{quarter, three_quarters}
@@ -22,7 +22,9 @@ use Rattle.core.specs.Sync.RawAtomic.{word}
 use Rattle.core.proofs.tally.Steps.{word_out, word_in}
 use Rattle.atomic_table.specs.Seated.{halved, seen, unused}
 use Rattle.atomic_table.proofs.Roster.{resets}
-use Rattle.counted_slot.specs.Counting.{rounds, tag}
+use Rattle.counted_slot.specs.Counting.{rounds, tag, parts}
+use Rattle.counted_slot.proofs.Parts.{parts_in}
+use base.FractionLaws.{Counts-all}
 use Rattle.lent_table.specs.Table.{Home, away, lent, writes, State, opening, Closes}
 use Rattle.lent_table.specs.Lending.{TableId, age, lends, writing, home_owns, Placed, seat_owns, standing, inner}
 use Rattle.lent_table.specs.Lending.{common, rights, table_owns, plot_owns}
@@ -111,6 +113,11 @@ module _ {M : Type 1} {𝓤 : Ura M} (𝓛 : Logic 𝓤) (R : RattleType) {V : T
         use0 𝓛 (later (some (λ (ρ : ℕ). ‵ (tag ρ full_share 0))))
         (via 𝓤 _ (own_new 𝓛 rounds (full_share, 0)) (basic 𝓛 (ex 𝓤 (λ (ρ : ℕ). sem 𝓛 (tag ρ full_share 0))))) $
         await ! tt $ pick ! (λ ρ.
+        -- the parts by which readers are counted
+        lft_new ! tt (λ e. use0 𝓛 (later (some (λ (σ : ℕ). ‵ (tag σ full_share e))))
+        (via 𝓤 _ (own_new 𝓛 rounds (full_share, e)) (basic 𝓛 (ex 𝓤 (λ (σ : ℕ). sem 𝓛 (tag σ full_share e))))) $
+        await ! tt $ pick ! (λ σ. move ! (1 ∷ 0 ∷ []) $ fjoin ! $
+        use1 𝓛 (‵ (parts σ e (2 ^ 63 - 0))) (parts_in 𝓛 σ e (2 ^ 63) full_share (Counts-all 63)) $
         let z : TableId = record {
           atom = a;
           block = block_of p;
@@ -119,19 +126,22 @@ module _ {M : Type 1} {𝓤 : Ura M} (𝓛 : Logic 𝓤) (R : RattleType) {V : T
           round_name =
               ρ;
           value_name = δ;
+          count_atom = e;
+          count_name = σ;
         } in
         let s : State R.Denot V = opening n v in let I : Fml = inner R cv.code holds w p z in
         -- the seat
-        move ! (0 ∷ 5 ∷ 3 ∷ []) $ fjoin3 ! $ fpack ! ℕ (writing R z x) 0 $ move ! (0 ∷ 2 ∷ []) $ fjoin ! $
+        move ! (1 ∷ 6 ∷ 4 ∷ []) $ fjoin3 ! $ fpack ! ℕ (writing R z x) 0 $ move ! (0 ∷ 3 ∷ []) $ fjoin ! $
         -- the invariant
-        move ! (1 ∷ []) $ nothing ! $ fjoin ! $ nothing ! $ fpack ! (holds s) (λ _. ftrue) good $
+        move ! (1 ∷ []) $ nothing ! $ fjoin ! $ move ! (0 ∷ 2 ∷ []) $ fjoin ! $ nothing ! $
+        fpack ! (holds s) (λ _. ftrue) good $
         move ! (5 ∷ 1 ∷ 0 ∷ []) $ fjoin3 ! $
         fpack ! (State R.Denot V) (standing R cv.code holds w p z) s $ bor_new ! tt κ $
         use1 𝓛 (later (‵ (finv (fbor κ I)))) (𝓛.invs.inv_new (fbor κ I)) $ await ! tt $
         nothing ! $ fpack ! (Placed w p z) (λ _. ftrue) (in_w, at_block p in_p) $ fjoin ! $
         -- [what is common; the right to the word; the seat; the right to the value; the age's token]
         move ! (1 ∷ 3 ∷ []) $ fjoin ! $ move ! (3 ∷ 1 ∷ 0 ∷ []) $ fjoin3 ! $ now ! $ show ! Dealt z $
-        check ! (in_w, in_p) $ keep ! (0 ∷ 1 ∷ []) $ done !))))))
+        check ! (in_w, in_p) $ keep ! (0 ∷ 1 ∷ []) $ done !))))))))
 
   module _ (z : TableId) where
     abbrev Told : Home R.Denot → R.Denot → Type 0
@@ -141,12 +151,12 @@ module _ {M : Type 1} {𝓤 : Ura M} (𝓛 : Logic 𝓤) (R : RattleType) {V : T
     home_tells : (h : Home R.Denot) (x : R.Denot) → ent 𝓤
         (sep 𝓤 (sem 𝓛 (home_owns R z h)) (sem 𝓛 (fauth z.value_name (R.coded.code x))))
         (guard 𝓤 (Told h x) (sem 𝓛 ftrue))
-    home_tells away x = qed 𝓛 (‵ ftrue ∷ ‵ (fauth z.value_name (R.coded.code x)) ∷ []) ∵
-        check ! (λ m y e. absurd (not_lent m y e)) $ keep ! (0 ∷ []) $ done !
+    home_tells away x = qed 𝓛 (‵ (home_owns R z away) ∷ ‵ (fauth z.value_name (R.coded.code x)) ∷ []) ∵
+        check ! (λ m y e. absurd (not_lent m y e)) $ nothing ! $ keep ! (0 ∷ []) $ done !
     home_tells (lent m y) x = qed 𝓛 (‵ (home_owns R z (lent m y)) ∷ ‵ (fauth z.value_name (R.coded.code x)) ∷ []) ∵
-        fpick ! (λ a. fsplit3 ! $ move ! (2 ∷ []) $
-        fsplit ! $ move ! (0 ∷ 4 ∷ []) $ name_agree ! R.coded (λ same. check ! (λ k u e.
-        sym same ∙ lent_value m k y u e) $ nothing ! $ keep ! (0 ∷ []) $ done !))
+        fsplit ! $ fpick ! (λ a. fsplit3 ! $ move ! (2 ∷ []) $ fsplit ! $ move ! (0 ∷ 5 ∷ []) $
+        name_agree ! R.coded (λ same.
+        check ! (λ k u e. sym same ∙ lent_value m k y u e) $ nothing ! $ keep ! (0 ∷ []) $ done !))
 
     abbrev pub Gathered : ℕ × R.Denot → Pr 𝓛 R
     Gathered t = guard 𝓤 (Closes holds t.0 t.1 × InBlock w × InBlock p)

@@ -1,15 +1,16 @@
 -- The value is lent for a round, part by part, and the round ends. Assumes `Logic`.
-use Rattle.std.proofs.Common.{◌≡◌, ℕ, suc, ◌+◌, ◌-◌, ◌^◌, ◌<◌, [], ◌∷◌, ◌++◌, refl, sym, arith}
+use Rattle.std.proofs.Common.{◌≡◌, ℕ, zero, suc, ◌+◌, ◌-◌, ◌^◌, ◌<◌, [], ◌∷◌, ◌++◌, refl, sym, arith}
 use seplogic.Ra.Ura.{Ura}
 use base.Fraction.{full_share}
 use base.FractionLaws.{Counts, Counts-all}
-use base.Logic.{via, SProp, ent, sep, upd_i, id⊢}
+use base.Logic.{via, SProp, ent, sep, ex, guard, guard_i, upd_i, id⊢}
 use base.Fml.{Lft, Share, Incl, Incl-trans, Fml, ftrue, fsep, fseps, fex, fwand, fupd, fdead, fbor, flft, fobs, fauth}
 use base.Fml.{fshr_bor}
 use contract.BorrowLft.{meet_⊑_left, meet_⊑_right, ⊑_meet}
 use ghost.Rules.{Toks, span}
 use types.Logic.{Logic, sem, lfts}
-use types.Kit.{given, learn, ‵, raw, ◌⊛◌, later, ◌$◌, ◌∵◌, !, qed, by, move, keep, use1, use2, use3}
+use types.Kit.{given, learn, some, pick, drop, show, ‵, raw, ◌⊛◌, later, ◌$◌, ◌∵◌, !, qed, by, move, keep, use1, use2}
+use types.Kit.{use3}
 use types.Kit.{split, split3, join, group, fsplit, fsplit3, fjoin, fjoin3, fpick, fpack, assume, suffices}
 use types.Kit.{await, updating, now, rewrite, done}
 use types.Tokens.{lft_new, lft_end, lent_back, bor_open, obor_alter, bor_fracture, name_agree, shr_bor_shorten}
@@ -23,14 +24,15 @@ use denote.Sharing as sharing
 use denote.SharingLaws.{beside_shr_laws, some_shr_laws, one_shr_laws, contraction, shortens, nothing_shr_laws}
 use denote.SharingLaws.{within_shr_laws}
 use denote.Steps.{nothing}
-use denote.Struct.Lending.{Lends, Lends-nothing}
+use denote.Struct.Lending.{Lends, Lends-nothing, Lends-first}
 use Rattle.core.proofs.cell.Borrows.{by_one}
 use Rattle.counted_slot.specs.Counting.{tag, share, parts}
-use Rattle.counted_slot.proofs.Parts.{parts_in, parts_cut, parts_glue, parts_whole, parts_agree, renames}
-use Rattle.lent_table.specs.Table.{Home, lent, Hold, none, reads, writes, Act, stays, comes, goes, takes, gives}
+use Rattle.counted_slot.proofs.Parts.{none_beside, parts_in, parts_cut, parts_glue, parts_whole, parts_agree, renames}
+use Rattle.lent_table.specs.Table.{Fits, Home, away, lent, Hold, none, reads, writes, Act, stays, comes, goes, takes}
+use Rattle.lent_table.specs.Table.{gives}
 use Rattle.lent_table.specs.Table.{grows, shrinks, home_after, hold_after, Valid}
 use Rattle.lent_table.specs.Lending.{TableId, age, kept, shows, waits, round_of, lends, reading, resting, writing}
-use Rattle.lent_table.specs.Lending.{home_owns, hold_owns, hold_steps, lit, hold_shares}
+use Rattle.lent_table.specs.Lending.{counted, home_owns, hold_owns, hold_steps, lit, hold_shares}
 
 module _ (R : RattleType) (L : RowLaws R) (z : TableId) where
   lit_laws : (x : R.Denot) (a : ℕ) → ShrLaws (lit R z x a)
@@ -84,62 +86,138 @@ module _ {M : Type 1} {𝓤 : Ura M} (𝓛 : Logic 𝓤) (R : RattleType) (L : R
   V_laws : (x : T) → ShrLaws (V x)
   V_laws x = L x z.block z.offset
 
-  -- a reader's part is cut from the rest
-  one_more : (k m : ℕ) (x : T) (a : ℕ) → (k ≡ 2 ^ 63 - m) → m < 2 ^ 62
-      → ⟦ parts γ a k ⟧ ∗ ⟦ round_of R z a x ⟧ ⊢ ⟦ home (lent (suc m) x) ⟧ ∗ ⟦ hold (reads x) ⟧
-  one_more k m x a is few = let rest : ℕ = 2 ^ 63 - suc m in qed 𝓛 (‵ (parts γ a k) ∷ ‵ (round_of R z a x) ∷ []) ∵
-      use1 𝓛 (‵ (parts γ a 1) ⊛ ‵ (parts γ a rest)) (parts_cut 𝓛 γ a k 1 rest (omega arith) (omega arith)
-      (omega arith) (omega arith)) $ split ! $
-      move ! (2 ∷ []) $ fsplit ! $ use1 𝓛 (‵ (V x (a ∷ α)) ⊛ ‵ (V x (a ∷ α)))
-      (contraction 𝓛 (V x) (V_laws x) (a ∷ α)) $ split ! $
-      move ! (3 ∷ 0 ∷ []) $ fjoin ! $ fpack ! ℕ (reading R z x) a $
-      move ! (1 ∷ 2 ∷ []) $ fjoin ! $ move ! (2 ∷ 0 ∷ []) $ fjoin ! $ fpack ! ℕ (lends R z (suc m) x) a $ done !
+  abbrev Lent : ℕ → T → Fml
+  Lent m x = fex ℕ (lends R z m x)
 
-  -- and glued to it again
-  one_less : (m a c : ℕ) → m < 2 ^ 62 → ⟦ parts γ a (2 ^ 63 - suc m) ⟧ ∗ ⟦ parts γ c 1 ⟧ ⊢ ⟦ parts γ a (2 ^ 63 - m) ⟧
-  one_less m a c few = let rest : ℕ = 2 ^ 63 - suc m in let is : rest + 1 ≡ 2 ^ 63 - m = omega arith in
-      qed 𝓛 (‵ (parts γ a rest) ∷ ‵ (parts γ c 1) ∷ []) ∵
-      use2 𝓛 (given (a ≡ c) (‵ (parts γ a rest) ⊛ ‵ (parts γ c 1))) (parts_agree 𝓛 γ a c rest 1) $
+  abbrev Read : T → Fml
+  Read x = fex ℕ (reading R z x)
+
+  abbrev left : ℕ → Fml
+  left m = counted R z (2 ^ 63 - m)
+
+  abbrev one : Fml
+  one = counted R z 1
+
+  -- a part is cut from the rest, and glued to it again
+  cuts : (δ a k m : ℕ) → k ≡ 2 ^ 63 - m → m < 2 ^ 62 → ⟦ parts δ a k ⟧ ⊢ ⟦ parts δ a 1 ⟧
+      ∗ ⟦ parts δ a (2 ^ 63 - suc m) ⟧
+  cuts δ a k m is few = parts_cut 𝓛 δ a k 1 (2 ^ 63 - suc m) (omega arith) (omega arith) (omega arith) (omega arith)
+
+  glues : (δ a c m : ℕ) → m < 2 ^ 62 → ⟦ parts δ a (2 ^ 63 - suc m) ⟧ ∗ ⟦ parts δ c 1 ⟧ ⊢ ⟦ parts δ a (2 ^ 63 - m) ⟧
+  glues δ a c m few = let rest : ℕ = 2 ^ 63 - suc m in let is : rest + 1 ≡ 2 ^ 63 - m = omega arith in
+      qed 𝓛 (‵ (parts δ a rest) ∷ ‵ (parts δ c 1) ∷ []) ∵
+      use2 𝓛 (given (a ≡ c) (‵ (parts δ a rest) ⊛ ‵ (parts δ c 1))) (parts_agree 𝓛 δ a c rest 1) $
       learn ! (λ same. split ! $
-      rewrite ! 1 (λ (k : ℕ). ‵ (parts γ k 1)) (sym same) refl $
-      use2 𝓛 (‵ (parts γ a (rest + 1))) (parts_glue 𝓛 γ a rest 1 (omega arith) (omega arith)) $
-      rewrite ! 0 (λ (k : ℕ). ‵ (parts γ a k)) is refl $ done !)
+      rewrite ! 1 (λ (k : ℕ). ‵ (parts δ k 1)) (sym same) refl $
+      use2 𝓛 (‵ (parts δ a (rest + 1))) (parts_glue 𝓛 δ a rest 1 (omega arith) (omega arith)) $
+      rewrite ! 0 (λ (k : ℕ). ‵ (parts δ a k)) is refl $ done !)
+
+  -- one more reader, who is counted
+  comes_in : (k m : ℕ) (x : T) (a : ℕ) → k ≡ 2 ^ 63 - m → m < 2 ^ 62
+      → (⟦ parts γ a k ⟧ ∗ ⟦ round_of R z a x ⟧) ∗ ⟦ left m ⟧ ⊢ ⟦ home (lent (suc m) x) ⟧ ∗ ⟦ hold (reads x) ⟧
+  comes_in k m x a is few = qed 𝓛 ((‵ (parts γ a k) ⊛ ‵ (round_of R z a x)) ∷ ‵ (left m) ∷ []) ∵ move ! (1 ∷ []) $
+      use1 𝓛 (‵ one ⊛ ‵ (left (suc m))) (cuts z.count_name z.count_atom (2 ^ 63 - m) m refl few) $ split ! $
+      move ! (2 ∷ []) $ split ! $
+      use1 𝓛 (‵ (parts γ a 1) ⊛ ‵ (parts γ a (2 ^ 63 - suc m))) (cuts γ a k m is few) $ split ! $ move ! (2 ∷ []) $
+      fsplit ! $
+      use1 𝓛 (‵ (V x (a ∷ α)) ⊛ ‵ (V x (a ∷ α))) (contraction 𝓛 (V x) (V_laws x) (a ∷ α)) $ split ! $
+      -- [what is shown, twice; the rest of the round; a part; the other parts; one; those left]
+      move ! (3 ∷ 0 ∷ []) $ fjoin ! $ fpack ! ℕ (reading R z x) a $ move ! (0 ∷ 4 ∷ []) $ fjoin ! $
+      move ! (1 ∷ 2 ∷ []) $ fjoin ! $ move ! (2 ∷ 0 ∷ []) $ fjoin ! $ fpack ! ℕ (lends R z (suc m) x) a $
+      move ! (0 ∷ 2 ∷ []) $ fjoin ! $ done !
+
+  -- one less, whose part of the round comes back
+  goes_out : (m : ℕ) (x y : T) → m < 2 ^ 62
+      → ⟦ home (lent (suc m) x) ⟧ ∗ ⟦ hold (reads y) ⟧ ⊢ ⟦ Lent m x ⟧ ∗ ⟦ left m ⟧
+  goes_out m x y few = qed 𝓛 (‵ (home (lent (suc m) x)) ∷ ‵ (hold (reads y)) ∷ []) ∵ fsplit ! $ move ! (2 ∷ []) $
+      fsplit ! $ move ! (3 ∷ 1 ∷ []) $
+      use2 𝓛 (‵ (left m)) (glues z.count_name z.count_atom z.count_atom m few) $ move ! (2 ∷ []) $
+      fpick ! (λ a. fsplit ! $ move ! (3 ∷ []) $
+      fpick ! (λ c. fsplit ! $ move ! (2 ∷ 0 ∷ []) $ use2 𝓛 (‵ (parts γ a (2 ^ 63 - m))) (glues γ a c m few) $
+      move ! (0 ∷ 2 ∷ []) $ fjoin ! $
+      fpack ! ℕ (lends R z m x) a $ keep ! (0 ∷ 2 ∷ []) $ done !))
 
   whole : (a : ℕ) → ⟦ share γ a full_share ⟧ ⊢ ⟦ parts γ a (2 ^ 63 - 0) ⟧
   whole a = parts_in 𝓛 γ a (2 ^ 63) full_share (Counts-all 63)
+
+  -- where the value is lent to nobody, the round is whole
+  rests : (x : T) → ⟦ Lent 0 x ⟧ ⊢ ⟦ hold (writes x) ⟧
+  rests x = qed 𝓛 (‵ (Lent 0 x) ∷ []) ∵ fpick ! (λ a. fsplit ! $
+      use1 𝓛 (‵ (share γ a full_share)) (parts_whole 𝓛 γ a) $ fjoin ! $
+      fpack ! ℕ (resting R z x) a $ done !)
 
   pub acts : (h : Home T) (o : Hold T) (a : Act T) → Valid h o a
       → ⟦ home h ⟧ ∗ ⟦ hold o ⟧ ⊢ ⟦ home (home_after h a) ⟧ ∗ ⟦ hold (hold_after o a) ⟧
   acts h o stays v = id⊢ 𝓤 _
   acts h o (comes m x) v = qed 𝓛 (‵ (home h) ∷ ‵ (hold o) ∷ []) ∵ keep ! (0 ∷ []) $
       rewrite ! 0 (λ (t : Home T). ‵ (home t)) v.0 refl $
-      fpick ! (λ a. fsplit ! $ by ! (one_more (2 ^ 63 - m) m x a refl v.2))
+      fsplit ! $ fpick ! (λ a. fsplit ! $ join ! $ by ! (comes_in (2 ^ 63 - m) m x a refl v.2))
   acts h o (goes m x) v = let y : T = v.2.0 in qed 𝓛 (‵ (home h) ∷ ‵ (hold o) ∷ []) ∵
       rewrite ! 0 (λ (t : Home T). ‵ (home t)) v.0 refl $
-      rewrite ! 1 (λ (t : Hold T). ‵ (hold t)) v.2.1 refl $ fpick ! (λ a. fsplit ! $ move ! (2 ∷ []) $
-      fpick ! (λ c. fsplit ! $ move ! (2 ∷ 0 ∷ []) $
-      use2 𝓛 (‵ (parts γ a (2 ^ 63 - m))) (one_less m a c v.1) $ move ! (0 ∷ 2 ∷ []) $ fjoin ! $
-      fpack ! ℕ (lends R z m x) a $ keep ! (0 ∷ []) $
-      nothing ! $ move ! (1 ∷ 0 ∷ []) $ done !))
+      rewrite ! 1 (λ (t : Hold T). ‵ (hold t)) v.2.1 refl $
+      use2 𝓛 (‵ (Lent m x) ⊛ ‵ (left m)) (goes_out m x y v.1) $ split ! $ fjoin ! $
+      nothing ! $ move ! (1 ∷ 0 ∷ []) $ done !
   acts h o (takes x) v = qed 𝓛 (‵ (home h) ∷ ‵ (hold o) ∷ []) ∵ keep ! (0 ∷ []) $
       rewrite ! 0 (λ (t : Home T). ‵ (home t)) v.0 refl $
-      fpick ! (λ a. fsplit ! $ use1 𝓛 (‵ (share γ a full_share)) (parts_whole 𝓛 γ a) $ fjoin ! $
-      fpack ! ℕ (resting R z x) a $ nothing ! $ done !)
-  acts h o (gives x) v = qed 𝓛 (‵ (home h) ∷ ‵ (hold o) ∷ []) ∵ keep ! (1 ∷ []) $
-      rewrite ! 0 (λ (t : Hold T). ‵ (hold t)) v.1 refl $
-      fpick ! (λ a. fsplit ! $ use1 𝓛 (‵ (parts γ a (2 ^ 63 - 0))) (whole a) $ fjoin ! $
-      fpack ! ℕ (lends R z 0 x) a $ nothing ! $ move ! (1 ∷ 0 ∷ []) $ done !)
+      fsplit ! $ use1 𝓛 (‵ (hold (writes x))) (rests x) $ nothing ! $ move ! (0 ∷ 2 ∷ []) $ fjoin ! $ done !
+  acts h o (gives x) v = qed 𝓛 (‵ (home h) ∷ ‵ (hold o) ∷ []) ∵ rewrite ! 0 (λ (t : Home T). ‵ (home t)) v.0 refl $
+      rewrite ! 1 (λ (t : Hold T). ‵ (hold t)) v.1 refl $ fsplit ! $ drop ! $ move ! (1 ∷ []) $
+      fpick ! (λ a. fsplit ! $
+      use1 𝓛 (‵ (parts γ a (2 ^ 63 - 0))) (whole a) $ fjoin ! $ fpack ! ℕ (lends R z 0 x) a $ fjoin ! $ nothing ! $
+      move ! (1 ∷ 0 ∷ []) $ done !)
   acts h o (grows x) v = let y : T = v.1.0 in qed 𝓛 (‵ (home h) ∷ ‵ (hold o) ∷ []) ∵
       rewrite ! 0 (λ (t : Home T). ‵ (home t)) v.0 refl $
-      rewrite ! 1 (λ (t : Hold T). ‵ (hold t)) v.1.1 refl $ fpick ! (λ a. fsplit ! $ move ! (2 ∷ []) $
-      fpick ! (λ c. fsplit ! $ move ! (2 ∷ 0 ∷ []) $
-      use2 𝓛 (‵ (parts γ a (2 ^ 63 - 0))) (one_less 0 a c (omega arith)) $
-      use1 𝓛 (‵ (share γ a full_share)) (parts_whole 𝓛 γ a) $
-      move ! (0 ∷ 2 ∷ []) $ fjoin ! $ fpack ! ℕ (resting R z x) a $ keep ! (0 ∷ []) $ nothing ! $ done !))
-  acts h o (shrinks x) v = qed 𝓛 (‵ (home h) ∷ ‵ (hold o) ∷ []) ∵ keep ! (1 ∷ []) $
-      rewrite ! 0 (λ (t : Hold T). ‵ (hold t)) v.1 refl $
-      fpick ! (λ a. fsplit ! $ use1 𝓛 (‵ (parts γ a (2 ^ 63 - 0))) (whole a) $
-      by ! (one_more (2 ^ 63 - 0) 0 x a refl (omega arith)))
+      rewrite ! 1 (λ (t : Hold T). ‵ (hold t)) v.1.1 refl $
+      use2 𝓛 (‵ (Lent 0 x) ⊛ ‵ (left 0)) (goes_out 0 x y (omega arith)) $ split ! $
+      use1 𝓛 (‵ (hold (writes x))) (rests x) $ nothing ! $ move ! (0 ∷ 2 ∷ []) $ fjoin ! $ done !
+  acts h o (shrinks x) v = qed 𝓛 (‵ (home h) ∷ ‵ (hold o) ∷ []) ∵ rewrite ! 0 (λ (t : Home T). ‵ (home t)) v.0 refl $
+      rewrite ! 1 (λ (t : Hold T). ‵ (hold t)) v.1 refl $ fsplit ! $ drop ! $ move ! (1 ∷ []) $
+      fpick ! (λ a. fsplit ! $
+      use1 𝓛 (‵ (parts γ a (2 ^ 63 - 0))) (whole a) $ join ! $ by ! (comes_in (2 ^ 63 - 0) 0 x a refl (omega arith)))
+
+  -- a writer has the whole name of the round
+  abbrev Named : Pr
+  Named = ex 𝓤 (λ (a : ℕ). ⟦ tag γ full_share a ⟧)
+
+  named : (y : T) → ⟦ hold_owns R z (writes y) ⟧ ⊢ Named
+  named y = qed 𝓛 (‵ (hold_owns R z (writes y)) ∷ []) ∵ fpick ! (λ a. fsplit ! $ keep ! (0 ∷ []) $
+      show ! (λ (c : ℕ). ⟦ tag γ full_share c ⟧) a $ done !)
+
+  named_round : (y : T) → ⟦ hold (writes y) ⟧ ⊢ Named
+  named_round y = qed 𝓛 (‵ (hold (writes y)) ∷ []) ∵ fpick ! (λ a. fsplit ! $ fsplit ! $ keep ! (1 ∷ []) $
+      show ! (λ (c : ℕ). ⟦ tag γ full_share c ⟧) a $ done !)
+
+  -- nobody is counted beside a reader where the table has all parts
+  none_counted : (Z : Pr) → ⟦ left 0 ⟧ ∗ ⟦ one ⟧ ⊢ Z
+  none_counted Z = qed 𝓛 (‵ (left 0) ∷ ‵ one ∷ []) ∵ use1 𝓛 (‵ (share z.count_name z.count_atom full_share))
+      (parts_whole 𝓛 z.count_name z.count_atom) $
+      fsplit ! $ keep ! (1 ∷ 2 ∷ []) $ by ! (none_beside 𝓛 z.count_name z.count_atom z.count_atom 1 Z)
+
+  module _ (own : Hold T → Fml) (read : (y : T) → ⟦ own (reads y) ⟧ ⊢ ⟦ hold (reads y) ⟧) (written : (y : T)
+      → ⟦ own (writes y) ⟧ ⊢ Named) where
+    fits_by : (h : Home T) (o : Hold T) → ⟦ home h ⟧ ∗ ⟦ own o ⟧ ⊢ guard 𝓤 (Fits h o) (⟦ home h ⟧ ∗ ⟦ own o ⟧)
+    fits_by h none = guard_i 𝓤 (Unit {0}) _ tt
+    fits_by away (reads y) = qed 𝓛 (‵ (home away) ∷ ‵ (own (reads y)) ∷ []) ∵ fsplit ! $ move ! (2 ∷ []) $
+        use1 𝓛 (‵ (hold (reads y))) (read y) $ fsplit ! $
+        keep ! (3 ∷ 1 ∷ []) $ by ! (none_counted _)
+    fits_by (lent zero x) (reads y) = qed 𝓛 (‵ (home (lent zero x)) ∷ ‵ (own (reads y)) ∷ []) ∵ fsplit ! $
+        move ! (2 ∷ []) $
+        use1 𝓛 (‵ (hold (reads y))) (read y) $ fsplit ! $ keep ! (3 ∷ 1 ∷ []) $ by ! (none_counted _)
+    fits_by (lent (suc m) x) (reads y) = guard_i 𝓤 (Fits (lent (suc m) x) (reads y)) _ (m, (x, refl))
+    fits_by away (writes y) = guard_i 𝓤 (away ≡ away) _ refl
+    fits_by (lent m x) (writes y) = qed 𝓛 (‵ (home (lent m x)) ∷ ‵ (own (writes y)) ∷ []) ∵ fsplit ! $
+        move ! (2 ∷ []) $
+        use1 𝓛 (some (λ (a : ℕ). ‵ (tag γ full_share a))) (written y) $ pick ! (λ a. move ! (1 ∷ []) $
+        fpick ! (λ c. fsplit ! $ keep ! (2 ∷ 0 ∷ []) $
+        by ! (none_beside 𝓛 γ c a (2 ^ 63 - m) _)))
+
+  -- what a seat has fits where the value is, between steps and while one goes on
+  pub fits : (h : Home T) (o : Hold T) → ⟦ home h ⟧ ∗ ⟦ hold_owns R z o ⟧
+      ⊢ guard 𝓤 (Fits h o) (⟦ home h ⟧ ∗ ⟦ hold_owns R z o ⟧)
+  fits = fits_by (hold_owns R z) (λ y. id⊢ 𝓤 _) named
+
+  pub fits_step : (h : Home T) (o : Hold T) → ⟦ home h ⟧ ∗ ⟦ hold o ⟧ ⊢ guard 𝓤 (Fits h o) (⟦ home h ⟧ ∗ ⟦ hold o ⟧)
+  fits_step = fits_by hold (λ y. id⊢ 𝓤 _) named_round
 
   -- a round ends: its last holder has the borrow again
   ended : (x : T) (a : ℕ) → ⟦ resting R z x a ⟧ ⊢ H.⇛ ⟦ writing R z x a ⟧
@@ -270,6 +348,7 @@ module _ {M : Type 1} {𝓤 : Ura M} (𝓛 : Logic 𝓤) (R : RattleType) (L : R
 
   pub Lends-hold : (l : Lft) (o : Hold T) → Lends 𝓛 (hold_owns R z o) (hold_shares R z o) l
   Lends-hold l none = Lends-nothing 𝓛 ftrue l
-  Lends-hold l (reads x) = λ κ ts inc sp. by_one 𝓛 κ ts sp (A.bor κ (fex ℕ (reading R z x))) ⟦ fex ℕ (λ a.
-      lit R z x a κ) ⟧ (lights x κ)
+  Lends-hold l (reads x) = Lends-first 𝓛 (fex ℕ (reading R z x)) (counted R z 1) (hold_shares R z (reads x)) l
+      (λ κ ts inc sp. by_one 𝓛 κ ts sp (A.bor κ (fex ℕ (reading R z x))) ⟦ fex ℕ (λ a.
+      lit R z x a κ) ⟧ (lights x κ))
   Lends-hold l (writes x) = Lends-nothing 𝓛 (fex ℕ (writing R z x)) l

@@ -22,12 +22,12 @@ module _ (R : RattleType) (s : IsSend R) (y : IsSync R) (z : TableId) where
   round_keyless a x = (y.shared x z.block z.offset (a ∷ age z), (tt, kept_keyless))
 
   home_keyless : (h : Home R.Denot) → Keyless (home_owns R z h)
-  home_keyless away = tt
-  home_keyless (lent m x) = λ a. ((λ e c. (tt, tt)), round_keyless a x)
+  home_keyless away = (tt, λ e c. (tt, tt))
+  home_keyless (lent m x) = ((λ a. ((λ e c. (tt, tt)), round_keyless a x)), λ e c. (tt, tt))
 
   hold_keyless : (o : Hold R.Denot) → Keyless (hold_owns R z o)
   hold_keyless none = tt
-  hold_keyless (reads x) = λ a. ((λ e c. (tt, tt)), y.shared x z.block z.offset (a ∷ age z))
+  hold_keyless (reads x) = ((λ a. ((λ e c. (tt, tt)), y.shared x z.block z.offset (a ∷ age z))), λ e c. (tt, tt))
   hold_keyless (writes x) = λ a. (tt, (tt, kept_keyless))
 
   module _ {V : Type 0} (c : V → Gv) where

@@ -22,9 +22,11 @@ use Rattle.core.specs.Sync.RawAtomic.{asks, always, word}
 use Rattle.core.proofs.raw_atomic.Asked.{borrowed, Lies, Again}
 use Rattle.atomic_table.specs.Seated.{fact, seen, roster}
 use Rattle.atomic_table.proofs.Roster.{Moved, moves, Joined, joins}
-use Rattle.lent_table.specs.Table.{State, Me, Hold, none, Act, stays, hold_after, stepped, Allows, Learns, Enters}
-use Rattle.lent_table.specs.Lending.{TableId, age, home_owns, hold_steps, Placed, standing, inner, common}
-use Rattle.lent_table.proofs.Rounds.{acts}
+use Rattle.lent_table.specs.Table.{Fits, State, Me, Hold, none, Act, stays, hold_after, stepped, Allows, Learns}
+use Rattle.lent_table.specs.Table.{Enters}
+use Rattle.lent_table.specs.Lending.{TableId, age, home_owns, hold_owns, hold_steps, seat_owns, Placed, standing}
+use Rattle.lent_table.specs.Lending.{inner, common}
+use Rattle.lent_table.proofs.Rounds.{acts, fits, fits_step}
 
 module _ {M : Type 1} {𝓤 : Ura M} (𝓛 : Logic 𝓤) (R : RattleType) {V : Type 0} (cv : Coded V)
     (holds : State R.Denot V → Type 0) (w p : Ptr) (z : TableId) where
@@ -135,38 +137,46 @@ module _ {M : Type 1} {𝓤 : Ura M} (𝓛 : Logic 𝓤) (R : RattleType) {V : T
           split ! $ move ! (2 ∷ []) $ split ! $ move ! (3 ∷ 1 ∷ []) $
           use2 𝓛 (given (get_elem? s.views id ≡ maybe.some me.0)
           (raw (all 𝓤 (Moved 𝓛 cv z.views_name 0 s.views id id)))) (view_goes s.views id me.0) $ learn ! (λ at.
-          let r = law s so at small in let u : V = r.0 in let a : Act R.Denot = r.1 in
+          move ! (2 ∷ 1 ∷ []) $ use2 𝓛 (given (Fits s.home me.1) (‵ (home_owns R z s.home) ⊛ ‵ (hold me.1)))
+          (fits_step 𝓛 R L z s.home me.1) $ learn ! (λ fit. split ! $ move ! (2 ∷ []) $
+          let r = law s (record { rule = so; view = at; hold = fit; small = small }) in
+          let u : V = r.0 in let a : Act R.Denot = r.1 in
           let t : S = stepped s (f n) id u a in let to : Me R.Denot V = (u, hold_after me.1 a) in
           use1 𝓛 (raw (Moved 𝓛 cv z.views_name 0 s.views id id u))
           (all_e 𝓤 (Moved 𝓛 cv z.views_name 0 s.views id id) u) $
-          settle 𝓛 Z (‵ (views t.views) ⊛ ‵ (half id u)) $ suffices ! _ (upd_i 𝓤 Z) $ split ! $ move ! (3 ∷ 2 ∷ []) $
+          settle 𝓛 Z (‵ (views t.views) ⊛ ‵ (half id u)) $ suffices ! _ (upd_i 𝓤 Z) $ split ! $ move ! (2 ∷ 3 ∷ []) $
           use2 𝓛 (‵ (home_owns R z t.home) ⊛ ‵ (hold to.1)) (acts 𝓛 R L z s.home me.1 a r.2) $ split ! $
           show ! (Turns f after_exchange s) t $ check ! (refl, r.3) $ move ! (0 ∷ 2 ∷ []) $ join ! $ frame ! $
           show ! (λ (x : Me R.Denot V). ⟦ exchanged n x ⟧) to $
-          nothing ! $ fpack ! (then n to) (λ _. ftrue) r.4 $ move ! (0 ∷ 1 ∷ 2 ∷ []) $ done !))
+          nothing ! $ fpack ! (then n to) (λ _. ftrue) r.4 $ move ! (0 ∷ 1 ∷ 2 ∷ []) $ done !)))
 
-    module _ (id : ℕ) (me : Me R.Denot V) (then : ℕ → Me R.Denot V → Type 0) where
+    module _ (L : RowLaws R) (id : ℕ) (me : Me R.Denot V) (then : ℕ → Me R.Denot V → Type 0) where
       abbrev pub learned : ℕ → V → Fml
-      learned n u = fsep (fact (then n (u, me.1))) (half id u)
+      learned n u = fsep (fact (then n (u, me.1))) (seat_owns R cv.code z id (u, me.1))
 
       abbrev pub after_load : ℕ → Fml
       after_load n = fex V (learned n)
 
-      pub loads : Learns holds id me then → ⟦ C ⟧ ∗ A.lft α q ∗ ⟦ half id me.0 ⟧ ⊢ asks 𝓛 (block_ptr b o) (λ n.
-          n) always (λ n. fsep (flft α q) (after_load n))
-      loads law = at_step (λ n. n) after_load (half id me.0) (λ s so small. let n : ℕ = s.word in
-          let Z : Pr = ex 𝓤 (Turns (λ n. n) after_load s) in
-          qed 𝓛 ((‵ (home_owns R z s.home) ⊛ ‵ (views s.views)) ∷ ‵ (half id me.0) ∷ []) ∵ split ! $
-          move ! (1 ∷ 2 ∷ []) $
+      pub loads : Learns holds id me then
+          → ⟦ C ⟧ ∗ A.lft α q ∗ ⟦ seat_owns R cv.code z id me ⟧ ⊢ asks 𝓛 (block_ptr b o) (λ n. n) always (λ n.
+          fsep (flft α q) (after_load n))
+      loads law = at_step (λ n. n) after_load (seat_owns R cv.code z id me) (λ s so small.
+          let n : ℕ = s.word in let Z : Pr = ex 𝓤 (Turns (λ n. n) after_load s) in
+          let had : Fml = hold_owns R z me.1 in
+          qed 𝓛 ((‵ (home_owns R z s.home) ⊛ ‵ (views s.views)) ∷ (‵ had ⊛ ‵ (half id me.0)) ∷ []) ∵
+          split ! $ move ! (2 ∷ []) $ split ! $ move ! (3 ∷ 1 ∷ []) $
           use2 𝓛 (given (get_elem? s.views id ≡ maybe.some me.0)
           (raw (all 𝓤 (Moved 𝓛 cv z.views_name 0 s.views id id)))) (view_goes s.views id me.0) $ learn ! (λ at.
-          let r = law s so at small in let u : V = r.0 in let t : S = stepped s n id u stays in
+          move ! (2 ∷ 1 ∷ []) $ use2 𝓛 (given (Fits s.home me.1) (‵ (home_owns R z s.home) ⊛ ‵ had))
+          (fits 𝓛 R L z s.home me.1) $ learn ! (λ fit. split ! $ move ! (2 ∷ []) $
+          let r = law s (record { rule = so; view = at; hold = fit; small = small }) in
+          let u : V = r.0 in let t : S = stepped s n id u stays in
           use1 𝓛 (raw (Moved 𝓛 cv z.views_name 0 s.views id id u))
           (all_e 𝓤 (Moved 𝓛 cv z.views_name 0 s.views id id) u) $
           settle 𝓛 Z (‵ (views t.views) ⊛ ‵ (half id u)) $ suffices ! _ (upd_i 𝓤 Z) $ split ! $
           show ! (Turns (λ n. n) after_load s) t $ check ! (refl, r.1) $ move ! (2 ∷ 0 ∷ []) $ join ! $ frame ! $
           show ! (λ (x : V). ⟦ learned n x ⟧) u $
-          nothing ! $ fpack ! (then n (u, me.1)) (λ _. ftrue) r.2 $ done !))
+          nothing ! $ fpack ! (then n (u, me.1)) (λ _. ftrue) r.2 $ move ! (0 ∷ 2 ∷ 1 ∷ []) $ done !)))
 
     module _ (then : ℕ → Me R.Denot V → Type 0) where
       abbrev pub come : ℕ → ℕ × V → Fml

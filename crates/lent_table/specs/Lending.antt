@@ -1,9 +1,7 @@
 -- What a `Shared` and a `Seat` own. The table lends its memory for a lifetime of its own, the age, whose token it
--- keeps.
--- While the value is lent, it is shared for a round, a lifetime within the age. Of the round's token each reader
--- has one part
--- in 2 ^ 63, and the table the rest; the round's name is agreed upon in the same parts. Whoever has them all ends
--- the round.
+-- keeps. While the value is lent, it is shared for a round, a lifetime within the age. Of the round's token each
+-- reader has one part in 2 ^ 63, and the table the rest; the round's name is agreed upon in the same parts. Readers
+-- are counted by parts too. Whoever has the whole round ends it.
 use Rattle.std.specs.Prelude.{◌≡◌, ℕ, ◌-◌, ◌^◌, [], ◌∷◌}
 use mir.Syntax.{Ty}
 use mir.Raw.{raw}
@@ -29,17 +27,26 @@ pub record TableId : Type 0 where
   pub views_name : ℕ
   pub round_name : ℕ
   pub value_name : ℕ
+  pub count_atom : ℕ
+  pub count_name : ℕ
 
 abbrev pub table_id_coded : Coded TableId
-table_id_coded = coded_via (coded× coded_ℕ (coded× coded_ℕ (coded× coded_ℕ (coded× coded_ℕ (coded× coded_ℕ coded_ℕ)))))
-    (λ (z : TableId). (z.atom, (z.block, (z.offset, (z.views_name, (z.round_name, z.value_name))))))
-    (λ x y e i. record {
-      atom = (e i).0;
-      block = (e i).1.0;
-      offset = (e i).1.1.0;
-      views_name = (e i).1.1.1.0;
-      round_name = (e i).1.1.1.1.0;
-      value_name = (e i).1.1.1.1.1;
+table_id_coded =
+    let four = coded× coded_ℕ (coded× coded_ℕ (coded× coded_ℕ coded_ℕ)) in
+    coded_via (coded× four four)
+    (λ (z : TableId). (
+      (z.atom, (z.block, (z.offset, z.views_name))),
+      (z.round_name, (z.value_name, (z.count_atom, z.count_name))),
+    ))
+    (λ x y e i. let u = e i in record {
+      atom = u.0.0;
+      block = u.0.1.0;
+      offset = u.0.1.1.0;
+      views_name = u.0.1.1.1;
+      round_name = u.1.0;
+      value_name = u.1.1.0;
+      count_atom = u.1.1.1.0;
+      count_name = u.1.1.1.1;
     })
 
 -- where its value lies
@@ -83,19 +90,23 @@ module _ (R : RattleType) (z : TableId) where
   abbrev pub writing : R.Denot → ℕ → Fml
   writing x a = fsep (tag z.round_name full_share a) (fsep (fobs z.value_name (R.coded.code x)) (fbor (age z) kept))
 
+  -- so many of the parts by which readers are counted, which nobody ever has all but the table
+  abbrev pub counted : ℕ → Fml
+  counted k = parts z.count_name z.count_atom k
+
   abbrev pub home_owns : Home R.Denot → Fml
-  home_owns away = ftrue
-  home_owns (lent m x) = fex ℕ (lends m x)
+  home_owns away = fsep ftrue (counted (2 ^ 63 - 0))
+  home_owns (lent m x) = fsep (fex ℕ (lends m x)) (counted (2 ^ 63 - m))
 
   abbrev pub hold_owns : Hold R.Denot → Fml
   hold_owns none = ftrue
-  hold_owns (reads x) = fex ℕ (reading x)
+  hold_owns (reads x) = fsep (fex ℕ (reading x)) (counted 1)
   hold_owns (writes x) = fex ℕ (writing x)
 
   -- the same while a step goes on, where a writer has a round of its own
   abbrev pub hold_steps : Hold R.Denot → Fml
   hold_steps none = ftrue
-  hold_steps (reads x) = fex ℕ (reading x)
+  hold_steps (reads x) = fsep (fex ℕ (reading x)) (counted 1)
   hold_steps (writes x) = fex ℕ (resting x)
 
   -- what a `&` to a seat that reads shows

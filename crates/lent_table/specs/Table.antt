@@ -67,6 +67,13 @@ module _ {T : Type 0} where
   Valid h o (grows x) = (h ≡ lent 1 x) × ((y : T) × (o ≡ reads y))
   Valid h o (shrinks x) = (h ≡ away) × (o ≡ writes x)
 
+module _ {T : Type 0} where
+  -- what a seat's hold tells of the value's place: a reader is counted there, and from a writer it is away
+  abbrev pub Fits : Home T → Hold T → Type 0
+  Fits h none = Unit {0}
+  Fits h (reads y) = (m : ℕ) × ((x : T) × (h ≡ lent (suc m) x))
+  Fits h (writes y) = h ≡ away
+
 -- what an exchange looks for in the word, and what it writes there; a load has zeros
 pub record Step : Type 0 where
   pub old : ℕ
@@ -80,24 +87,28 @@ module _ {T V : Type 0} where
   abbrev pub stepped : State T V → ℕ → ℕ → V → Act T → State T V
   stepped s n id w a = record { word = n; home = home_after s.home a; views = slice_set s.views id w }
 
-  -- Whatever the table is when the word becomes f of what it was: the seat has a new view and an act that keep the
-  -- rule, and
-  -- `then` holds of the number found and of the seat after
+  -- what a table may be when a seat makes a step: the rule holds, and the seat's view and hold are in it
+  pub record Finds (holds : State T V → Type 0) (id : ℕ) (me : Me T V) (s : State T V) : Type 0 where
+    pub rule : holds s
+    pub view : get_elem? s.views id ≡ maybe.some me.0
+    pub hold : Fits s.home me.1
+    pub small : s.word < 2 ^ 64
+
+  -- Whatever the table is when the word becomes f of what it was, the seat has a new view and an act that keep the
+  -- rule, and `then` holds of the number found and of the seat after
   abbrev pub Allows : (State T V → Type 0) → ℕ → Me T V → (ℕ → ℕ) → (ℕ → Me T V → Type 0) → Type 0
-  Allows holds id me f then = (s : State T V) → holds s → get_elem? s.views id ≡ maybe.some me.0
-      → s.word < 18446744073709551616
+  Allows holds id me f then = (s : State T V) → Finds holds id me s
       → (w : V) × (a : Act T) × Valid s.home me.1 a × holds (stepped s (f s.word) id w a)
       × then s.word (w, hold_after me.1 a)
 
   -- the same where the word is only read: the seat's view alone may change
   abbrev pub Learns : (State T V → Type 0) → ℕ → Me T V → (ℕ → Me T V → Type 0) → Type 0
-  Learns holds id me then = (s : State T V) → holds s → get_elem? s.views id ≡ maybe.some me.0
-      → s.word < 18446744073709551616
+  Learns holds id me then = (s : State T V) → Finds holds id me s
       → (w : V) × holds (stepped s s.word id w stays) × then s.word (w, me.1)
 
-  -- the same where a new seat reads the word
+  -- the same where a new seat reads the word, which has nothing of the value
   abbrev pub Enters : (State T V → Type 0) → (ℕ → Me T V → Type 0) → Type 0
-  Enters holds then = (s : State T V) → holds s → s.word < 18446744073709551616
+  Enters holds then = (s : State T V) → holds s → s.word < 2 ^ 64
       → (w : V) × holds record { word = s.word; home = s.home; views = s.views ++ w ∷ [] } × then s.word (w, none)
 
   -- the table at first: its one seat has this view, and the value

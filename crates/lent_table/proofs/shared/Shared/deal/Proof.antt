@@ -98,7 +98,8 @@ deal_spec 𝓤 𝓛 𝓜 𝓡 wired T U Q P _ _ _ _ g d _ =
     sets ! (agg ! (no_more !)) refl (tt, tt) $
     sets ! (agg ! (and_then ! (get ! refl) (and_then ! (get ! refl) (and_then ! (get ! refl) (no_more !))))) refl
     (hand_good w p in_w in_p) $
-    sets ! (agg ! (no_more !)) refl (tt, tt) $ sets ! (of_opd ! (get ! refl)) refl (hand_good w p in_w in_p) $ sets ! (agg ! (and_then ! (get ! refl) (no_more !))) refl (
+    sets ! (agg ! (no_more !)) refl (tt, tt) $ sets ! (of_opd ! (get ! refl)) refl (hand_good w p in_w in_p) $
+    sets ! (agg ! (and_then ! (get ! refl) (no_more !))) refl (
       tt,
       (tt, tt),
     ) $

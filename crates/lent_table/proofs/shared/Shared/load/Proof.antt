@@ -14,11 +14,10 @@ use Rattle.atomic_table.proofs.Names.{shr_bor-open, obor_close, tokens_halve}
 use Rattle.atomic_table.proofs.Walks.{proved, leaves}
 use Rattle.atomic_table.proofs.Calls.{fm, seq_cst, found, finds, loads as raw_load}
 use Rattle.atomic_table.proofs.Fields.{hand_of}
-use Rattle.atomic_table.specs.Seated.{seen}
-use base.Share.{three_quarters}
+use denote.Param.Laws.{param_laws}
 use Rattle.core.proofs.atomic.Steps.{tail}
 use Rattle.lent_table.specs.Table.{Me, step, Learns}
-use Rattle.lent_table.specs.Lending.{TableId, age}
+use Rattle.lent_table.specs.Lending.{TableId, age, seat_owns}
 use Rattle.lent_table.specs.contracts.shared.Shared as table
 use Rattle.lent_table.specs.contracts.shared.Seat as seat
 use Rattle.lent_table.proofs.Fields.{TableData, table_told, table_opens, sees_table}
@@ -29,7 +28,7 @@ use Rattle.lent_table.proofs.shared.Shared.load.Statement.{statement}
 use Rattle.lent_table.proofs.shared.Shared.load.Code as code
 
 pub load_spec : {M : Type 1} → statement M
-load_spec 𝓤 𝓛 𝓜 𝓡 wired T U Q P Mv _ _ _ _ _ g d g' d' _ _ =
+load_spec 𝓤 𝓛 𝓜 𝓡 wired T U Q P Mv L _ _ _ _ g d g' d' _ _ =
     let H = 𝓛.H in let 𝓣 = tables 𝓤 H 𝓜 𝓡 𝓡.env in
     let R : RattleType = param 0 T in let W : RattleType = param 1 U in let X : RattleType = param 2 Q in
     let Y : RattleType = param 3 P in
@@ -80,26 +79,25 @@ load_spec 𝓤 𝓛 𝓜 𝓡 wired T U Q P Mv _ _ _ _ _ g d g' d' _ _ =
     shuts ! tt D q (w, (t.value, (tt, tt))) vs b o $
     move ! (2 ∷ 0 ∷ []) $ shr_bor-open ! tt (tokens_halve 𝓛 (age z)) (λ r.
     let out : ℕ → Fml = λ n. fsep (flft (age z) r) (after_load 𝓛 R W.coded (g.holds t.key)
-    w t.value z r s.id me then n) in
-    move ! (4 ∷ 5 ∷ 6 ∷ []) $ opens ! tt Sr b' o' (λ us. move ! (1 ∷ []) $ fsplit ! $ move ! (1 ∷ []) $ fsplit ! $
-    -- [what the seat has; its view; its fields and borrow; the borrow that the age's token came from; that; the
-    -- table's fields; the invariant]
-    let View : TableId → U.Denot → Fml = λ u v. seen W.coded.code u.views_name s.id three_quarters v in
-    rewrite ! 1 (λ (u : TableId). ‵ (View u me.0)) asked.0 refl $ move ! (10 ∷ 8 ∷ 1 ∷ []) $
+    w t.value z r (param_laws 0 T L).shr_laws s.id me then n) in
+    move ! (4 ∷ 5 ∷ 6 ∷ []) $ opens ! tt Sr b' o' (λ us. move ! (1 ∷ []) $ fsplit ! $ move ! (1 ∷ []) $
+    -- [the seat; its fields and borrow; the borrow that the age's token came from; that; the table's fields; the
+    -- invariant]
+    let Mine : TableId → Me T.Denot U.Denot → Fml = λ u v. seat_owns R W.coded.code u s.id v in
+    rewrite ! 0 (λ (u : TableId). ‵ (Mine u me)) asked.0 refl $ move ! (9 ∷ 7 ∷ 0 ∷ []) $
     use3 𝓛 (raw (𝓣.C _ (vptr (block_of w) (count_of w) ∷ seq_cst ∷ []) (λ u. mean 𝓛 (found out u))))
-    (via 𝓤 _ (loads 𝓛 R W.coded (g.holds t.key) w t.value z r s.id me then asked.1)
+    (via 𝓤 _ (loads 𝓛 R W.coded (g.holds t.key) w t.value z r (param_laws 0 T L).shr_laws s.id me then asked.1)
     (raw_load 𝓛 𝓜 𝓡 (code.calls-core::raw_atomic::load 𝓡.env wired) (block_ptr (block_of w) (count_of w)) out)) $
     sets ! (agg ! (and_then ! (lit ! tt) (no_more !))) refl (tt, (record { fits = lit< tt }, tt)) $
     Calls-last ! (fm 𝓛 𝓜 𝓡) (found out) (and_then ! (get ! refl) (and_then ! (get ! refl) (no_more !))) (λ u.
     finds ! out (λ n fits.
     lands_last ! refl (tt, record { fits = fits }) $ exec ! 𝓣.C 𝓣.Λ Ev (tail fn.body) (at_ret Ev Post) $
     sets ! (of_opd ! (get ! refl)) refl (tt, record { fits = fits }) $
-    fsplit ! $ move ! (8 ∷ 0 ∷ []) $ obor_close ! tt $ drop ! $ move ! (1 ∷ []) $ fpick ! (λ v. fsplit ! $
+    fsplit ! $ move ! (7 ∷ 0 ∷ []) $ obor_close ! tt $ drop ! $ move ! (1 ∷ []) $ fpick ! (λ v. fsplit ! $
     fpick ! (λ so. drop ! $
     let new : Sr.Denot = record { marker = s.marker; table_id = s.table_id; id = s.id; me = (v, me.1) } in
     let Told : Type 0 = (s.table_id ≡ s.table_id) × (s.id ≡ s.id) × then n (v, me.1) in
-    rewrite ! 0 (λ (u : TableId). ‵ (View u v)) (sym asked.0) refl $ move ! (2 ∷ 0 ∷ []) $ fjoin ! $
-    move ! (2 ∷ 0 ∷ []) $ fjoin ! $
+    rewrite ! 0 (λ (u : TableId). ‵ (Mine u (v, me.1))) (sym asked.0) refl $ move ! (2 ∷ 0 ∷ []) $ fjoin ! $
     move ! (2 ∷ 0 ∷ 3 ∷ 4 ∷ 5 ∷ []) $ closes ! tt Sr new us b' o' $
     feq_i ! (List Val) (vptr b' o' ∷ []) (vptr b' o' ∷ []) refl $ fjoin3 ! $
     nothing ! $ move ! (1 ∷ 0 ∷ []) $ fjoin ! $ nothing ! $ fjoin ! $ move ! (1 ∷ 4 ∷ []) $ join ! $
