@@ -89,9 +89,7 @@ impl<T, V> Seat<T, V> {
     pub fn alone(&mut self, other: &mut Seat<T, V>)
         ensures same { (self.new ≡ self.old) × (other.new ≡ other.old) }
         ensures alone { other.old.table_id ≡ self.old.table_id → (x : T) → self.old.me.1 ≡ writes x → other.old.me.1 ≡ none }
-    {
-        let _ = other;
-    }
+    {}
 }
 
 impl<T, V> Drop for Seat<T, V> {
