@@ -247,11 +247,13 @@ def faults_in(folder, said):
 def why_of(function, crate, said):
     """What the prover says against the function itself, with its rank: the most telling."""
     stated = dict(STATED.findall(said))[function]
+    folder = "proofs/" + function.removeprefix(f"{crate.name}::").replace("::", "/") + "/"
     if "does not cover" in stated:
-        return 3, NOT_COVERED
+        # of such a form a proof by hand is whole
+        whole = faults_in(folder, said) if os.path.isfile(f"{crate.folder}/{folder}Proof.antt") else []
+        return min(whole, default=(3, NOT_COVERED))
     found = GOALS.search(stated)
     # a proof by hand: what is wrong in its own files, and the goals that were left to `search`
-    folder = "proofs/" + function.removeprefix(f"{crate.name}::").replace("::", "/") + "/"
     goals = GOAL.findall(found[1]) if found else goals_left(function, folder, said)
     shown = sorted((rank_of(it), it) for it in goals if not SAFETY.match(it))
     whys = [(shown[0][0], f"not proved: {', '.join(it for _, it in shown)}")] if shown else [(3, SAFE) for _ in goals[:1]]

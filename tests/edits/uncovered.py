@@ -20,8 +20,10 @@ IMPL = re.compile(r"^impl(?:<(?:[^<>{]|<[^<>{]*>)*>)? (?:[\w:<>]+ for )?(\w+)[^{
 HANDS_ON = "stamped_lock"
 # What a body of one expression has none of.
 STATEMENT = re.compile(r";|\b(?:if|match|while|for|loop)\b")
-# Of these no wrong body compiles: the only verdict that this one can refer to is the one that it answers.
-WITHOUT = {"stamp_picture: Picture::verdict"}
+# Of these no wrong body compiles, or none has the form of the right one: the only verdict that the first can refer to is
+# the one that it answers, and the others have a proof by hand of their few steps on the one pointer of its type.
+WITHOUT = {"stamp_picture: Picture::verdict", "lent_table: Seat::value_mut", "lent_table: Seat::value_ref",
+           "lent_table: Shared::load"}
 FUNCTION = re.compile(r'^( *)(pub )?(?:pub\(\w+\) )?(?:const )?(?:extern "C" )?fn (\w+)', re.M)
 
 

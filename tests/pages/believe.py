@@ -34,7 +34,7 @@ PROMISES = [
 # What the prover's language and the code have of their own.
 WORDS = {*"record let in where data module abbrev unfoldable pub do λ → × ¬ ⊥ ← _ = : *".split(),
          *"Type Unit tt Prim Self".split()}
-MODELLED = "Value|view|invariant"
+MODELLED = "Value|view|invariant|also_owns|also_shares"
 # A name, an operator or a number, with what is projected of it; a dot before it makes it a projection itself.
 CHUNK = re.compile(r'(\.?)([^\s()\[\]{};,."]+)((?:\.[^\s()\[\]{};,."]+)*)')
 LABEL = re.compile(r"([{;]\s*)[\w'?-]+(?=\s+=\s)")
@@ -190,7 +190,7 @@ def arguments(text, base, scope):
 
 def clauses_at(text, at):
     """The clauses of a contract that begins here; one that declares a ghost parameter comes with its name."""
-    clause = re.compile(r"\s*(?:(?:requires|ensures)(?:\s+\w+)?|ghost (\w+):)\s*(?={)")
+    clause = re.compile(r"\s*(?:(?:requires|ensures)\*?(?:\s+\w+)?|ghost (\w+):)\s*(?={)")
     found = clause.match(text, at)
     while found:
         end = closing(text, found.end())
@@ -225,7 +225,7 @@ def ghosts_in(body, names=r"\w+"):
     """What a body gives for its ghost members, and their names."""
     for found in re.finditer(rf"\bghost ({names})(?::| =)\s*{{", body):
         yield found[1], body[found.end():closing(body, found.end() - 1)]
-        default = re.compile(r"\s*=\s*(?={)").match(body, closing(body, found.end() - 1) + 1)
+        default = re.compile(r"\s*(?:=|by)\s*(?={)").match(body, closing(body, found.end() - 1) + 1)
         if default:
             yield found[1], body[default.end() + 1:closing(body, default.end())]
 
@@ -266,7 +266,7 @@ def model_of(item, at, span, scope, members):
     body = text[span[0]:span[1] + 1]
     given = dict(ghosts_in(body, members))
     shown = "\n".join(f"{it} {text}" for it, text in given.items())
-    kind, at = ("view", at) if members == MODELLED else ("value", text.index("ghost Value", at))
+    kind, at = ("view", at) if members == MODELLED else ("value", span[0] + max(0, body.find("ghost Value")))
     return Item(item.path, f"{kind} of {item.name}", line_at(text, at), shown,
                 "\n;\n".join(given.values()), scope={**scope, **imports(body)}, bound=MODELLED.split("|"))
 
@@ -487,7 +487,7 @@ def offered():
 
 def misplaced(contracts, items):
     """What is to be moved: what contracts reach of `specs/inner`, and what none reaches outside of it."""
-    for item in in_order(it for it in ITEMS.values() if is_definition(it)):
+    for item in in_order(it for it in ITEMS.values() if is_definition(it) and not it.crate.endswith("_tests")):
         folder, file = os.path.split(item.path)
         inner = f"crates/{item.crate}/specs/inner"
         if item not in items and folder != inner:

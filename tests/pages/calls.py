@@ -85,7 +85,8 @@ def members(kind, text):
     if kind not in ("enum", "struct") or not opened:
         return ""
     body, _ = bracketed(re.sub(r"//[^\n]*|#\[[^\n]*\]\n", "", text[opened.end() - 1:].replace("{", "(").replace("}", ")")))
-    parts = [re.sub(r" \( (.*?),? \)$", r" { \1 }", re.sub(r"\s+", " ", it)) for it in parts_of(body[1:-1])]
+    plain = [re.sub(r" by \( .* \)$", "", re.sub(r"\s+", " ", it)) for it in parts_of(body[1:-1])]
+    parts = [re.sub(r" \( (.*?),? \)$", r" { \1 }", it) for it in plain]
     if kind == "struct":
         parts = [it.removeprefix("pub ") for it in parts if it.startswith("pub ")]
     return f" {{ {', '.join(it.partition(' = ')[0] for it in parts)} }}" if parts else ""

@@ -27,7 +27,8 @@ use Rattle.counted_slot.proofs.Parts.{parts_in}
 use base.FractionLaws.{Counts-all}
 use Rattle.lent_table.specs.Table.{Home, away, lent, writes, State, opening, Closes}
 use Rattle.lent_table.specs.Lending.{TableId, age, lends, writing, home_owns, Placed, seat_owns, standing, inner}
-use Rattle.lent_table.specs.Lending.{common, rights, table_owns, plot_owns}
+use Rattle.lent_table.specs.Lending.{common, rights, table_owns}
+use Rattle.lent_table.specs.inner.Lending.{plot_owns}
 
 lent_value : {T : Type 0} (m n : ℕ) (x y : T) → lent m x ≡ lent n y → x ≡ y
 lent_value m n x y e = cc

@@ -31,8 +31,10 @@ use Rattle.counted_slot.proofs.Parts.{none_beside, parts_in, parts_cut, parts_gl
 use Rattle.lent_table.specs.Table.{Fits, Home, away, lent, Hold, none, reads, writes, Act, stays, comes, goes, takes}
 use Rattle.lent_table.specs.Table.{gives}
 use Rattle.lent_table.specs.Table.{grows, shrinks, home_after, hold_after, Valid}
-use Rattle.lent_table.specs.Lending.{TableId, age, kept, shows, waits, round_of, lends, reading, resting, writing}
-use Rattle.lent_table.specs.Lending.{counted, home_owns, hold_owns, hold_steps, lit, hold_shares}
+use Rattle.lent_table.specs.Lending.{TableId, age, kept, shows, waits, round_of, lends, reading, writing}
+use Rattle.lent_table.specs.inner.Lending.{resting}
+use Rattle.lent_table.specs.Lending.{counted, home_owns, hold_owns, lit, hold_shares}
+use Rattle.lent_table.specs.inner.Lending.{hold_steps}
 
 module _ (R : RattleType) (L : RowLaws R) (z : TableId) where
   lit_laws : (x : R.Denot) (a : ℕ) → ShrLaws (lit R z x a)

@@ -24,7 +24,8 @@ use Rattle.atomic_table.specs.Seated.{fact, seen, roster}
 use Rattle.atomic_table.proofs.Roster.{Moved, moves, Joined, joins}
 use Rattle.lent_table.specs.Table.{Fits, State, Me, Hold, none, Act, stays, hold_after, stepped, Allows, Learns}
 use Rattle.lent_table.specs.Table.{Enters}
-use Rattle.lent_table.specs.Lending.{TableId, age, home_owns, hold_owns, hold_steps, seat_owns, Placed, standing}
+use Rattle.lent_table.specs.Lending.{TableId, age, home_owns, hold_owns, seat_owns, Placed, standing}
+use Rattle.lent_table.specs.inner.Lending.{hold_steps}
 use Rattle.lent_table.specs.Lending.{inner, common}
 use Rattle.lent_table.proofs.Rounds.{acts, fits, fits_step}
 

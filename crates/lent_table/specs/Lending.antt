@@ -12,11 +12,11 @@ use base.Fml.{Lft, Fml, ftrue, fsep, fex, fbor, flent, flft, finv, fobs}
 use types.SemTy.{Body}
 use denote.RattleType.{RattleType}
 use denote.Memory.{mem, lone, shared_of}
-use denote.RawPtr.{Ptr, block_ptr, block_of, count_of, InBlock, lies_at}
+use denote.RawPtr.{Ptr, block_ptr, block_of, count_of, InBlock}
 use denote.Sharing as sharing
 use Rattle.core.specs.Sync.RawAtomic.{word}
 use Rattle.atomic_table.specs.Seated.{fact, seen, roster}
-use Rattle.counted_slot.specs.Counting.{tag, share, parts}
+use Rattle.counted_slot.specs.Counting.{tag, parts}
 use Rattle.lent_table.specs.Table.{Home, away, lent, Hold, none, reads, writes, State, Me}
 
 -- which table it is: what no other table shares with it
@@ -82,10 +82,6 @@ module _ (R : RattleType) (z : TableId) where
   abbrev pub reading : R.Denot → ℕ → Fml
   reading x a = fsep (parts z.round_name a 1) (shows x (a ∷ age z))
 
-  -- the whole round
-  abbrev pub resting : R.Denot → ℕ → Fml
-  resting x a = fsep (share z.round_name a full_share) (round_of a x)
-
   -- no round: the borrow of the value, and the name of the last round
   abbrev pub writing : R.Denot → ℕ → Fml
   writing x a = fsep (tag z.round_name full_share a) (fsep (fobs z.value_name (R.coded.code x)) (fbor (age z) kept))
@@ -102,12 +98,6 @@ module _ (R : RattleType) (z : TableId) where
   hold_owns none = ftrue
   hold_owns (reads x) = fsep (fex ℕ (reading x)) (counted 1)
   hold_owns (writes x) = fex ℕ (writing x)
-
-  -- the same while a step goes on, where a writer has a round of its own
-  abbrev pub hold_steps : Hold R.Denot → Fml
-  hold_steps none = ftrue
-  hold_steps (reads x) = fsep (fex ℕ (reading x)) (counted 1)
-  hold_steps (writes x) = fex ℕ (resting x)
 
   -- what a `&` to a seat that reads shows
   abbrev pub lit : R.Denot → ℕ → Lft → Fml
@@ -154,9 +144,6 @@ abbrev pub table_shares : (R : RattleType) {V : Type 0} → (V → Gv) → (Stat
 table_shares R {V} c holds w p z κ = under (State R.Denot V → Type 0) holds
     (λ h. fsep (sharing.one (λ q. flft (age z) q) κ) (common R c h w p z))
 
--- a value in memory that a pointer owns, and the right to free that memory
-abbrev pub plot_owns : (R : RattleType) → Ptr → R.Denot → Fml
-plot_owns R p x = fsep (fact (InBlock p)) (lies_at R full_share p x)
-
+-- the right to free the memory of a value
 abbrev pub deed_owns : (Ty → Ptr → Fml) → RattleType → Ptr → Fml
 deed_owns frees R p = fsep (fact (InBlock p)) (frees (raw (lone R.mir)) p)

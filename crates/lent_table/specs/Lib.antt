@@ -1,3 +1,4 @@
 pub mod Table
 pub mod Lending
 pub mod Written
+pub mod inner

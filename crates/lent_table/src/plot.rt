@@ -1,6 +1,7 @@
 //! A box as the value that a pointer owns, and the right to have the box back.
 ghost use Rattle.std.specs.Prelude.{◌≡◌};
-ghost use Rattle.lent_table.specs.Lending.{plot_owns, deed_owns};
+ghost use Rattle.lent_table.specs.Lending.{deed_owns};
+ghost use Rattle.lent_table.specs.inner.Lending.{plot_owns};
 
 use std::alloc::Allocator;
 use std::marker::Model;

@@ -23,7 +23,8 @@ use prog.Atomic.{either}
 use denote.Param.Laws.{param_laws}
 use Rattle.core.proofs.atomic.Steps.{tail}
 use Rattle.lent_table.specs.Table.{Me, step, Allows}
-use Rattle.lent_table.specs.Lending.{TableId, age, hold_owns, hold_steps}
+use Rattle.lent_table.specs.Lending.{TableId, age, hold_owns}
+use Rattle.lent_table.specs.inner.Lending.{hold_steps}
 use Rattle.lent_table.specs.contracts.shared.Shared as table
 use Rattle.lent_table.specs.contracts.shared.Seat as seat
 use Rattle.lent_table.proofs.Fields.{TableData, table_told, table_opens, sees_table}

@@ -11,7 +11,8 @@ use Rattle.atomic_table.proofs.Walks.{proved, leaves}
 use Rattle.atomic_table.proofs.Fields.{hand_of, hand_good, Ptr-Good, token_val, strip_of, pair_of, strip_good}
 use Rattle.atomic_table.proofs.Fields.{dealt_good}
 use Rattle.lent_table.specs.Table.{writes, opening}
-use Rattle.lent_table.specs.Lending.{TableId, plot_owns, table_owns, seat_owns}
+use Rattle.lent_table.specs.Lending.{TableId, table_owns, seat_owns}
+use Rattle.lent_table.specs.inner.Lending.{plot_owns}
 use Rattle.lent_table.specs.contracts.plot.Plot as plot
 use Rattle.lent_table.specs.contracts.shared.Shared as table
 use Rattle.lent_table.specs.contracts.shared.Seat as seat

@@ -9,7 +9,8 @@ use Rattle.atomic_table.proofs.Names.{Stays, stay_dropped, walk_of, Goes-dropped
 use Rattle.atomic_table.proofs.Walks.{proved, leaves}
 use Rattle.atomic_table.proofs.Fields.{hand_of, hand_good, Ptr-Good, strip_of, pair_of, strip_good, strips_good}
 use Rattle.lent_table.specs.Table.{Closes}
-use Rattle.lent_table.specs.Lending.{TableId, plot_owns, table_owns}
+use Rattle.lent_table.specs.Lending.{TableId, table_owns}
+use Rattle.lent_table.specs.inner.Lending.{plot_owns}
 use Rattle.lent_table.specs.contracts.plot.Plot as plot
 use Rattle.lent_table.specs.contracts.shared.Shared as table
 use Rattle.lent_table.proofs.Fields.{PlotData, plot_made, table_told}
