@@ -1,7 +1,10 @@
+pub mod Signs
 pub mod Rounds
+pub mod Seeing
 pub mod Stepping
 pub mod Dealing
 pub mod Showing
 pub mod Apart
 pub mod Fields
+pub mod Holding
 pub mod Sending

@@ -2,29 +2,24 @@
 use Rattle.std.proofs.Common.{◌≡◌, ℕ, zero, suc, ◌+◌, ◌-◌, ◌^◌, ◌<◌, [], ◌∷◌, ◌++◌, refl, sym, arith}
 use seplogic.Ra.Ura.{Ura}
 use base.Fraction.{full_share}
-use base.FractionLaws.{Counts, Counts-all}
-use base.Logic.{via, SProp, ent, sep, ex, guard, guard_i, upd_i, id⊢}
+use base.FractionLaws.{Counts-all}
+use base.Logic.{via, SProp, ex, guard, guard_i, upd_i, id⊢}
 use base.Fml.{Lft, Share, Incl, Incl-trans, Fml, ftrue, fsep, fseps, fex, fwand, fupd, fdead, fbor, flft, fobs, fauth}
-use base.Fml.{fshr_bor}
 use contract.BorrowLft.{meet_⊑_left, meet_⊑_right, ⊑_meet}
 use ghost.Rules.{Toks, span}
-use types.Logic.{Logic, sem, lfts}
+use types.Logic.{Logic, lfts}
 use types.Kit.{given, learn, some, pick, drop, show, ‵, raw, ◌⊛◌, later, ◌$◌, ◌∵◌, !, qed, by, move, keep, use1, use2}
 use types.Kit.{use3}
 use types.Kit.{split, split3, join, group, fsplit, fsplit3, fjoin, fjoin3, fpick, fpack, assume, suffices}
 use types.Kit.{await, updating, now, rewrite, done}
-use types.Tokens.{lft_new, lft_end, lent_back, bor_open, obor_alter, bor_fracture, name_agree, shr_bor_shorten}
+use types.Tokens.{lft_new, lft_end, lent_back, bor_open, obor_alter, name_agree}
 use types.Owned.{basic}
 use denote.RattleType.{RattleType, RowLaws}
 use denote.Memory.{part_at}
-use denote.Moves.{moves}
 use denote.Shares.{Shares}
 use denote.Sharing.{ShrLaws}
-use denote.Sharing as sharing
-use denote.SharingLaws.{beside_shr_laws, some_shr_laws, one_shr_laws, contraction, shortens, nothing_shr_laws}
-use denote.SharingLaws.{within_shr_laws}
+use denote.SharingLaws.{contraction}
 use denote.Steps.{nothing}
-use denote.Struct.Lending.{Lends, Lends-nothing, Lends-first}
 use Rattle.core.proofs.cell.Borrows.{by_one}
 use Rattle.counted_slot.specs.Counting.{tag, share, parts}
 use Rattle.counted_slot.proofs.Parts.{none_beside, parts_in, parts_cut, parts_glue, parts_whole, parts_agree, renames}
@@ -33,39 +28,13 @@ use Rattle.lent_table.specs.Table.{gives}
 use Rattle.lent_table.specs.Table.{grows, shrinks, home_after, hold_after, Valid}
 use Rattle.lent_table.specs.Lending.{TableId, age, kept, shows, waits, round_of, lends, reading, writing}
 use Rattle.lent_table.specs.inner.Lending.{resting}
-use Rattle.lent_table.specs.Lending.{counted, home_owns, hold_owns, lit, hold_shares}
+use Rattle.lent_table.specs.Lending.{counted, home_owns, hold_owns}
 use Rattle.lent_table.specs.inner.Lending.{hold_steps}
-
-module _ (R : RattleType) (L : RowLaws R) (z : TableId) where
-  lit_laws : (x : R.Denot) (a : ℕ) → ShrLaws (lit R z x a)
-  lit_laws x a = beside_shr_laws (sharing.one (λ q. flft (a ∷ []) q)) (sharing.within (a ∷ age z) (shows R z x))
-      (one_shr_laws (λ q. flft (a ∷ []) q))
-      (within_shr_laws (a ∷ age z) (shows R z x) (L x z.block z.offset))
-
-  pub shares_laws : (o : Hold R.Denot) → ShrLaws (hold_shares R z o)
-  shares_laws none = nothing_shr_laws
-  shares_laws (reads x) = some_shr_laws ℕ (lit R z x) (lit_laws x)
-  shares_laws (writes x) = nothing_shr_laws
+use Rattle.lent_table.proofs.Signs.{signs}
 
 module _ {M : Type 1} {𝓤 : Ura M} (𝓛 : Logic 𝓤) (R : RattleType) (L : RowLaws R) (z : TableId) where
   open 𝓛 use {H, A}
-
-  abbrev Pr : Type 2
-  Pr = SProp 𝓤
-
-  infixr 35 ◌∗◌
-  infix 26 ◌⊢◌
-  -- what a formula means
-  abbrev ⟦◌⟧ : Fml → Pr
-  ⟦ P ⟧ = sem 𝓛 P
-
-  -- P beside Q
-  abbrev ◌∗◌ : Pr → Pr → Pr
-  P ∗ Q = sep 𝓤 P Q
-
-  -- P entails Q
-  abbrev ◌⊢◌ : Pr → Pr → Type 1
-  P ⊢ Q = ent 𝓤 P Q
+  open signs 𝓛 use {⟦◌⟧, ◌∗◌, ◌⊢◌}
 
   abbrev T : Type 0
   T = R.Denot
@@ -178,7 +147,7 @@ module _ {M : Type 1} {𝓤 : Ura M} (𝓛 : Logic 𝓤) (R : RattleType) (L : R
       use1 𝓛 (‵ (parts γ a (2 ^ 63 - 0))) (whole a) $ join ! $ by ! (comes_in (2 ^ 63 - 0) 0 x a refl (omega arith)))
 
   -- a writer has the whole name of the round
-  abbrev Named : Pr
+  abbrev Named : SProp 𝓤
   Named = ex 𝓤 (λ (a : ℕ). ⟦ tag γ full_share a ⟧)
 
   named : (y : T) → ⟦ hold_owns R z (writes y) ⟧ ⊢ Named
@@ -190,7 +159,7 @@ module _ {M : Type 1} {𝓤 : Ura M} (𝓛 : Logic 𝓤) (R : RattleType) (L : R
       show ! (λ (c : ℕ). ⟦ tag γ full_share c ⟧) a $ done !)
 
   -- nobody is counted beside a reader where the table has all parts
-  none_counted : (Z : Pr) → ⟦ left 0 ⟧ ∗ ⟦ one ⟧ ⊢ Z
+  none_counted : (Z : SProp 𝓤) → ⟦ left 0 ⟧ ∗ ⟦ one ⟧ ⊢ Z
   none_counted Z = qed 𝓛 (‵ (left 0) ∷ ‵ one ∷ []) ∵ use1 𝓛 (‵ (share z.count_name z.count_atom full_share))
       (parts_whole 𝓛 z.count_name z.count_atom) $
       fsplit ! $ keep ! (1 ∷ 2 ∷ []) $ by ! (none_beside 𝓛 z.count_name z.count_atom z.count_atom 1 Z)
@@ -255,7 +224,7 @@ module _ {M : Type 1} {𝓤 : Ura M} (𝓛 : Logic 𝓤) (R : RattleType) (L : R
       keep ! (1 ∷ 3 ∷ []) $ fjoin ! $ fpack ! T (λ y. fsep (At y) (Auth y)) x $ done !
 
   -- the borrow of the place is one of the value that the name says
-  told_value : (x : T) (κ : Lft) (q : Share) → (A.bor κ C ∗ ⟦ Obs x ⟧) ∗ A.lft κ q
+  pub told_value : (x : T) (κ : Lft) (q : Share) → (A.bor κ C ∗ ⟦ Obs x ⟧) ∗ A.lft κ q
       ⊢ H.⇛ ((A.bor κ (At x) ∗ ⟦ Obs x ⟧) ∗ A.lft κ q)
   unfolding fseps
   told_value x κ q = qed 𝓛 ((‵ (fbor κ C) ⊛ ‵ (Obs x)) ∷ ‵ (flft κ q) ∷ []) ∵ updating ! $ split ! $
@@ -307,50 +276,12 @@ module _ {M : Type 1} {𝓤 : Ura M} (𝓛 : Logic 𝓤) (R : RattleType) (L : R
         (via 𝓤 _ (renames 𝓛 γ c a) (basic 𝓛 ⟦ tag γ full_share a ⟧)) $ await ! tt $
         move ! (1 ∷ 0 ∷ []) $ fjoin ! $ fjoin ! $ fpack ! ℕ (resting R z x) a $ now ! $ done !))
 
-  module _ (x : T) (ν : Lft) where
-    abbrev P : Fml
-    P = fex ℕ (reading R z x)
-
-    again : (u : ℕ) (e : Share) → Counts 63 e 1 → ⟦ tag γ e u ⟧ ∗ ⟦ V x (u ∷ α) ⟧
-        ⊢ ⟦ fwand (fsep (fdead ν) (fseps (flft (u ∷ []) e ∷ []))) (fupd P) ⟧
-    unfolding fseps
-    again u e c = qed 𝓛 (‵ (tag γ e u) ∷ ‵ (V x (u ∷ α)) ∷ []) ∵
-        assume ! (‵ (fsep (fdead ν) (fsep (flft (u ∷ []) e) ftrue))) $
-        suffices ! ⟦ P ⟧ (upd_i 𝓤 ⟦ P ⟧) $ fsplit3 ! $ move ! (1 ∷ 3 ∷ []) $ fjoin ! $
-        use1 𝓛 (‵ (parts γ u 1)) (parts_in 𝓛 γ u 1 e c) $
-        move ! (0 ∷ 3 ∷ []) $ fjoin ! $ fpack ! ℕ (reading R z x) u $ keep ! (0 ∷ []) $ done !
-
-    -- a borrow of a reader's part shows the value, and that the round lasts
-    lights : (q : Share) → A.bor ν P ∗ A.lft ν q ⊢ H.⇛ (⟦ fex ℕ (λ a. lit R z x a ν) ⟧ ∗ A.lft ν q)
-    unfolding fseps
-    lights q = qed 𝓛 (‵ (fbor ν P) ∷ ‵ (flft ν q) ∷ []) ∵ updating ! $ bor_open ! tt $ move ! (1 ∷ []) $
-        fpick ! (λ u. fsplit ! $ fpick ! (λ e. fpick ! (λ c. fsplit ! $
-        move ! (2 ∷ []) $ use1 𝓛 (‵ (V x (u ∷ α)) ⊛ ‵ (V x (u ∷ α))) (contraction 𝓛 (V x) (V_laws x) (u ∷ α)) $
-        split ! $ move ! (3 ∷ 0 ∷ []) $
-        use2 𝓛 (‵ (fwand (fsep (fdead ν) (fseps (flft (u ∷ []) e ∷ []))) (fupd P))) (again u e c) $ nothing ! $
-        move ! (3 ∷ 0 ∷ []) $ fjoin ! $
-        move ! (3 ∷ 0 ∷ 1 ∷ []) $ obor_alter ! tt (flft (u ∷ []) e ∷ []) $
-        use1 𝓛 (‵ (fbor ν (flft (u ∷ []) e)) ⊛ ‵ ftrue) (id⊢ 𝓤 _) $ split ! $
-        bor_fracture ! tt (λ r. flft (u ∷ []) r) e $ move ! (3 ∷ []) $
-        use1 𝓛 (‵ (V x (ν ++ (u ∷ α)))) (shortens 𝓛 (V x) (V_laws x) (u ∷ α) (ν ++ (u ∷ α)) (meet_⊑_right ν (u ∷ α))) $
-        move ! (1 ∷ 0 ∷ []) $ fjoin ! $ fpack ! ℕ (λ a. lit R z x a ν) u $ now ! $ keep ! (0 ∷ 2 ∷ []) $ done !)))
-
-    -- where the age lasts too, the value is shown for as long as the seat
-    pub lit_shows : ⟦ fshr_bor ν (λ q. flft α q) ⟧ ∗ ⟦ fex ℕ (λ a. lit R z x a ν) ⟧ ⊢ ⟦ V x ν ⟧
-    lit_shows = qed 𝓛 (‵ (fshr_bor ν (λ q. flft α q)) ∷ ‵ (fex ℕ (λ a. lit R z x a ν)) ∷ []) ∵ move ! (1 ∷ []) $
-        fpick ! (λ u. fsplit ! $
-        let w : Lft = (u ∷ []) ++ ν in let c : Lft = α ++ w in
-        let in_round : Incl c (u ∷ α) = ⊑_meet c (u ∷ []) α
-        (Incl-trans (meet_⊑_right α w) (meet_⊑_left (u ∷ []) ν)) (meet_⊑_left α w) in
-        move ! (1 ∷ []) $ use1 𝓛 (‵ (V x c)) (shortens 𝓛 (V x) (V_laws x) (ν ++ (u ∷ α)) c
-        (⊑_meet c ν (u ∷ α) (Incl-trans (meet_⊑_right α w) (meet_⊑_right (u ∷ []) ν)) in_round)) $
-        move ! (2 ∷ []) $ shr_bor_shorten ! w (meet_⊑_right (u ∷ []) ν) $ move ! (0 ∷ 1 ∷ []) $
-        use2 𝓛 (‵ (V x w)) (moves 𝓛 (V x) (V_laws x) w α) $
-        move ! (1 ∷ 0 ∷ []) $ by ! (moves 𝓛 (V x) (V_laws x) ν (u ∷ [])))
-
-  pub Lends-hold : (l : Lft) (o : Hold T) → Lends 𝓛 (hold_owns R z o) (hold_shares R z o) l
-  Lends-hold l none = Lends-nothing 𝓛 ftrue l
-  Lends-hold l (reads x) = Lends-first 𝓛 (fex ℕ (reading R z x)) (counted R z 1) (hold_shares R z (reads x)) l
-      (λ κ ts inc sp. by_one 𝓛 κ ts sp (A.bor κ (fex ℕ (reading R z x))) ⟦ fex ℕ (λ a.
-      lit R z x a κ) ⟧ (lights x κ))
-  Lends-hold l (writes x) = Lends-nothing 𝓛 (fex ℕ (writing R z x)) l
+    -- a table's first round: the value is lent, and to nobody yet
+    pub first_round : (x : T) → (⟦ home away ⟧ ∗ ⟦ hold_owns R z (writes x) ⟧) ∗ A.lft μ s ∗ A.lft τ r
+        ⊢ H.⇛ (⟦ home (lent 0 x) ⟧ ∗ A.lft μ s ∗ A.lft τ r)
+    first_round x = qed 𝓛 ((‵ (home away) ⊛ ‵ (hold_owns R z (writes x))) ∷ ‵ (flft μ s) ∷ ‵ (flft τ r) ∷ []) ∵
+        updating ! $ split ! $ move ! (1 ∷ 2 ∷ 3 ∷ []) $
+        use3 𝓛 (later (‵ (hold (writes x)) ⊛ ‵ (flft μ s) ⊛ ‵ (flft τ r))) (readies (writes x)) $ await ! tt $
+        split3 ! $ move ! (3 ∷ 0 ∷ []) $
+        use2 𝓛 (‵ (home (lent 0 x)) ⊛ ‵ (hold none)) (acts away (writes x) (gives x) (refl, refl)) $ split ! $
+        now ! $ keep ! (0 ∷ 2 ∷ 3 ∷ []) $ done !

@@ -11,7 +11,7 @@ use types.Keyed.{entry_keyless}
 use Rattle.atomic_table.specs.Seated.{halved}
 use Rattle.atomic_table.proofs.Sent.{roster_keyless}
 use Rattle.lent_table.specs.Table.{Home, away, lent, Hold, none, reads, writes, State, Me}
-use Rattle.lent_table.specs.Lending.{TableId, age, kept, round_of, home_owns, hold_owns, hold_shares, seat_owns}
+use Rattle.lent_table.specs.Lending.{TableId, age, kept, round_of, home_owns, hold_owns, seat_owns}
 use Rattle.lent_table.specs.Lending.{inner, table_owns, table_shares}
 
 module _ (R : RattleType) (s : IsSend R) (y : IsSync R) (z : TableId) where

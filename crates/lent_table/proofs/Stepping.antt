@@ -8,9 +8,9 @@ use mir.Val.{vint, has_ty, WT}
 use base.Fraction.{full_share}
 use base.Share.{three_quarters}
 use base.Stored.{Coded}
-use base.Logic.{SProp, ent, sep, ex, all, guard, upd, all_e, upd_i}
+use base.Logic.{SProp, ex, all, guard, upd, all_e, upd_i}
 use base.Fml.{Lft, Share, Fml, ftrue, fsep, fex, fbor, finv, flft}
-use types.Logic.{Logic, sem}
+use types.Logic.{Logic}
 use types.Kit.{‵, raw, ◌⊛◌, some, given, ◌$◌, ◌∵◌, !, qed, move, keep, drop, split, join, fsplit, fsplit3, fjoin}
 use types.Kit.{fjoin3, fpick, fpack, pick, learn, show, check, frame, each, assume, suffices, settle, done, use1}
 use types.Kit.{use2, rewrite}
@@ -28,27 +28,12 @@ use Rattle.lent_table.specs.Lending.{TableId, age, home_owns, hold_owns, seat_ow
 use Rattle.lent_table.specs.inner.Lending.{hold_steps}
 use Rattle.lent_table.specs.Lending.{inner, common}
 use Rattle.lent_table.proofs.Rounds.{acts, fits, fits_step}
+use Rattle.lent_table.proofs.Signs.{signs}
 
 module _ {M : Type 1} {𝓤 : Ura M} (𝓛 : Logic 𝓤) (R : RattleType) {V : Type 0} (cv : Coded V)
     (holds : State R.Denot V → Type 0) (w p : Ptr) (z : TableId) where
   open 𝓛 use {H, A}
-
-  abbrev Pr : Type 2
-  Pr = SProp 𝓤
-
-  infixr 35 ◌∗◌
-  infix 26 ◌⊢◌
-  -- what a formula means
-  abbrev ⟦◌⟧ : Fml → Pr
-  ⟦ P ⟧ = sem 𝓛 P
-
-  -- P beside Q
-  abbrev ◌∗◌ : Pr → Pr → Pr
-  P ∗ Q = sep 𝓤 P Q
-
-  -- P entails Q
-  abbrev ◌⊢◌ : Pr → Pr → Type 1
-  P ⊢ Q = ent 𝓤 P Q
+  open signs 𝓛 use {⟦◌⟧, ◌∗◌, ◌⊢◌}
 
   abbrev S : Type 0
   S = State R.Denot V
@@ -76,7 +61,7 @@ module _ {M : Type 1} {𝓤 : Ura M} (𝓛 : Logic 𝓤) (R : RattleType) {V : T
   placed = qed 𝓛 (‵ C ∷ []) ∵ fsplit ! $ keep ! (0 ∷ []) $ done !
 
   -- what is known of a seat's view, and where it may go
-  abbrev Goes : List V → ℕ → V → Pr
+  abbrev Goes : List V → ℕ → V → SProp 𝓤
   Goes vs id v = guard 𝓤 (get_elem? vs id ≡ maybe.some v) (all 𝓤 (Moved 𝓛 cv z.views_name 0 vs id id))
 
   view_goes : (vs : List V) (id : ℕ) (v : V) → ⟦ views vs ⟧ ∗ ⟦ half id v ⟧ ⊢ Goes vs id v
@@ -92,21 +77,21 @@ module _ {M : Type 1} {𝓤 : Ura M} (𝓛 : Logic 𝓤) (R : RattleType) {V : T
     abbrev o : ℕ
     o = count_of w
 
-    abbrev Beside : S → Pr
+    abbrev Beside : S → SProp 𝓤
     Beside s = ⟦ home_owns R z s.home ⟧ ∗ ⟦ views s.views ⟧
 
-    abbrev Turns : (ℕ → ℕ) → (ℕ → Fml) → S → S → Pr
+    abbrev Turns : (ℕ → ℕ) → (ℕ → Fml) → S → S → SProp 𝓤
     Turns f after s t = guard 𝓤 ((t.word ≡ f s.word) × holds t) (Beside t ∗ ⟦ after s.word ⟧)
 
     -- the word becomes f of what it was, where all that stands beside it can follow
     at_step : (f : ℕ → ℕ) (after : ℕ → Fml) (K : Fml)
         → ((s : S) → holds s → s.word < 18446744073709551616 → Beside s ∗ ⟦ K ⟧ ⊢ upd 𝓤 (ex 𝓤 (Turns f after s)))
         → ⟦ C ⟧ ∗ A.lft α q ∗ ⟦ K ⟧ ⊢ asks 𝓛 (block_ptr b o) f always (λ n. fsep (flft α q) (after n))
-    at_step f after K law = let G : Pr = ex 𝓤 (Lies 𝓛 α q I b o f always after) in
+    at_step f after K law = let G : SProp 𝓤 = ex 𝓤 (Lies 𝓛 α q I b o f always after) in
         qed 𝓛 (‵ C ∷ ‵ (flft α q) ∷ ‵ K ∷ []) ∵ fsplit ! $ drop ! $
         types.Kit.by ! (borrowed 𝓛 α q I b o f always after ⟦ K ⟧ (qed 𝓛 (‵ I ∷ ‵ K ∷ []) ∵
         suffices ! _ (upd_i 𝓤 G) $ fpick ! (λ s. fsplit3 ! $ move ! (2 ∷ []) $ fpick ! (λ so. drop ! $
-        let n : ℕ = s.word in let Z : Pr = ⟦ I ⟧ ∗ ⟦ after n ⟧ in
+        let n : ℕ = s.word in let Z : SProp 𝓤 = ⟦ I ⟧ ∗ ⟦ after n ⟧ in
         use1 𝓛 (given (T (has_ty (ty_int w64) (vint w64 n)) × WT (vint w64 n)) (‵ (word b o n)))
         (𝓛.laws.at_wt full_share (ty_int w64) b o (vint w64 n)) $ learn ! (λ typed.
         show ! (Lies 𝓛 α q I b o f always after) n $ frame ! $
@@ -133,7 +118,7 @@ module _ {M : Type 1} {𝓤 : Ura M} (𝓛 : Logic 𝓤) (R : RattleType) {V : T
           → ⟦ C ⟧ ∗ A.lft α q ∗ ⟦ fsep (hold me.1) (half id me.0) ⟧ ⊢ asks 𝓛 (block_ptr b o) f always (λ n.
           fsep (flft α q) (after_exchange n))
       exchanges law = at_step f after_exchange (fsep (hold me.1) (half id me.0)) (λ s so small.
-          let n : ℕ = s.word in let Z : Pr = ex 𝓤 (Turns f after_exchange s) in
+          let n : ℕ = s.word in let Z : SProp 𝓤 = ex 𝓤 (Turns f after_exchange s) in
           qed 𝓛 ((‵ (home_owns R z s.home) ⊛ ‵ (views s.views)) ∷ (‵ (hold me.1) ⊛ ‵ (half id me.0)) ∷ []) ∵
           split ! $ move ! (2 ∷ []) $ split ! $ move ! (3 ∷ 1 ∷ []) $
           use2 𝓛 (given (get_elem? s.views id ≡ maybe.some me.0)
@@ -162,7 +147,7 @@ module _ {M : Type 1} {𝓤 : Ura M} (𝓛 : Logic 𝓤) (R : RattleType) {V : T
           → ⟦ C ⟧ ∗ A.lft α q ∗ ⟦ seat_owns R cv.code z id me ⟧ ⊢ asks 𝓛 (block_ptr b o) (λ n. n) always (λ n.
           fsep (flft α q) (after_load n))
       loads law = at_step (λ n. n) after_load (seat_owns R cv.code z id me) (λ s so small.
-          let n : ℕ = s.word in let Z : Pr = ex 𝓤 (Turns (λ n. n) after_load s) in
+          let n : ℕ = s.word in let Z : SProp 𝓤 = ex 𝓤 (Turns (λ n. n) after_load s) in
           let had : Fml = hold_owns R z me.1 in
           qed 𝓛 ((‵ (home_owns R z s.home) ⊛ ‵ (views s.views)) ∷ (‵ had ⊛ ‵ (half id me.0)) ∷ []) ∵
           split ! $ move ! (2 ∷ []) $ split ! $ move ! (3 ∷ 1 ∷ []) $
@@ -189,7 +174,7 @@ module _ {M : Type 1} {𝓤 : Ura M} (𝓛 : Logic 𝓤) (R : RattleType) {V : T
       pub enters : Enters holds then → ⟦ C ⟧ ∗ A.lft α q ∗ ⟦ ftrue ⟧ ⊢ asks 𝓛 (block_ptr b o) (λ n. n) always (λ n.
           fsep (flft α q) (after_enter n))
       enters law = at_step (λ n. n) after_enter ftrue (λ s so small. let n : ℕ = s.word in
-          let Z : Pr = ex 𝓤 (Turns (λ n. n) after_enter s) in
+          let Z : SProp 𝓤 = ex 𝓤 (Turns (λ n. n) after_enter s) in
           let r = law s so small in let u : V = r.0 in
           let t : S = record { word = n; home = s.home; views = s.views ++ u ∷ [] } in
           qed 𝓛 ((‵ (home_owns R z s.home) ⊛ ‵ (views s.views)) ∷ ‵ ftrue ∷ []) ∵ split ! $ move ! (1 ∷ []) $

@@ -2,7 +2,7 @@
 -- keeps. While the value is lent, it is shared for a round, a lifetime within the age. Of the round's token each
 -- reader has one part in 2 ^ 63, and the table the rest; the round's name is agreed upon in the same parts. Readers
 -- are counted by parts too. Whoever has the whole round ends it.
-use Rattle.std.specs.Prelude.{◌≡◌, ℕ, ◌-◌, ◌^◌, [], ◌∷◌}
+use Rattle.std.specs.Prelude.{◌≡◌, ℕ, ◌-◌, ◌^◌, [], ◌∷◌, ◌++◌, Bool, true, false}
 use mir.Syntax.{Ty}
 use mir.Raw.{raw}
 use base.Fraction.{full_share}
@@ -14,6 +14,7 @@ use denote.RattleType.{RattleType}
 use denote.Memory.{mem, lone, shared_of}
 use denote.RawPtr.{Ptr, block_ptr, block_of, count_of, InBlock}
 use denote.Sharing as sharing
+use denote.Hidden as hidden
 use Rattle.core.specs.Sync.RawAtomic.{word}
 use Rattle.atomic_table.specs.Seated.{fact, seen, roster}
 use Rattle.counted_slot.specs.Counting.{tag, parts}
@@ -103,10 +104,19 @@ module _ (R : RattleType) (z : TableId) where
   abbrev pub lit : R.Denot → ℕ → Lft → Fml
   lit x a = sharing.beside (sharing.one (λ q. flft (a ∷ []) q)) (sharing.within (a ∷ age z) (shows x))
 
+  -- what a writer has, borrowed for κ; or the value, shared for κ since a reference to it was asked for
+  abbrev pub stage : R.Denot → Lft → Bool → Fml
+  stage x κ false = fbor κ (fex ℕ (writing x))
+  stage x κ true = shows x (κ ++ age z)
+
+  -- what a `&` to a seat that writes shows. The thread's token opens it, since a `&` to a seat stays in its thread
+  abbrev pub staged : R.Denot → Lft → Lft → Fml
+  staged x κ = sharing.beside (sharing.ends κ) (hidden.kept (z.block, z.offset) (fex Bool (stage x κ)))
+
   abbrev pub hold_shares : Hold R.Denot → Lft → Fml
   hold_shares none = sharing.nothing
   hold_shares (reads x) = sharing.some ℕ (lit x)
-  hold_shares (writes x) = sharing.nothing
+  hold_shares (writes x) = sharing.some Lft (staged x)
 
 abbrev pub Placed : Ptr → Ptr → TableId → Type 0
 Placed w p z = InBlock w × (p ≡ place z)

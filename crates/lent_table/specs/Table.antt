@@ -23,6 +23,12 @@ pub data Hold (T : Type 0) : Type 0 where
   reads : T → Hold T
   writes : T → Hold T
 
+-- the value, where the seat may see it
+abbrev pub value_of : {T : Type 0} → Hold T → Option T
+value_of none = None
+value_of (reads x) = Some x
+value_of (writes x) = Some x
+
 -- a seat's view, and its hold
 abbrev pub Me : Type 0 → Type 0 → Type 0
 Me T V = V × Hold T
@@ -111,9 +117,9 @@ module _ {T V : Type 0} where
   Enters holds then = (s : State T V) → holds s → s.word < 2 ^ 64
       → (w : V) × holds record { word = s.word; home = s.home; views = s.views ++ w ∷ [] } × then s.word (w, none)
 
-  -- the table at first: its one seat has this view, and the value
-  abbrev pub opening : ℕ → V → State T V
-  opening n v = record { word = n; home = away; views = v ∷ [] }
+  -- the table at first: its one seat has this view, and the value is lent to nobody
+  abbrev pub opening : ℕ → V → T → State T V
+  opening n v x = record { word = n; home = lent 0 x; views = v ∷ [] }
 
   -- the table at last: the rule holds, and a value that was lent is what was lent
   abbrev pub Closes : (State T V → Type 0) → ℕ → T → Type 0

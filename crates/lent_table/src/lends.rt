@@ -1,10 +1,10 @@
 //! The value, for as long as a seat that has it is borrowed.
 // A file of its own: the clause of `value_mut` names the row of `Seat`, which the file that declares `Seat` can't import.
-ghost use Rattle.std.specs.Prelude.{◌≡◌};
+ghost use Rattle.std.specs.Prelude.{◌≡◌, Some, IsSome};
 ghost use types.Logic.{sem};
 ghost use denote.Follow.{follows};
 ghost use Rattle.lent_table.specs.contracts.shared.Seat.{the_row};
-ghost use Rattle.lent_table.specs.Table.{reads, writes};
+ghost use Rattle.lent_table.specs.Table.{writes, value_of};
 ghost use Rattle.lent_table.specs.Written.{seat_with};
 
 use crate::shared::{Seat, Shared, TableRule};
@@ -22,10 +22,10 @@ impl<T, V> Seat<T, V> {
         unsafe { &mut *table.value }
     }
 
-    /// The value, to read.
+    /// The value, to read. A seat that may write it sees what it wrote last.
     pub fn value_ref<'a, K, P: TableRule<T, V, K>>(&'a self, table: &'a Shared<T, V, K, P>) -> &'a T
-        requires { (self.now.table_id ≡ table.now.table_id) × ((x : T) × (self.now.me.1 ≡ reads x)) }
-        ensures { self.now.me.1 ≡ reads result.now }
+        requires { (self.now.table_id ≡ table.now.table_id) × IsSome (value_of self.now.me.1) }
+        ensures { value_of self.now.me.1 ≡ Some result.now }
     {
         unsafe { &*table.value }
     }

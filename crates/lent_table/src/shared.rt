@@ -35,7 +35,8 @@ impl<T, V, K, P: TableRule<T, V, K>> Model for Shared<T, V, K, P> {
     ghost also_shares = { λ t _ κ. table_shares T.row V.row.coded.code (P.holds t.key) t.word t.value t.table_id κ };
 }
 
-/// What a thread knows of a table, and what it has of the value. It has no bytes.
+/// What a thread knows of a table, and what it has of the value. It has no bytes. It can't be
+/// dropped: it gives back what it has, and leaves.
 pub struct Seat<T, V> {
     pub(crate) marker: PhantomData<(T, V)>,
     pub ghost table_id: { TableId } by { table_id_coded },
@@ -55,9 +56,9 @@ impl<T, V, K, P: TableRule<T, V, K>> Shared<T, V, K, P> {
         word: Plot<u64>,
         value: Plot<T>,
     ) -> (Shared<T, V, K, P>, Seat<T, V>)
-        requires { P.holds about.now (opening word.value (P.first about.now)) }
+        requires { P.holds about.now (opening word.value (P.first about.now) value.value) }
         ensures places { (result.0.word ≡ word.at) × (result.0.value ≡ value.at) × (result.0.key ≡ about.now) }
-        ensures seat { (result.1.table_id ≡ result.0.table_id) × (result.1.me ≡ (P.first about.now, writes value.value)) }
+        ensures seat { (result.1.table_id ≡ result.0.table_id) × (result.1.me ≡ (P.first about.now, none)) }
     {
         let Plot { at: word } = word;
         let Plot { at: value } = value;
@@ -90,11 +91,12 @@ impl<T, V> Seat<T, V> {
         ensures same { (self.new ≡ self.old) × (other.new ≡ other.old) }
         ensures alone { other.old.table_id ≡ self.old.table_id → (x : T) → self.old.me.1 ≡ writes x → other.old.me.1 ≡ none }
     {}
-}
 
-impl<T, V> Drop for Seat<T, V> {
-    fn drop(self) {
-        let Self { marker: _ } = self;
+    /// Gives up a seat that has nothing of the value.
+    pub fn leave(self)
+        requires { self.me.1 ≡ none }
+    {
+        let Seat { marker: _ } = self;
     }
 }
 

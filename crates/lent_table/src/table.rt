@@ -1,6 +1,6 @@
 //! The table with its memory.
 ghost use Rattle.std.specs.Prelude.{◌≡◌, IfOk, IfErr};
-ghost use Rattle.lent_table.specs.Table.{writes, opening, Closes};
+ghost use Rattle.lent_table.specs.Table.{none, opening, Closes};
 
 use crate::plot::{Deed, rebox, unbox};
 use crate::shared::{Seat, Shared, TableRule};
@@ -17,11 +17,11 @@ pub struct Table<T, V, K, P: TableRule<T, V, K>, A: Allocator> {
 }
 
 impl<T: Drop, V, K, P: TableRule<T, V, K>, A: Allocator + Copy> Table<T, V, K, P, A> {
-    /// A table, and its first seat, which may write the value. The value comes back where memory is
-    /// wanting.
+    /// A table that lends its value to nobody yet, and its first seat. The value comes back where
+    /// memory is wanting.
     pub fn new(alloc: A, word: u64, value: T, about: &K) -> Result<(Self, Seat<T, V>), T>
-        requires { P.holds about.now (opening word (P.first about.now)) }
-        ensures ok { IfOk result (λ t. (t.0.shared.key ≡ about.now) × (t.1.table_id ≡ t.0.shared.table_id) × (t.1.me ≡ (P.first about.now, writes value))) }
+        requires { P.holds about.now (opening word (P.first about.now) value) }
+        ensures ok { IfOk result (λ t. (t.0.shared.key ≡ about.now) × (t.1.table_id ≡ t.0.shared.table_id) × (t.1.me ≡ (P.first about.now, none))) }
         ensures err { IfErr result (λ x. x ≡ value) }
     {
         let Ok(word) = Box::new(alloc, word) else {
@@ -36,8 +36,8 @@ impl<T: Drop, V, K, P: TableRule<T, V, K>, A: Allocator + Copy> Table<T, V, K, P
 
 impl<T: Drop, V, K, P: TableRule<T, V, K>, A: Allocator> Table<T, V, K, P, A> {
     fn of(word: Box<u64, A>, value: Box<T, A>, about: &K) -> (Self, Seat<T, V>)
-        requires { P.holds about.now (opening word.value (P.first about.now)) }
-        ensures { (result.0.shared.key ≡ about.now) × (result.1.table_id ≡ result.0.shared.table_id) × (result.1.me ≡ (P.first about.now, writes value.value)) }
+        requires { P.holds about.now (opening word.value (P.first about.now) value.value) }
+        ensures { (result.0.shared.key ≡ about.now) × (result.1.table_id ≡ result.0.shared.table_id) × (result.1.me ≡ (P.first about.now, none)) }
     {
         let (word, word_deed) = unbox(word);
         let (value, value_deed) = unbox(value);

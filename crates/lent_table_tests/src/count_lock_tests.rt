@@ -1,39 +1,38 @@
 //! Threads and one of them alone, on a number that a word counts the readers of.
 ghost use Rattle.std.specs.Prelude.{◌≡◌, IfOk, IsTrue, Some};
 ghost use Rattle.lent_table.specs.Table.{none, writes};
+ghost use Rattle.lent_table_tests.specs.Count.{Writes};
 
 use crate::count_lock::{
     Looking, Number, Seated, Shown, give_back, try_leave, try_read, try_write,
 };
 use lent_table::Table;
 use std::alloc::Global;
+use std::process::Abort;
 use std::test::Fail;
 use std::thread::join;
 
-/// A number, and its first seat, which may write it.
+/// A number, and its first seat.
 fn made(alloc: Global, value: u64) -> Result<(Number, Seated), Fail>
-    ensures { IfOk result (λ r. (r.1.table_id ≡ r.0.shared.table_id) × (r.1.me.1 ≡ writes value)) }
+    ensures { IfOk result (λ r. (r.1.table_id ≡ r.0.shared.table_id) × (r.1.me.1 ≡ none)) }
 {
-    match Table::new(alloc, 0, value, &()) {
+    match Table::new(alloc, 1, value, &()) {
         Ok((number, seat)) => Ok((number, seat)),
         Err(_) => Err(Fail::from("no memory for the number")),
     }
 }
 
-/// The number as this seat reads it, if it may read, and leaves.
-fn read_once(number: &Shown, seat: &mut Seated) -> Option<u64>
+/// The number as this seat reads it, if it may read. The test ends where it can't leave then.
+fn read_once(rt: &impl Abort, number: &Shown, seat: &mut Seated) -> Option<u64>
     requires { (seat.old.table_id ≡ number.now.table_id) × (seat.old.me.1 ≡ none) }
-    ensures { seat.new.table_id ≡ number.now.table_id }
+    ensures { (seat.new.table_id ≡ number.now.table_id) × (seat.new.me.1 ≡ none) }
 {
     if !try_read(number, seat) {
         return None;
     }
     let value = *seat.value_ref(number);
-    if try_leave(number, seat) {
-        Some(value)
-    } else {
-        None
-    }
+    assert!(rt; try_leave(number, seat));
+    Some(value)
 }
 
 /// Whether this seat wrote the number anew, and gave it back.
@@ -50,13 +49,45 @@ fn add_one(number: &Shown, seat: &mut Seated) -> bool
     true
 }
 
+/// The number as its writer sees it by a `&`, once it is written.
+fn write_and_see(number: &Shown, seat: &mut Seated, value: u64) -> u64
+    requires { (seat.old.table_id ≡ number.now.table_id) × Writes seat.old.me.1 }
+    ensures seat { (seat.new.table_id ≡ number.now.table_id) × (seat.new.me.1 ≡ writes value) }
+    ensures value { result ≡ value }
+{
+    *seat.value_mut(number) = value;
+    let seat: &Seated = seat;
+    *seat.value_ref(number)
+}
+
 #[test]
 fn what_is_written_is_read_and_comes_back(rt: HostRuntime) -> Result<(), Fail> {
     let (number, mut seat) = made(rt.alloc(), 7)?;
+    assert!(rt; try_write(&number.shared, &mut seat));
     *seat.value_mut(&number.shared) = 8;
     give_back(&number.shared, &mut seat);
     assert!(rt; add_one(&number.shared, &mut seat));
-    assert!(rt; read_once(&number.shared, &mut seat) == Some(9));
+    assert!(rt; read_once(&rt, &number.shared, &mut seat) == Some(9));
+    seat.leave();
+    assert!(rt; number.close() == (1, 9));
+    Ok(())
+}
+
+#[test]
+fn a_writer_sees_what_it_wrote(rt: HostRuntime) -> Result<(), Fail> {
+    let (number, mut seat) = made(rt.alloc(), 7)?;
+    assert!(rt; try_write(&number.shared, &mut seat));
+    assert!(rt; *seat.value_ref(&number.shared) == 7);
+    assert!(rt; write_and_see(&number.shared, &mut seat, 8) == 8);
+    let (first, second) = (
+        seat.value_ref(&number.shared),
+        seat.value_ref(&number.shared),
+    );
+    assert!(rt; *first == 8 && *second == 8);
+    *seat.value_mut(&number.shared) = 9;
+    assert!(rt; *seat.value_ref(&number.shared) == 9);
+    give_back(&number.shared, &mut seat);
+    seat.leave();
     assert!(rt; number.close() == (1, 9));
     Ok(())
 }
@@ -64,50 +95,49 @@ fn what_is_written_is_read_and_comes_back(rt: HostRuntime) -> Result<(), Fail> {
 #[test]
 fn readers_read_beside_each_other_and_keep_writers_out(rt: HostRuntime) -> Result<(), Fail> {
     let (number, mut first) = made(rt.alloc(), 7)?;
+    assert!(rt; try_write(&number.shared, &mut first));
     let (word, mut second) = number.shared.enter::<Looking>();
     assert!(rt; word == 0);
     assert!(rt; !try_read(&number.shared, &mut second));
     give_back(&number.shared, &mut first);
-    if !try_read(&number.shared, &mut first) {
-        return Err(Fail::from("the first reader"));
-    }
+    assert!(rt; try_read(&number.shared, &mut first));
     let (word, mut third) = number.shared.enter::<Looking>();
     assert!(rt; word == 2);
-    assert!(rt; read_once(&number.shared, &mut third) == Some(7));
+    assert!(rt; read_once(&rt, &number.shared, &mut third) == Some(7));
     assert!(rt; *first.value_ref(&number.shared) == 7);
     let (_, mut fourth) = number.shared.enter::<Looking>();
     assert!(rt; !add_one(&number.shared, &mut fourth));
-    if !try_leave(&number.shared, &mut first) {
-        return Err(Fail::from("the first reader leaves"));
-    }
+    assert!(rt; try_leave(&number.shared, &mut first));
     assert!(rt; add_one(&number.shared, &mut fourth));
-    drop(fourth);
+    first.leave();
+    second.leave();
+    third.leave();
+    fourth.leave();
     assert!(rt; number.close() == (1, 8));
     Ok(())
 }
 
-/// How often this seat wrote the number anew, of so many times that it tried.
-fn add_some(number: &Shown, mut seat: Seated, times: u64) -> u64
-    requires { (seat.table_id ≡ number.now.table_id) × (seat.me.1 ≡ none) }
-{
+/// How often a seat of this thread's wrote the number anew, of so many times that it tried.
+fn add_some(number: &Shown, times: u64) -> u64 {
+    let (_, mut seat) = number.enter::<Looking>();
     let mut added = 0u64;
     for _ in 0..times {
         if add_one(number, &mut seat) {
             added = added.wrapping_add(1);
         }
     }
+    seat.leave();
     added
 }
 
 #[test]
 fn threads_lose_no_write(rt: HostRuntime) -> Result<(), Fail> {
-    let (number, mut first) = made(rt.alloc(), 0)?;
-    give_back(&number.shared, &mut first);
-    let (_, second) = number.shared.enter::<Looking>();
+    let (number, seat) = made(rt.alloc(), 0)?;
+    seat.leave();
     let (left, right) = join(
         &rt,
-        || add_some(&number.shared, first, 2_000),
-        || add_some(&number.shared, second, 2_000),
+        || add_some(&number.shared, 2_000),
+        || add_some(&number.shared, 2_000),
     );
     assert!(rt; number.close() == (1, left.wrapping_add(right)));
     Ok(())

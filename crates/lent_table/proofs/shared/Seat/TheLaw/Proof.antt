@@ -1,4 +1,4 @@
--- The law of a `&` to a `Seat`: it shows the value that the seat reads.
+-- The law of a `&` to a `Seat`: it shows the value that the seat may see.
 use Rattle.std.proofs.Common.{[], ◌∷◌}
 use base.Share.{three_quarters}
 use denote.RattleType.{RattleType}
@@ -12,7 +12,7 @@ use Rattle.atomic_table.specs.Seated.{seen}
 use Rattle.lent_table.specs.Lending.{hold_owns, hold_shares}
 use Rattle.lent_table.specs.contracts.shared.Seat as seat
 use Rattle.lent_table.proofs.shared.Seat.TheLaw.Statement.{statement}
-use Rattle.lent_table.proofs.Rounds.{shares_laws, Lends-hold}
+use Rattle.lent_table.proofs.Seeing.{shares_laws, Lends-hold}
 
 pub shares : (T V : RattleType) (L : Laws T) (LV : Laws V) → statement T V L LV
 shares T V L LV =

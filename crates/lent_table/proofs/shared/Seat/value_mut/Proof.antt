@@ -1,18 +1,17 @@
 -- `value_mut` lends the value for as long as the seat and the table are borrowed, and the seat follows what is
 -- written.
-use Rattle.atomic_table.proofs.Names.{◌≡◌, ℕ, List, [], ◌∷◌, refl, sym, ap, ◌∙◌, a_type, dcons, dnil, named, Val}
-use Rattle.atomic_table.proofs.Names.{vptr, inst_fn, SProp, ent, sep, emp, Lft, Share, Fml, ftrue, fsep, flft, fbor}
-use Rattle.atomic_table.proofs.Names.{fobs, sem, ‵, raw, ◌⊛◌, some, given, later, at_ret, ◌$◌, ◌∵◌, !, qed, by, move}
-use Rattle.atomic_table.proofs.Names.{keep, drop, split, split3, join, group, fsplit, fsplit3, fjoin, fjoin3, fpick}
-use Rattle.atomic_table.proofs.Names.{fpack, pick, learn, await, done, use0, use1, rewrite, feq_i, of_opd, get, stop}
-use Rattle.atomic_table.proofs.Names.{fld, addr, first, blocks, exec, returns, enter, alloc_all, pass_all, free_all}
+use Rattle.atomic_table.proofs.Names.{◌≡◌, ℕ, List, [], ◌∷◌, refl, sym, ap, a_type, dcons, dnil, named, Val, vptr}
+use Rattle.atomic_table.proofs.Names.{inst_fn, SProp, ent, sep, emp, Lft, Share, Fml, ftrue, fsep, flft, fbor, fobs}
+use Rattle.atomic_table.proofs.Names.{sem, ‵, raw, ◌⊛◌, some, given, later, at_ret, ◌$◌, ◌∵◌, !, qed, by, move, keep}
+use Rattle.atomic_table.proofs.Names.{drop, split, split3, join, group, fsplit, fsplit3, fjoin, fjoin3, fpick, fpack}
+use Rattle.atomic_table.proofs.Names.{pick, learn, await, done, use0, use1, rewrite, feq_i, of_opd, get, stop, fld}
+use Rattle.atomic_table.proofs.Names.{addr, first, blocks, exec, returns, enter, alloc_all, pass_all, free_all}
 use Rattle.atomic_table.proofs.Names.{look_at, through, sets, sets_last, env, sub, whole, look_in, tables, yes, no}
-use Rattle.atomic_table.proofs.Names.{RattleType, owns, types_at, plain, Ptr, nothing, param, bounded, Stays}
-use Rattle.atomic_table.proofs.Names.{stay_dropped, walk_of, Goes-dropped, Goes-spent_ref, fact, fact_i, Is, shows}
-use Rattle.atomic_table.proofs.Names.{cell_at, peeks, looks, shuts, RefOf, RefMutOf, mut_vals, mut_Tells, shr_vals}
-use Rattle.atomic_table.proofs.Names.{shr_Tells, part_at, part_out, part_in, full_share, mem, follows}
+use Rattle.atomic_table.proofs.Names.{RattleType, owns, types_at, plain, nothing, param, bounded, Stays, stay_dropped}
+use Rattle.atomic_table.proofs.Names.{walk_of, Goes-dropped, Goes-spent_ref, fact, fact_i, RefOf, RefMutOf, mut_vals}
+use Rattle.atomic_table.proofs.Names.{mut_Tells, shr_vals, shr_Tells, part_at, part_out, part_in, full_share, mem}
+use Rattle.atomic_table.proofs.Names.{follows}
 use Rattle.atomic_table.proofs.Walks.{proved, leaves}
-use Rattle.atomic_table.proofs.Fields.{hand_of}
 use Rattle.atomic_table.proofs.Through.{hands_out}
 use Rattle.atomic_table.specs.Seated.{seen}
 use Rattle.counted_slot.specs.Counting.{tag}
@@ -22,11 +21,11 @@ use types.SemTy.{Body}
 use types.Run.{hop}
 use Rattle.core.proofs.atomic.Steps.{tail}
 use Rattle.lent_table.specs.Table.{Hold, writes}
-use Rattle.lent_table.specs.Lending.{TableId, age, place, kept, writing, hold_owns, seat_owns}
+use Rattle.lent_table.specs.Lending.{TableId, age, kept, writing, hold_owns, seat_owns}
 use Rattle.lent_table.specs.Written.{seat_with}
 use Rattle.lent_table.specs.contracts.shared.Shared as table
 use Rattle.lent_table.specs.contracts.shared.Seat as seat
-use Rattle.lent_table.proofs.Fields.{TableData, SeatData, table_told, table_opens, sees_table}
+use Rattle.lent_table.proofs.Fields.{SeatData, reads_table, shuts_table}
 use Rattle.lent_table.specs.contracts.shared.Seat.value_mut.{ended, clauses}
 use Rattle.lent_table.specs.contracts.shared.Seat.value_mut.Key.{name as #self}
 use Rattle.lent_table.proofs.shared.Seat.value_mut.Statement.{statement}
@@ -44,7 +43,6 @@ value_mut_spec 𝓤 𝓛 𝓜 𝓡 wired T U Q P _ _ _ _ g d _ =
     let inst = bounded (a_type ∷ a_type ∷ a_type ∷ a_type ∷ []) (T, (U, (Q, (P, tt)))) (dcons d dnil) in
     let fn = inst_fn inst code.function in
     let Row : RattleType = table.the_row R W X Y g in let Sr : RattleType = seat.the_row R W in
-    let D : RattleType = TableData R W X Y g in
     let self = RefMutOf (0 ∷ []) tt (plain (λ _. Sr)) (λ _. tt) in
     let about = RefOf (0 ∷ []) tt (plain (λ _. Row)) (λ _. tt) in
     let hs : Stays En.signature.params En.kept = (stay_dropped self no, (stay_dropped about yes, tt)) in
@@ -95,26 +93,19 @@ value_mut_spec 𝓤 𝓛 𝓜 𝓡 wired T U Q P _ _ _ _ g d _ =
     keep ! (1 ∷ 6 ∷ 3 ∷ 4 ∷ 7 ∷ []) $
     enter ! 𝓣.C 𝓣.Λ fn (vptr b o ∷ vptr b' o' ∷ []) Post $
     alloc_all ! (λ l. pass_all ! refl ((tt, tt), ((tt, tt), tt)) $ let Ev = env fn.locals l in
-    sees_table R W X Y g ! t κ b' o' (λ placed. move ! (2 ∷ []) $ drop ! $
-    -- [the table's fields; that the age lasts; the token of κ; the seat's name and borrow; the other tokens]
-    move ! (0 ∷ 2 ∷ []) $ looks ! tt D (table_opens R W X Y g 𝓛) (t.word, (t.value, (tt, tt))) b' o' (λ q' vs.
-    move ! (1 ∷ []) $
-    peeks ! D (Is D) (shows 𝓛 D) (t.word, (t.value, (tt, tt))) vs (λ is_so.
-    let ev : vs ≡ hand_of t.word (place z) ∷ [] = table_told R W X Y g t.word t.value vs is_so ∙ ap
-    (λ (r : Ptr). hand_of t.word r ∷ []) placed.1 in
-    rewrite ! 1 (λ (ws : List Val). ‵ (cell_at q' D.mir ws b' o')) ev refl $ first ! $ blocks ! $
-    sets_last ! (addr ! (through ! refl (fld ! refl (hop ! (look_in ! 1 (sub ! 1 refl (whole !))) (stop !))))) refl
+    -- [the table's fields; what shuts them; the fields, shut; that the age lasts; the invariant; the seat's name and
+    -- borrow; the other tokens]
+    reads_table R W X Y g ! tt t b' o' (λ q'. first ! $ blocks ! $
+    sets_last ! (addr ! (through ! refl (fld ! refl (hop ! (look_in ! 0 (sub ! 1 refl (whole !))) (stop !))))) refl
     (tt, tt) $
     exec ! 𝓣.C 𝓣.Λ Ev (tail fn.body) (at_ret Ev Post) $ sets ! (of_opd ! (get ! refl)) refl (tt, tt) $
-    rewrite ! 1 (λ (ws : List Val). ‵ (cell_at q' D.mir ws b' o')) (sym ev) refl $ move ! (1 ∷ 0 ∷ 2 ∷ []) $
-    shuts ! tt D q' (t.word, (t.value, (tt, tt))) vs b' o' $
-    move ! (2 ∷ 3 ∷ 4 ∷ 0 ∷ []) $ group ! 4 $
+    shuts_table R W X Y g ! tt t b' o' q' $ move ! (2 ∷ 4 ∷ 5 ∷ 0 ∷ []) $ group ! 4 $
     use1 𝓛 (later (some (λ (δ : ℕ). ‵ (fobs δ (R.coded.code old)) ⊛ ‵ (fbor κ (Body (mem R) z.block z.offset δ))
     ⊛ ‵ (flft κ q) ⊛ ‵ (follows Sr R γ δ F))))
     (hands_out 𝓛 (mem Sr) (mem R) F (λ x u same. written_same x u (ap (λ (r : Sr.Denot). r.me.1) same))
     b o z.block z.offset γ (age z) z.value_name κ Rest back q s old cut) $
     await ! tt $ pick ! (λ δ. split3 ! $ feq_i ! (List Val) (at ∷ []) (at ∷ []) refl $ fjoin3 ! $ move ! (1 ∷ []) $
-    split ! $ move ! (0 ∷ 4 ∷ []) $ join ! $
+    split ! $ move ! (0 ∷ 5 ∷ []) $ join ! $
     let Told : Type 0 = s.me.1 ≡ writes old in use0 𝓛 (raw (fact 𝓤 Told)) (fact_i 𝓤 Told (emp 𝓤) asked.1.1) $
     move ! (2 ∷ 0 ∷ []) $ join ! $
     nothing ! $ nothing ! $ fjoin ! $ nothing ! $ fjoin ! $ returns ! (look_at ! 0 refl) $ free_all ! refl $
@@ -124,4 +115,4 @@ value_mut_spec 𝓤 𝓛 𝓜 𝓡 wired T U Q P _ _ _ _ g d _ =
       ghost_name = δ;
       now =
           old;
-    }) (tt, (tt, tt)) (tt, (tt, tt))))))))))
+    }) (tt, (tt, tt)) (tt, (tt, tt))))))))

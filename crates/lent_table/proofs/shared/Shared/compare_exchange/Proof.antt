@@ -1,20 +1,18 @@
 -- `compare_exchange` is a step on the word by which the seat may take the value, or give it back. A writer has a
 -- round while it goes on.
-use Rattle.atomic_table.proofs.Names.{◌≡◌, ℕ, ◌^◌, ◌<◌, List, [], ◌∷◌, sym, refl, ap, w64, a_type, dcons, dnil, named}
-use Rattle.atomic_table.proofs.Names.{Val, vint, vptr, inst_fn, SProp, emp, Lft, Share, Fml, ftrue, fsep, flft}
-use Rattle.atomic_table.proofs.Names.{‵, raw, ◌⊛◌, given, later, mean, at_ret, ◌$◌, ◌∵◌, !, qed, by, move, keep, drop}
-use Rattle.atomic_table.proofs.Names.{split, split3, join, fsplit, fsplit3, fjoin, fjoin3, fpick, learn, await, use0}
-use Rattle.atomic_table.proofs.Names.{use1, use3, rewrite, feq_i, flt_i, stop, fld, load, of_opd, no_more, and_then}
-use Rattle.atomic_table.proofs.Names.{first, blocks, exec, Calls-last, returns, enter, alloc_all, pass_all, free_all}
-use Rattle.atomic_table.proofs.Names.{look_at, get, through, sets, lands_last, is, env, sub, whole, look_in, tables}
-use Rattle.atomic_table.proofs.Names.{yes, RattleType, owns, types_at, plain, Ptr, block_ptr, ptr_val, nothing, heard}
-use Rattle.atomic_table.proofs.Names.{param, bounded, Stays, stay_dropped, walk_of, Goes-dropped, fact, fact_i, Is}
-use Rattle.atomic_table.proofs.Names.{shows, cell_at, peeks, block_of, count_of, at_block, via, RefOf, u64, mut_vals}
-use Rattle.atomic_table.proofs.Names.{mut_Tells, shr_vals, shr_Tells, uint_vals, uint_Tells, opens, closes, stay_ref}
-use Rattle.atomic_table.proofs.Names.{Goes-ref, looks, shuts, shr_bor-open, obor_close, tokens_halve, ◌⊑◌}
+use Rattle.atomic_table.proofs.Names.{◌≡◌, ℕ, ◌^◌, ◌<◌, List, [], ◌∷◌, sym, refl, w64, a_type, dcons, dnil, named, Val}
+use Rattle.atomic_table.proofs.Names.{vint, vptr, inst_fn, SProp, emp, Lft, Share, Fml, ftrue, fsep, flft, ‵, raw, ◌⊛◌}
+use Rattle.atomic_table.proofs.Names.{given, later, mean, at_ret, ◌$◌, ◌∵◌, !, qed, by, move, keep, drop, split}
+use Rattle.atomic_table.proofs.Names.{split3, join, fsplit, fsplit3, fjoin, fjoin3, fpick, learn, await, use0, use1}
+use Rattle.atomic_table.proofs.Names.{use3, rewrite, feq_i, flt_i, stop, fld, load, of_opd, no_more, and_then, first}
+use Rattle.atomic_table.proofs.Names.{blocks, exec, Calls-last, returns, enter, alloc_all, pass_all, free_all, look_at}
+use Rattle.atomic_table.proofs.Names.{get, through, sets, lands_last, env, sub, whole, look_in, tables, yes}
+use Rattle.atomic_table.proofs.Names.{RattleType, owns, types_at, plain, Ptr, block_ptr, nothing, heard, param}
+use Rattle.atomic_table.proofs.Names.{bounded, Stays, stay_dropped, walk_of, Goes-dropped, fact, fact_i, block_of}
+use Rattle.atomic_table.proofs.Names.{count_of, via, RefOf, u64, mut_vals, mut_Tells, shr_vals, shr_Tells, uint_vals}
+use Rattle.atomic_table.proofs.Names.{uint_Tells, opens, closes, stay_ref, Goes-ref, obor_close, ◌⊑◌}
 use Rattle.atomic_table.proofs.Walks.{proved, leaves}
 use Rattle.atomic_table.proofs.Calls.{fm, found, finds, exchanges as raw_exchange}
-use Rattle.atomic_table.proofs.Fields.{hand_of}
 use Rattle.atomic_table.specs.Seated.{seen}
 use base.Fml.{Incl-refl}
 use base.Share.{three_quarters}
@@ -27,7 +25,7 @@ use Rattle.lent_table.specs.Lending.{TableId, age, hold_owns}
 use Rattle.lent_table.specs.inner.Lending.{hold_steps}
 use Rattle.lent_table.specs.contracts.shared.Shared as table
 use Rattle.lent_table.specs.contracts.shared.Seat as seat
-use Rattle.lent_table.proofs.Fields.{TableData, table_told, table_opens, sees_table}
+use Rattle.lent_table.proofs.Fields.{reads_table, has_age}
 use Rattle.lent_table.proofs.Rounds.{readies, settles}
 use Rattle.lent_table.proofs.Stepping.{after_exchange, exchanges}
 use Rattle.lent_table.specs.contracts.shared.Shared.compare_exchange.{ended, clauses}
@@ -45,7 +43,6 @@ compare_exchange_spec 𝓤 𝓛 𝓜 𝓡 wired T U Q P Mv L _ _ _ _ g d g' d' _
     let inst = bounded (a_type ∷ a_type ∷ a_type ∷ a_type ∷ a_type ∷ []) (T, (U, (Q, (P, (Mv, tt)))))
     (dcons d (dcons d' dnil)) in let fn = inst_fn inst code.function in
     let Row : RattleType = table.the_row R W X Y g in let Sr : RattleType = seat.the_row R W in
-    let D : RattleType = TableData R W X Y g in
     let self = RefOf (0 ∷ []) tt (plain (λ _. Row)) (λ _. tt) in let sitter = plain (λ _. Sr) in
     let number = plain (λ _. u64) in
     let hs : Stays En.signature.params En.kept = (
@@ -109,19 +106,9 @@ compare_exchange_spec 𝓤 𝓛 𝓜 𝓡 wired T U Q P Mv L _ _ _ _ g d g' d' _
         ),
       ),
     ) $ let Ev = env fn.locals l in
-    sees_table R W X Y g ! t κ b o (λ placed.
-    -- [the table's fields; the token of κ; that the age lasts; the invariant; the seat's name, borrow and token;
-    -- the token of T; the others]
-    move ! (0 ∷ 3 ∷ []) $ looks ! tt D (table_opens R W X Y g 𝓛) (w, (t.value, (tt, tt))) b o (λ q vs.
-    move ! (1 ∷ []) $
-    peeks ! D (Is D) (shows 𝓛 D) (w, (t.value, (tt, tt))) vs (λ is_so.
-    let ev : vs ≡ hand_of w t.value ∷ [] = table_told R W X Y g w t.value vs is_so in
-    rewrite ! 1 (λ (ws : List Val). ‵ (cell_at q D.mir ws b o)) ev refl $ first ! $ blocks ! $
-    sets ! (is ! (of_opd ! (load ! (through ! refl (fld ! refl (stop !))) (look_in ! 1 (sub ! 0 refl (whole !)))))
-    (ap ptr_val (at_block w placed.0))) refl (tt, tt) $
-    rewrite ! 1 (λ (ws : List Val). ‵ (cell_at q D.mir ws b o)) (sym ev) refl $ move ! (1 ∷ 0 ∷ 2 ∷ []) $
-    shuts ! tt D q (w, (t.value, (tt, tt))) vs b o $
-    move ! (2 ∷ 0 ∷ []) $ shr_bor-open ! tt (tokens_halve 𝓛 (age z)) (λ r.
+    reads_table R W X Y g ! tt t b o (λ q. first ! $ blocks ! $
+    sets ! (of_opd ! (load ! (through ! refl (fld ! refl (stop !))) (look_in ! 0 (sub ! 0 refl (whole !))))) refl
+    (tt, tt) $ has_age R W X Y g ! tt t b o q (λ r.
     let out : ℕ → Fml = λ n. fsep (flft (age z) r) (after_exchange 𝓛 R W.coded (g.holds t.key)
     w t.value z r laws.shr_laws s.id me f then n) in
     move ! (4 ∷ 5 ∷ 6 ∷ []) $ opens ! tt Sr b' o' (λ us. move ! (1 ∷ []) $ fsplit ! $ move ! (1 ∷ []) $ fsplit ! $
@@ -157,4 +144,4 @@ compare_exchange_spec 𝓤 𝓛 𝓜 𝓡 wired T U Q P Mv L _ _ _ _ g d g' d' _
     use0 𝓛 (raw (fact 𝓤 Told)) (fact_i 𝓤 Told (emp 𝓤) (refl, refl, so)) $ flt_i ! n (2 ^ 64) fits $
     feq_i ! (List Val) (vint w64 n ∷ []) (vint w64 n ∷ []) refl $ fjoin ! $
     returns ! (look_at ! 0 refl) $ free_all ! refl $ keep ! (2 ∷ 3 ∷ 0 ∷ 1 ∷ []) $
-    by ! (leaves 𝓛 En hs c y (vint w64 n) n (tt, (after, (tt, (tt, tt)))) (tt, (tt, (tt, (tt, tt))))))))))))))))))
+    by ! (leaves 𝓛 En hs c y (vint w64 n) n (tt, (after, (tt, (tt, tt)))) (tt, (tt, (tt, (tt, tt))))))))))))))))

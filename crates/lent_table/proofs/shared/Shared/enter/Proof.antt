@@ -1,25 +1,23 @@
 -- `enter` is a step on the word by which the table gives out a new seat.
-use Rattle.atomic_table.proofs.Names.{◌≡◌, ℕ, ◌^◌, List, [], ◌∷◌, ◌++◌, sym, refl, ap, lit<, w64, a_type, dcons}
-use Rattle.atomic_table.proofs.Names.{dnil, named, Val, vint, vptr, vstruct, vcons, vnil, inst_fn, SProp, emp, Lft}
-use Rattle.atomic_table.proofs.Names.{Fml, ftrue, fsep, flft, ‵, raw, ◌⊛◌, given, mean, at_ret, ◌$◌, ◌∵◌, !, qed}
-use Rattle.atomic_table.proofs.Names.{by, move, keep, drop, split, join, fsplit, fjoin, fpick, fpack, learn, use0}
-use Rattle.atomic_table.proofs.Names.{use3, rewrite, feq_i, flt_i, stop, fld, load, lit, of_opd, no_more, and_then}
-use Rattle.atomic_table.proofs.Names.{first, blocks, exec, Calls-last, returns, enter, alloc_all, pass_all, free_all}
-use Rattle.atomic_table.proofs.Names.{look_at, get, through, sets, lands_last, is, env, agg, sub, whole, look_in}
-use Rattle.atomic_table.proofs.Names.{tables, yes, RattleType, owns, Valss, types_at, plain, Ptr, block_ptr, ptr_val}
-use Rattle.atomic_table.proofs.Names.{nothing, param, bounded, Stays, stay_dropped, walk_of, Goes-dropped, fact}
-use Rattle.atomic_table.proofs.Names.{fact_i, Is, shows, cell_at, peeks, block_of, count_of, at_block, via, RefOf}
-use Rattle.atomic_table.proofs.Names.{u64, shr_vals, shr_Tells, looks, shuts, shr_bor-open, obor_close, tokens_halve}
-use Rattle.atomic_table.proofs.Names.{of_list}
+use Rattle.atomic_table.proofs.Names.{◌≡◌, ℕ, ◌^◌, List, [], ◌∷◌, ◌++◌, refl, lit<, w64, a_type, dcons, dnil, named}
+use Rattle.atomic_table.proofs.Names.{Val, vint, vptr, vstruct, vcons, vnil, inst_fn, SProp, emp, Lft, Fml, ftrue}
+use Rattle.atomic_table.proofs.Names.{fsep, flft, ‵, raw, ◌⊛◌, given, mean, at_ret, ◌$◌, ◌∵◌, !, qed, by, move, keep}
+use Rattle.atomic_table.proofs.Names.{drop, split, join, fsplit, fjoin, fpick, fpack, learn, use0, use3, feq_i, flt_i}
+use Rattle.atomic_table.proofs.Names.{stop, fld, load, lit, of_opd, no_more, and_then, first, blocks, exec, Calls-last}
+use Rattle.atomic_table.proofs.Names.{returns, enter, alloc_all, pass_all, free_all, look_at, get, through, sets}
+use Rattle.atomic_table.proofs.Names.{lands_last, env, agg, sub, whole, look_in, tables, yes, RattleType, owns, Valss}
+use Rattle.atomic_table.proofs.Names.{types_at, plain, Ptr, block_ptr, nothing, param, bounded, Stays, stay_dropped}
+use Rattle.atomic_table.proofs.Names.{walk_of, Goes-dropped, fact, fact_i, block_of, count_of, via, RefOf, u64}
+use Rattle.atomic_table.proofs.Names.{shr_vals, shr_Tells, obor_close, of_list}
 use Rattle.atomic_table.proofs.Walks.{proved, leaves}
 use Rattle.atomic_table.proofs.Calls.{fm, seq_cst, found, finds, loads as raw_load}
-use Rattle.atomic_table.proofs.Fields.{hand_of, token_val}
+use Rattle.atomic_table.proofs.Fields.{token_val}
 use Rattle.core.proofs.atomic.Steps.{tail}
 use Rattle.lent_table.specs.Table.{Me, none, step, Enters}
 use Rattle.lent_table.specs.Lending.{TableId, age}
 use Rattle.lent_table.specs.contracts.shared.Shared as table
 use Rattle.lent_table.specs.contracts.shared.Seat as seat
-use Rattle.lent_table.proofs.Fields.{TableData, SeatData, seat_made, table_told, table_opens, sees_table}
+use Rattle.lent_table.proofs.Fields.{SeatData, seat_made, reads_table, has_age}
 use Rattle.lent_table.proofs.Stepping.{after_enter, enters}
 use Rattle.lent_table.specs.contracts.shared.Shared.enter.{ended, clauses}
 use Rattle.lent_table.specs.contracts.shared.Shared.enter.Key.{name as #self}
@@ -35,7 +33,6 @@ enter_spec 𝓤 𝓛 𝓜 𝓡 wired T U Q P Mv _ _ _ _ _ g d g' d' _ _ =
     let inst = bounded (a_type ∷ a_type ∷ a_type ∷ a_type ∷ a_type ∷ []) (T, (U, (Q, (P, (Mv, tt)))))
     (dcons d (dcons d' dnil)) in let fn = inst_fn inst code.function in
     let Row : RattleType = table.the_row R W X Y g in let Sr : RattleType = seat.the_row R W in
-    let D : RattleType = TableData R W X Y g in
     let self = RefOf (0 ∷ []) tt (plain (λ _. Row)) (λ _. tt) in
     let hs : Stays En.signature.params En.kept = (stay_dropped self yes, tt) in
     proved 𝓛 En hs c 𝓜 𝓡 (
@@ -60,18 +57,9 @@ enter_spec 𝓤 𝓛 𝓜 𝓡 wired T U Q P Mv _ _ _ _ _ g d g' d' _ _ =
     keep ! (1 ∷ 3 ∷ 4 ∷ []) $
     enter ! 𝓣.C 𝓣.Λ fn (vptr b o ∷ []) Post $ alloc_all ! (λ l. pass_all ! refl ((tt, tt), tt) $
     let Ev = env fn.locals l in
-    sees_table R W X Y g ! t κ b o (λ placed.
-    -- [the table's fields; the token of κ; that the age lasts; the invariant; the other tokens]
-    move ! (0 ∷ 3 ∷ []) $ looks ! tt D (table_opens R W X Y g 𝓛) (w, (t.value, (tt, tt))) b o (λ q vs.
-    move ! (1 ∷ []) $
-    peeks ! D (Is D) (shows 𝓛 D) (w, (t.value, (tt, tt))) vs (λ is_so.
-    let ev : vs ≡ hand_of w t.value ∷ [] = table_told R W X Y g w t.value vs is_so in
-    rewrite ! 1 (λ (ws : List Val). ‵ (cell_at q D.mir ws b o)) ev refl $ first ! $ blocks ! $
-    sets ! (is ! (of_opd ! (load ! (through ! refl (fld ! refl (stop !))) (look_in ! 1 (sub ! 0 refl (whole !)))))
-    (ap ptr_val (at_block w placed.0))) refl (tt, tt) $
-    rewrite ! 1 (λ (ws : List Val). ‵ (cell_at q D.mir ws b o)) (sym ev) refl $ move ! (1 ∷ 0 ∷ 2 ∷ []) $
-    shuts ! tt D q (w, (t.value, (tt, tt))) vs b o $
-    move ! (2 ∷ 0 ∷ []) $ shr_bor-open ! tt (tokens_halve 𝓛 (age z)) (λ r.
+    reads_table R W X Y g ! tt t b o (λ q. first ! $ blocks ! $
+    sets ! (of_opd ! (load ! (through ! refl (fld ! refl (stop !))) (look_in ! 0 (sub ! 0 refl (whole !))))) refl
+    (tt, tt) $ has_age R W X Y g ! tt t b o q (λ r.
     let out : ℕ → Fml = λ n. fsep (flft (age z) r) (after_enter 𝓛 R W.coded (g.holds t.key) w t.value z r then n) in
     -- [the borrow of the age's token; that; the table's fields; the invariant; the other tokens]
     nothing ! $ move ! (4 ∷ 2 ∷ 0 ∷ []) $
@@ -113,4 +101,4 @@ enter_spec 𝓤 𝓛 𝓜 𝓡 wired T U Q P Mv _ _ _ _ _ g d g' d' _ _ =
     nothing ! $ nothing ! $ fjoin ! $ move ! (2 ∷ 4 ∷ []) $ join ! $
     use0 𝓛 (raw (fact 𝓤 Told)) (fact_i 𝓤 Told (emp 𝓤) (refl, refl, so)) $
     returns ! (look_at ! 0 refl) $ free_all ! refl $ keep ! (1 ∷ 2 ∷ 3 ∷ 0 ∷ []) $
-    by ! (leaves 𝓛 En hs c y v (n, come) (tt, tt) (tt, tt)))))))))))))
+    by ! (leaves 𝓛 En hs c y v (n, come) (tt, tt) (tt, tt)))))))))))

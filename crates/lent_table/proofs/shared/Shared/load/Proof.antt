@@ -1,26 +1,23 @@
 -- `load` is a step on the word by which the seat may learn.
-use Rattle.atomic_table.proofs.Names.{◌≡◌, ℕ, ◌^◌, List, [], ◌∷◌, sym, refl, ap, lit<, w64, a_type, dcons, dnil}
-use Rattle.atomic_table.proofs.Names.{named, Val, vint, vptr, inst_fn, SProp, emp, Lft, Fml, ftrue, fsep, flft}
-use Rattle.atomic_table.proofs.Names.{‵, raw, ◌⊛◌, given, mean, at_ret, ◌$◌, ◌∵◌, !, qed, by, move, keep, drop, split}
-use Rattle.atomic_table.proofs.Names.{split3, join, fsplit, fsplit3, fjoin, fjoin3, fpick, learn, use0, use3, rewrite}
-use Rattle.atomic_table.proofs.Names.{feq_i, flt_i, stop, fld, load, lit, of_opd, no_more, and_then, first, blocks}
-use Rattle.atomic_table.proofs.Names.{exec, Calls-last, returns, enter, alloc_all, pass_all, free_all, look_at, get}
-use Rattle.atomic_table.proofs.Names.{through, sets, lands_last, is, env, agg, sub, whole, look_in, tables, yes}
-use Rattle.atomic_table.proofs.Names.{RattleType, owns, types_at, plain, Ptr, block_ptr, ptr_val, nothing, param}
-use Rattle.atomic_table.proofs.Names.{bounded, Stays, stay_dropped, walk_of, Goes-dropped, fact, fact_i, Is, shows}
-use Rattle.atomic_table.proofs.Names.{cell_at, peeks, block_of, count_of, at_block, via, RefOf, mut_vals, mut_Tells}
-use Rattle.atomic_table.proofs.Names.{shr_vals, shr_Tells, opens, closes, stay_ref, Goes-ref, looks, shuts}
-use Rattle.atomic_table.proofs.Names.{shr_bor-open, obor_close, tokens_halve}
+use Rattle.atomic_table.proofs.Names.{◌≡◌, ℕ, ◌^◌, List, [], ◌∷◌, sym, refl, lit<, w64, a_type, dcons, dnil, named}
+use Rattle.atomic_table.proofs.Names.{Val, vint, vptr, inst_fn, SProp, emp, Lft, Fml, ftrue, fsep, flft, ‵, raw, ◌⊛◌}
+use Rattle.atomic_table.proofs.Names.{given, mean, at_ret, ◌$◌, ◌∵◌, !, qed, by, move, keep, drop, split, split3, join}
+use Rattle.atomic_table.proofs.Names.{fsplit, fsplit3, fjoin, fjoin3, fpick, learn, use0, use3, rewrite, feq_i, flt_i}
+use Rattle.atomic_table.proofs.Names.{stop, fld, load, lit, of_opd, no_more, and_then, first, blocks, exec, Calls-last}
+use Rattle.atomic_table.proofs.Names.{returns, enter, alloc_all, pass_all, free_all, look_at, get, through, sets}
+use Rattle.atomic_table.proofs.Names.{lands_last, env, agg, sub, whole, look_in, tables, yes, RattleType, owns}
+use Rattle.atomic_table.proofs.Names.{types_at, plain, Ptr, block_ptr, nothing, param, bounded, Stays, stay_dropped}
+use Rattle.atomic_table.proofs.Names.{walk_of, Goes-dropped, fact, fact_i, block_of, count_of, via, RefOf, mut_vals}
+use Rattle.atomic_table.proofs.Names.{mut_Tells, shr_vals, shr_Tells, opens, closes, stay_ref, Goes-ref, obor_close}
 use Rattle.atomic_table.proofs.Walks.{proved, leaves}
 use Rattle.atomic_table.proofs.Calls.{fm, seq_cst, found, finds, loads as raw_load}
-use Rattle.atomic_table.proofs.Fields.{hand_of}
 use denote.Param.Laws.{param_laws}
 use Rattle.core.proofs.atomic.Steps.{tail}
 use Rattle.lent_table.specs.Table.{Me, step, Learns}
 use Rattle.lent_table.specs.Lending.{TableId, age, seat_owns}
 use Rattle.lent_table.specs.contracts.shared.Shared as table
 use Rattle.lent_table.specs.contracts.shared.Seat as seat
-use Rattle.lent_table.proofs.Fields.{TableData, table_told, table_opens, sees_table}
+use Rattle.lent_table.proofs.Fields.{reads_table, has_age}
 use Rattle.lent_table.proofs.Stepping.{after_load, loads}
 use Rattle.lent_table.specs.contracts.shared.Shared.load.{ended, clauses}
 use Rattle.lent_table.specs.contracts.shared.Shared.load.Key.{name as #self}
@@ -36,7 +33,6 @@ load_spec 𝓤 𝓛 𝓜 𝓡 wired T U Q P Mv L _ _ _ _ g d g' d' _ _ =
     let inst = bounded (a_type ∷ a_type ∷ a_type ∷ a_type ∷ a_type ∷ []) (T, (U, (Q, (P, (Mv, tt)))))
     (dcons d (dcons d' dnil)) in let fn = inst_fn inst code.function in
     let Row : RattleType = table.the_row R W X Y g in let Sr : RattleType = seat.the_row R W in
-    let D : RattleType = TableData R W X Y g in
     let self = RefOf (0 ∷ []) tt (plain (λ _. Row)) (λ _. tt) in let sitter = plain (λ _. Sr) in
     let hs : Stays En.signature.params En.kept = (stay_dropped self yes, (stay_ref (1 ∷ []) tt sitter, tt)) in
     proved 𝓛 En hs c 𝓜 𝓡 (
@@ -65,19 +61,9 @@ load_spec 𝓤 𝓛 𝓜 𝓡 wired T U Q P Mv L _ _ _ _ g d g' d' _ _ =
     move ! (2 ∷ []) $ fsplit3 ! $ keep ! (4 ∷ 6 ∷ 1 ∷ 2 ∷ 7 ∷ 8 ∷ []) $
     enter ! 𝓣.C 𝓣.Λ fn (vptr b o ∷ vptr b' o' ∷ []) Post $
     alloc_all ! (λ l. pass_all ! refl ((tt, tt), ((tt, tt), tt)) $ let Ev = env fn.locals l in
-    sees_table R W X Y g ! t κ b o (λ placed.
-    -- [the table's fields; the token of κ; that the age lasts; the invariant; the seat's name, borrow and token;
-    -- the other tokens]
-    move ! (0 ∷ 3 ∷ []) $ looks ! tt D (table_opens R W X Y g 𝓛) (w, (t.value, (tt, tt))) b o (λ q vs.
-    move ! (1 ∷ []) $
-    peeks ! D (Is D) (shows 𝓛 D) (w, (t.value, (tt, tt))) vs (λ is_so.
-    let ev : vs ≡ hand_of w t.value ∷ [] = table_told R W X Y g w t.value vs is_so in
-    rewrite ! 1 (λ (ws : List Val). ‵ (cell_at q D.mir ws b o)) ev refl $ first ! $ blocks ! $
-    sets ! (is ! (of_opd ! (load ! (through ! refl (fld ! refl (stop !))) (look_in ! 1 (sub ! 0 refl (whole !)))))
-    (ap ptr_val (at_block w placed.0))) refl (tt, tt) $
-    rewrite ! 1 (λ (ws : List Val). ‵ (cell_at q D.mir ws b o)) (sym ev) refl $ move ! (1 ∷ 0 ∷ 2 ∷ []) $
-    shuts ! tt D q (w, (t.value, (tt, tt))) vs b o $
-    move ! (2 ∷ 0 ∷ []) $ shr_bor-open ! tt (tokens_halve 𝓛 (age z)) (λ r.
+    reads_table R W X Y g ! tt t b o (λ q. first ! $ blocks ! $
+    sets ! (of_opd ! (load ! (through ! refl (fld ! refl (stop !))) (look_in ! 0 (sub ! 0 refl (whole !))))) refl
+    (tt, tt) $ has_age R W X Y g ! tt t b o q (λ r.
     let out : ℕ → Fml = λ n. fsep (flft (age z) r) (after_load 𝓛 R W.coded (g.holds t.key)
     w t.value z r (param_laws 0 T L).shr_laws s.id me then n) in
     move ! (4 ∷ 5 ∷ 6 ∷ []) $ opens ! tt Sr b' o' (λ us. move ! (1 ∷ []) $ fsplit ! $ move ! (1 ∷ []) $
@@ -105,4 +91,4 @@ load_spec 𝓤 𝓛 𝓜 𝓡 wired T U Q P Mv L _ _ _ _ g d g' d' _ _ =
     use0 𝓛 (raw (fact 𝓤 Told)) (fact_i 𝓤 Told (emp 𝓤) (refl, refl, so)) $ flt_i ! n (2 ^ 64) fits $
     feq_i ! (List Val) (vint w64 n ∷ []) (vint w64 n ∷ []) refl $ fjoin ! $
     returns ! (look_at ! 0 refl) $ free_all ! refl $ keep ! (2 ∷ 3 ∷ 0 ∷ 1 ∷ []) $
-    by ! (leaves 𝓛 En hs c y (vint w64 n) n (tt, (new, tt)) (tt, (tt, tt)))))))))))))))
+    by ! (leaves 𝓛 En hs c y (vint w64 n) n (tt, (new, tt)) (tt, (tt, tt)))))))))))))
