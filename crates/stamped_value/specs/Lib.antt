@@ -1,0 +1,14 @@
+pub mod Values
+pub mod Held
+pub mod ValueMade
+pub mod Stands
+pub mod Outcomes
+pub mod ValueLock
+pub mod ValueCalls
+pub mod Releases
+pub mod Sections
+pub mod Seated
+pub mod inner
+pub mod Ends
+pub mod OfStamp
+pub mod Timed

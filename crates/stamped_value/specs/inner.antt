@@ -1,0 +1,6 @@
+pub mod VersionRule
+pub mod Deciding
+pub mod Questions
+pub mod Held
+pub mod Outcomes
+pub mod ValueLock

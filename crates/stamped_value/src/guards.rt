@@ -1,0 +1,222 @@
+//! The guards of a guarded value.
+ghost use Rattle.std.specs.Prelude.{◌≡◌, IfOk, IfErr};
+ghost use Rattle.stamp_core.specs.declared.call.Call.TheVariants.{UnlockWrite, UnlockRead, ToWrite, ToRead};
+ghost use Rattle.stamp_core.specs.declared.reply.Reply.TheVariants.{Stamp, Done};
+ghost use Rattle.stamped_value.specs.Held.{stamp_held};
+ghost use Rattle.stamped_value.specs.Outcomes.{WritesLast, WritesWhatRead, ReadsWhatWritten, LeavesWhatWritten};
+ghost use Rattle.stamped_value.specs.ValueCalls.{Calls};
+ghost use Rattle.stamped_value.specs.Releases.{Releases, ReleasesWritten};
+ghost use Rattle.stamped_value.specs.declared.view.Held.TheVariants.{Reading, Writing};
+
+use crate::handle::ValueHandle;
+use crate::steps::ValueSeat;
+use crate::value::StampedValue;
+use stamp_core::{Call, LockReply};
+use std::marker::Model;
+use std::sync::Wait;
+
+/// Read mode of a guarded value, by its stamp, and the value to read. Other readers may have it too,
+/// and no writer.
+///
+/// It is seen as its lock, what it knows, and the value that it reads. Where it is dropped, it
+/// releases read mode as `release` does.
+pub struct ReadGuard<'a, T, R: Wait> {
+    pub(crate) rt: &'a R,
+    pub(crate) value: &'a StampedValue<T>,
+    pub(crate) seat: ValueSeat<T>,
+    pub(crate) stamp: u64,
+}
+
+impl<'a, T, R: Wait> Model for ReadGuard<'a, T, R> {
+    ghost use Rattle.stamped_value.specs.ValueLock.{ValueToken};
+    ghost use Rattle.stamped_value.specs.declared.view.Held.TheVariants.{Reading};
+    ghost use Rattle.stamped_value.specs.Seated.{IsSeated};
+
+    ghost Value = { ValueToken T };
+
+    ghost view = { λ g. record { lock = g.value.now; me = g.seat.me } };
+
+    ghost invariant = { λ g. IsSeated g.value.now (Reading g.stamp) g.seat.table_id g.seat.me };
+}
+
+/// Write mode of a guarded value, by its stamp, and the value to write, alone.
+///
+/// It is seen as its lock, what it knows, and the value that it has written so far. Where it is
+/// dropped, it releases write mode as `release` does.
+pub struct WriteGuard<'a, T, R: Wait> {
+    pub(crate) rt: &'a R,
+    pub(crate) value: &'a StampedValue<T>,
+    pub(crate) seat: ValueSeat<T>,
+    pub(crate) stamp: u64,
+}
+
+impl<'a, T, R: Wait> Model for WriteGuard<'a, T, R> {
+    ghost use Rattle.stamped_value.specs.ValueLock.{ValueToken};
+    ghost use Rattle.stamped_value.specs.declared.view.Held.TheVariants.{Writing};
+    ghost use Rattle.stamped_value.specs.Seated.{IsSeated};
+
+    ghost Value = { ValueToken T };
+
+    ghost view = { λ g. record { lock = g.value.now; me = g.seat.me } };
+
+    ghost invariant = { λ g. IsSeated g.value.now (Writing g.stamp) g.seat.table_id g.seat.me };
+}
+
+impl<T, R: Wait> Drop for ReadGuard<'_, T, R> {
+    /// Releases read mode (`unlockRead`).
+    fn drop(self)
+        ensures { Releases self.entry }
+    {
+        let Self {
+            rt,
+            value,
+            mut seat,
+            stamp,
+        } = self;
+        let _ = value.call(rt, &mut seat, Call::UnlockRead(stamp));
+        seat.leave();
+    }
+}
+
+impl<T, R: Wait> Drop for WriteGuard<'_, T, R> {
+    /// Releases write mode (`unlockWrite`), and leaves what was written as the last value.
+    fn drop(self)
+        ensures { ReleasesWritten self.entry }
+    {
+        let Self {
+            rt,
+            value,
+            mut seat,
+            stamp,
+        } = self;
+        let _ = value.call(rt, &mut seat, Call::UnlockWrite(stamp));
+        seat.leave();
+    }
+}
+
+impl<'a, T, R: Wait> ReadGuard<'a, T, R> {
+    /// The stamp of its read mode.
+    pub fn stamp(&self) -> u64
+        ensures { self.now.me.0.held ≡ Reading result }
+    {
+        self.stamp
+    }
+
+    /// Releases read mode (`unlockRead`). It waits for nobody, and tries again where another thread
+    /// came between.
+    pub fn release(self) -> ValueHandle<'a, T>
+        ensures { Calls (UnlockRead (stamp_held self.entry.me.0.held)) Done self.entry result }
+    {
+        let ReadGuard {
+            rt,
+            value,
+            mut seat,
+            stamp,
+        } = self;
+        let _ = value.call(rt, &mut seat, Call::UnlockRead(stamp));
+        ValueHandle { value, seat }
+    }
+
+    /// Converts to write mode, where there is no other reader and a version is left
+    /// (`tryConvertToWriteLock`): the value is the one that was read. Otherwise it gives the guard
+    /// back, by which the call was made and answered 0. It waits for nobody, and tries again where
+    /// another thread came between.
+    pub fn upgrade(self) -> Result<WriteGuard<'a, T, R>, ReadGuard<'a, T, R>>
+        ensures ok { IfOk result (λ g.
+            Calls (ToWrite (stamp_held self.entry.me.0.held)) (Stamp (stamp_held g.me.0.held)) self.entry g) }
+        ensures same { IfOk result (λ g. WritesWhatRead self.entry.me g.me) }
+        ensures last { IfOk result (λ g. WritesLast g.me) }
+        ensures err { IfErr result (λ g.
+            Calls (ToWrite (stamp_held self.entry.me.0.held)) (Stamp 0) self.entry g) }
+        ensures kept { IfErr result (λ g. (g.me.0.held ≡ self.entry.me.0.held) × (g.me.1 ≡ self.entry.me.1)) }
+    {
+        let ReadGuard {
+            rt,
+            value,
+            mut seat,
+            stamp,
+        } = self;
+        let LockReply::Stamp(new) = value.call(rt, &mut seat, Call::ToWrite(stamp)) else {
+            unreachable!()
+        };
+        if new == 0 {
+            return Err(ReadGuard {
+                rt,
+                value,
+                seat,
+                stamp,
+            });
+        }
+        Ok(WriteGuard {
+            rt,
+            value,
+            seat,
+            stamp: new,
+        })
+    }
+}
+
+impl<'a, T, R: Wait> WriteGuard<'a, T, R> {
+    /// The stamp of its write mode.
+    pub fn stamp(&self) -> u64
+        ensures { self.now.me.0.held ≡ Writing result }
+    {
+        self.stamp
+    }
+
+    /// Releases write mode (`unlockWrite`), and leaves what was written as the last value. It waits
+    /// for nobody, and tries again where another thread came between.
+    pub fn release(self) -> ValueHandle<'a, T>
+        ensures made { Calls (UnlockWrite (stamp_held self.entry.me.0.held)) Done self.entry result }
+        ensures leaves { LeavesWhatWritten self.entry.me result.me }
+    {
+        let WriteGuard {
+            rt,
+            value,
+            mut seat,
+            stamp,
+        } = self;
+        let _ = value.call(rt, &mut seat, Call::UnlockWrite(stamp));
+        ValueHandle { value, seat }
+    }
+
+    /// Converts to read mode (`tryConvertToReadLock`), with no writer between: the value is the one
+    /// that was written. It waits for nobody, and tries again where another thread came between.
+    pub fn downgrade(self) -> ReadGuard<'a, T, R>
+        ensures made { Calls (ToRead (stamp_held self.entry.me.0.held)) (Stamp (stamp_held result.me.0.held))
+            self.entry result }
+        ensures same { ReadsWhatWritten self.entry.me result.me }
+    {
+        let WriteGuard {
+            rt,
+            value,
+            mut seat,
+            stamp,
+        } = self;
+        let LockReply::Stamp(new) = value.call(rt, &mut seat, Call::ToRead(stamp)) else {
+            unreachable!()
+        };
+        ReadGuard {
+            rt,
+            value,
+            seat,
+            stamp: new,
+        }
+    }
+
+    /// Beside a writer's guard there is no reader's of the same lock.
+    pub fn no_reader<S: Wait>(&mut self, other: &mut ReadGuard<'_, T, S>)
+        ensures same { (self.new ≡ self.old) × (other.new ≡ other.old) }
+        ensures apart { other.old.lock.table ≡ self.old.lock.table → ⊥ }
+    {
+        self.seat.alone(&mut other.seat);
+    }
+
+    /// Beside a writer's guard there is no other of the same lock.
+    pub fn no_writer<S: Wait>(&mut self, other: &mut WriteGuard<'_, T, S>)
+        ensures same { (self.new ≡ self.old) × (other.new ≡ other.old) }
+        ensures apart { other.old.lock.table ≡ self.old.lock.table → ⊥ }
+    {
+        self.seat.alone(&mut other.seat);
+    }
+}

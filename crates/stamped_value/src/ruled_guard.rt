@@ -1,0 +1,77 @@
+//! The guard of a value that keeps to a rule.
+ghost use Rattle.std.specs.Prelude.{◌≡◌};
+ghost use Rattle.lent_table.specs.Table.{reads};
+ghost use Rattle.stamp_core.specs.declared.call.Call.TheVariants.{UnlockRead};
+ghost use Rattle.stamp_core.specs.declared.reply.Reply.TheVariants.{Done};
+ghost use Rattle.stamped_value.specs.Held.{stamp_held};
+ghost use Rattle.stamped_value.specs.Values.{IsLastOf};
+ghost use Rattle.stamped_value.specs.ValueCalls.{Calls};
+ghost use Rattle.stamped_value.specs.Releases.{Releases};
+ghost use Rattle.stamped_value.specs.declared.view.Held.TheVariants.{Reading};
+
+use crate::guards::ReadGuard;
+use crate::kept::{Kept, ValueRule};
+use crate::ruled_handle::RuledHandle;
+use std::marker::Model;
+use std::ops::Deref;
+use std::sync::Wait;
+
+/// Read mode of a value that keeps to a rule, and the value to read: a reference to it, of which the
+/// rule holds. Other readers may have it too, and no writer.
+///
+/// It is seen as a `ReadGuard` is. Where it is dropped, it releases read mode as `release` does.
+pub struct RuledReadGuard<'a, T, K: ValueRule<T>, R: Wait> {
+    pub(crate) inner: ReadGuard<'a, Kept<T, K>, R>,
+}
+
+impl<'a, T, K: ValueRule<T>, R: Wait> Model for RuledReadGuard<'a, T, K, R> {
+    ghost use Rattle.stamped_value.specs.ValueLock.{ValueToken};
+
+    ghost Value = { ValueToken T };
+
+    ghost view = { λ g. g.inner };
+}
+
+impl<T, K: ValueRule<T>, R: Wait> Drop for RuledReadGuard<'_, T, K, R> {
+    /// Releases read mode (`unlockRead`).
+    fn drop(self)
+        ensures { Releases self.entry }
+    {
+        let Self { inner: _ } = self;
+    }
+}
+
+impl<T, K: ValueRule<T>, R: Wait> Deref for RuledReadGuard<'_, T, K, R> {
+    type Target = T;
+
+    ghost deref_gives = { λ g x. K.holds x × (g.me.1 ≡ reads x) × IsLastOf g.me.0.values x };
+
+    /// The value: the last one that the guard knows. It keeps to the rule.
+    fn deref(&self) -> &T
+        ensures rule { K.holds result.now }
+        ensures value { self.now.me.1 ≡ reads result.now }
+        ensures last { IsLastOf self.now.me.0.values result.now }
+    {
+        self.inner.deref().get()
+    }
+}
+
+impl<'a, T, K: ValueRule<T>, R: Wait> RuledReadGuard<'a, T, K, R> {
+    /// The stamp of its read mode.
+    pub fn stamp(&self) -> u64
+        ensures { self.now.me.0.held ≡ Reading result }
+    {
+        self.inner.stamp()
+    }
+
+    /// Releases read mode (`unlockRead`). It waits for nobody, and tries again where another thread
+    /// came between.
+    pub fn release(self) -> RuledHandle<'a, T, K>
+        ensures { Calls (UnlockRead (stamp_held self.entry.me.0.held)) Done self.entry result }
+    {
+        let Self { inner } = self;
+        RuledHandle {
+            inner: inner.release(),
+        }
+    }
+}

@@ -1,0 +1,71 @@
+//! The steps on the word of a guarded value, by the seats of its table.
+ghost use Rattle.std.specs.Prelude.{◌≡◌, IsTrue, Some};
+ghost use Rattle.stamp_core.specs.Call.{is_lock_call};
+ghost use Rattle.stamp_core.specs.Limits.{AreInRange};
+ghost use Rattle.stamp_core.specs.Word.{word_at};
+ghost use Rattle.stamp_core.specs.Decision.{Changes};
+ghost use Rattle.stamp_core.specs.declared.reply.Reply.{Reply};
+ghost use Rattle.lent_table.specs.Table.{step};
+ghost use Rattle.stamped_value.specs.Held.{HasHold};
+ghost use Rattle.stamped_value.specs.inner.Held.{MayCall};
+ghost use Rattle.stamped_value.specs.inner.VersionRule.{LoadTells, ExchangeTells, EnterTells};
+
+use crate::rule::{CallStep, EnterStep, ExchangeStep, LoadStep, OpenStep, ValueKey, VersionRule};
+use crate::view::ValueView;
+use lent_table::{Seat, Shared};
+use stamp_core::Call;
+
+/// The table of a guarded value.
+pub type ValueTable<T> = Shared<T, ValueView<T>, ValueKey<T>, VersionRule>;
+
+/// A seat of it.
+pub type ValueSeat<T> = Seat<T, ValueView<T>>;
+
+/// Loads the word. The call is made by it where it changes nothing.
+#[inline(always)]
+pub fn load<T, C: CallStep>(table: &ValueTable<T>, seat: &mut ValueSeat<T>, call: &Call) -> u64
+    requires step { (C.limits ≡ table.now.key.limits) × (C.call ≡ call.now) }
+    requires lock_call { IsTrue (is_lock_call call.now) }
+    requires table { seat.old.table_id ≡ table.now.table_id }
+    ensures table { seat.new.table_id ≡ table.now.table_id }
+    ensures learned { LoadTells table.now.key.limits call.now seat.old.me result seat.new.me }
+{
+    // The call stands in the contract alone.
+    let _ = call;
+    table.load::<LoadStep<C>>(seat)
+}
+
+/// Makes the call by an exchange. By one that finds another word, a seat learns what it would by a load.
+#[inline(always)]
+pub fn exchange<T, C: CallStep>(
+    table: &ValueTable<T>,
+    seat: &mut ValueSeat<T>,
+    call: &Call,
+    old: u64,
+    new: u64,
+) -> u64
+    requires step { (C.limits ≡ table.now.key.limits) × (C.call ≡ call.now) }
+    requires lock_call { IsTrue (is_lock_call call.now) }
+    requires in_range { AreInRange table.now.key.limits }
+    requires table { seat.old.table_id ≡ table.now.table_id }
+    requires may { MayCall call.now seat.old.me.0.held }
+    requires hold { HasHold seat.old.me.0.held seat.old.me.0.values seat.old.me.1 }
+    requires changes { let limits = table.now.key.limits in
+        (reply : Reply) × Changes limits (word_at limits old) call.now (word_at limits new) reply }
+    ensures table { seat.new.table_id ≡ table.now.table_id }
+    ensures learned { ExchangeTells table.now.key.limits call.now (step old new) seat.old.me result seat.new.me }
+{
+    // The call stands in the contract alone.
+    let _ = call;
+    table.compare_exchange::<ExchangeStep<C>>(seat, old, new)
+}
+
+/// A new seat, made by a load: its pass has the next root.
+pub fn enter<T, C: OpenStep<T>>(table: &ValueTable<T>) -> ValueSeat<T>
+    requires step { (C.limits ≡ table.now.key.limits) × (C.first ≡ Some table.now.key.first.value) }
+    ensures table { result.table_id ≡ table.now.table_id }
+    ensures entered { EnterTells table.now.key.limits (Some table.now.key.first.value) result.me }
+{
+    let (_, seat) = table.enter::<EnterStep<C>>();
+    seat
+}
