@@ -51,6 +51,8 @@ def function_at(file, before):
     name = found[-1][2]
     if found[-1][1] and impl:
         parameters, trait, of_trait, of = impl[-1].groups(default="")
+        # A `drop` stands below its type.
+        trait = "" if trait == "Drop" else trait
         return f"{in_part(of, before) or type_name(of, parameters)}{trait.split('::')[-1]}{of_trait}::{name}"
     return name if module in ("lib", "main") else f"{module}::{name}"
 

@@ -1,6 +1,7 @@
 pub mod LockHandleView
 pub mod Replies
 pub mod Made
+pub mod Guards
 pub mod Accesses
 pub mod Sections
 pub mod RecordCalls

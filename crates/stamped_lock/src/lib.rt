@@ -23,17 +23,24 @@
 //!
 //! # Sections
 //!
-//! `write_with` and `read_with` acquire a mode, run a closure and release. `read_optimistically` is
+//! `write_with` and `read_with` acquire a mode, run a closure and release; `in_write_mode` and
+//! `in_read_mode` do so where the closure takes nothing. `read_optimistically` is
 //! Java's idiom for a short read: an optimistic stamp, a closure, a validation; and where that
 //! fails the closure again, in read mode. `write_if` reads so, and writes where a test holds.
 //! Tested, not proved: that write sections of threads come one after the other, and that an
 //! optimistic read which a writer came into runs again.
+//!
+//! # Guards
+//!
+//! `write_guard`, `read_guard` and their `try_` forms acquire a mode for a guard, which has the handle,
+//! releases where it is dropped, and can be upgraded or downgraded. `release` gives the handle back.
 #![tactic(auto)]
 
 mod answers;
 mod cell;
 mod cell_handle;
 mod entered;
+mod guards;
 mod handle;
 mod handle_once;
 mod in_words;
@@ -56,6 +63,7 @@ mod write_if;
 pub use cell::{StampedCell, WordsOf};
 pub use cell_handle::CellHandle;
 pub use entered::Entered;
+pub use guards::{LockReadGuard, LockWriteGuard};
 pub use handle::LockHandle;
 pub use in_words::{InWord, InWords};
 pub use lock::StampedLock;

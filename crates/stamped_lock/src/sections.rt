@@ -1,5 +1,5 @@
 //! Sections: a closure between two calls of the lock.
-ghost use Rattle.std.specs.Fn.{FnOnceReturnsAt, FnReturnsAt, CalledAt};
+ghost use Rattle.std.specs.Fn.{FnOnceReturns, FnOnceReturnsAt, FnReturnsAt, CalledAt};
 ghost use Rattle.stamped_lock.specs.Sections.{WriteSection, ReadSection, OptimisticSection};
 ghost use Rattle.stamped_lock.specs.Sections.{OptimisticSectionMut};
 
@@ -52,6 +52,32 @@ impl<'a, L: KnownLayout> LockHandle<'a, L> {
         let answer = f(self.entered());
         self.unlock_read(rt, stamp)?;
         Ok(answer)
+    }
+
+    /// Runs the closure in write mode, as `write_with` does, where it takes nothing. It waits and refuses
+    /// as that does.
+    pub fn in_write_mode<T: Drop, R: Wait, F: FnOnce() -> T>(
+        &mut self,
+        rt: &R,
+        f: F,
+    ) -> Result<T, WriteError>
+        requires { F.IsAlwaysCallable f }
+        ensures { WriteSection (λ t m. FnOnceReturns F.FnOnce f tt t) result self.old self.new }
+    {
+        self.write_with(rt, |_| f())
+    }
+
+    /// Runs the closure in read mode, as `read_with` does, where it takes nothing. It waits and refuses as
+    /// that does.
+    pub fn in_read_mode<T: Drop, R: Wait, F: FnOnce() -> T>(
+        &mut self,
+        rt: &R,
+        f: F,
+    ) -> Result<T, Mismatch>
+        requires { F.IsAlwaysCallable f }
+        ensures { ReadSection (λ t m. FnOnceReturns F.FnOnce f tt t) result self.old self.new }
+    {
+        self.read_with(rt, |_| f())
     }
 
     /// Runs the closure between an optimistic stamp and its validation, or else in read mode. It

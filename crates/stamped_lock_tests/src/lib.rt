@@ -10,6 +10,8 @@ mod error_tests;
 #[cfg(test)]
 mod fixtures;
 #[cfg(test)]
+mod guard_tests;
+#[cfg(test)]
 mod limits_tests;
 #[cfg(test)]
 mod lock_tests;

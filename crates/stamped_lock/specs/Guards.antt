@@ -1,0 +1,16 @@
+-- What a guard is seen as, and what its drop does.
+use Rattle.std.specs.Prelude.{◌⊎◌, ℕ}
+use Rattle.stamp_core.specs.declared.call.Call.{Call}
+use Rattle.stamp_core.specs.declared.reply.Reply.TheVariants.{Done, Mismatch}
+use Rattle.stamped_lock.specs.LockHandleView.{LockHandleView}
+use Rattle.stamped_lock.specs.Made.{Made}
+
+-- its handle, as the last call left it, and its stamp
+pub record GuardView : Type 0 where
+  pub handle : LockHandleView
+  pub stamp : ℕ
+
+-- the last call of a handle was this release: it was made, or refused since another had made it
+pub record LastCall (call : Call) (h : LockHandleView) : Type 0 where
+  pub after : LockHandleView
+  pub made : Made call Done h after ⊎ Made call Mismatch h after
