@@ -9,11 +9,12 @@ some run: one allocation alone is refused, so there is memory for the line. Wher
 memory, that for its line may be refused, and then none is told. One of TRIAL ends with status 1 and no output, or as
 with ample memory. A refused step of a schedule is made again there, so some refused runs end as with ample memory.
 
-No run leaves a block: what a refused call was given by value, or had made, is dropped. With a word
+No run leaves a block: what a refused call was given by value, or had made, is dropped, or comes back. With a word
 of REFUSALS, TRIAL makes calls that are refused for another cause than want of memory.
 
 TRIAL makes as many allocations where it makes records and judges or migrates them as where it only
-makes them: so judging and migrating take no memory."""
+makes them: so judging and migrating take no memory. It makes as many where handles and guards come to the values
+of locks as where it only makes the locks: so these take none."""
 import os
 import subprocess
 import sys
@@ -212,7 +213,7 @@ def main():
         ([picture, "--text", "--width", "0"], b"", bad_line(picture), undrawn),
     ]
     right = b"", (0, b"right\n", b""), [SILENT]
-    table += [([trial, word], *right) for word in [*REFUSALS, "worked", "make", "check", "migrate"]]
+    table += [([trial, word], *right) for word in [*REFUSALS, "worked", "make", "check", "migrate", "own", "guard"]]
     table += [([trial], *right)]
     trials = {}
     for words, text, wanted, refusals in table:
@@ -224,6 +225,8 @@ def main():
         sys.exit(f"{trial}: no refused step was made again")
     if not 0 < trials["make"][0] == trials["check"][0] == trials["migrate"][0]:
         sys.exit(f"{trial}: judging or migrating took memory: {trials}")
+    if not 0 < trials["own"][0] == trials["guard"][0]:
+        sys.exit(f"{trial}: handles or guards took memory: {trials}")
     runs.tell()
 
 
