@@ -2,9 +2,9 @@
 
     may_wait.py
 
-Run at the top of the repository. Such a function takes a runtime by the bound `Wait`, and so does `main` where others of
-the program do. Crates of tests are left out. These are the functions that the check counts, which the gate compares with
-`may_wait`, too: gate_lines.py."""
+Run at the top of the repository. Such a function takes a runtime by the bound `Wait`, its own or that of its `impl`, and
+so does `main` where others of the program do. Crates of tests are left out. These are the functions that the check
+counts, which the gate compares with `may_wait`, too: gate_lines.py."""
 import glob
 import re
 import sys
@@ -12,6 +12,7 @@ import sys
 FUNCTION = re.compile(r'^ *(?:pub(?:\([a-z]+\))? )?(?:const )?(?:extern "C" )?fn \w+(?:[^{;]|;(?= *\w+\]))*', re.M)
 # What stands behind a function's type.
 CLAUSES = re.compile(r"\b(?:requires|ensures|ghost)\b.*", re.S)
+BLOCK = re.compile(r"^(?:impl|pub trait|trait)\b[^{]*", re.M)
 CRATE = re.compile(r"^(\w+)([^:\n]*):", re.M)
 
 
@@ -20,10 +21,18 @@ def text_of(path):
         return file.read()
 
 
+def heads_in(text):
+    """The type of each function of a file, behind that of the `impl` or the trait that it stands in."""
+    begins = [(found.start(), found[0]) for found in BLOCK.finditer(text)]
+    for found in FUNCTION.finditer(text):
+        block = [head for at, head in begins if at < found.start()] if found[0].startswith(" ") else []
+        yield "".join(block[-1:]) + CLAUSES.sub("", found[0])
+
+
 def waiting_in(crate):
     """How many functions of a crate may wait."""
     texts = [re.sub(r"//[^\n]*", "", text_of(path)) for path in glob.glob(f"crates/{crate}/src/**/*.rt", recursive=True)]
-    heads = [CLAUSES.sub("", found[0]) for text in texts for found in FUNCTION.finditer(text)]
+    heads = [head for text in texts for head in heads_in(text)]
     waiting = sum(bool(re.search(r"\bWait\b", head)) for head in heads)
     return waiting + (waiting > 0 and any(re.search(r"\bfn main\b.*\bHostRuntime\b", head) for head in heads))
 

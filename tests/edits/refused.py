@@ -141,12 +141,12 @@ class Crate:
         """Raises what is wrong with the libraries below: one that isn't there, or was built of other texts than there
         are, by hand. `rt` stamps a library when it is built."""
         for it, library in self.below.items():
-            if not os.path.isdir(library):
-                raise Unusable(f"{it} isn't built")
             stamp = f"{os.path.dirname(library)}/stamp"
+            if not os.path.isdir(library) or self.is_by_hand and not os.path.isfile(stamp):
+                raise Unusable(f"{it} isn't built")
             texts = [f"{at}/{name}" for part in PARTS for at, _, names in os.walk(f"{TOP}/crates/{it}/{part}") for name in names]
-            newer = [text for text in texts if not os.path.isfile(stamp) or os.path.getmtime(stamp) < os.path.getmtime(text)]
-            if self.is_by_hand and newer:
+            newer = [text for text in texts if self.is_by_hand and os.path.getmtime(stamp) < os.path.getmtime(text)]
+            if newer:
                 raise Unusable(f"{it} is older than {os.path.relpath(min(newer), TOP)}, and `rt check` builds it anew")
 
     def sources(self):
