@@ -24,8 +24,7 @@ STATEMENT = re.compile(r";|\b(?:if|match|while|for|loop)\b")
 # the one that it answers; those of lent_table have a proof by hand of their few steps on the one pointer of its type; and
 # no other value of any type can be had than what the last ones give.
 WITHOUT = {"stamp_picture: Picture::verdict", "lent_table: Seat::value_mut", "lent_table: Seat::value_ref",
-           "lent_table: Shared::load", "stamped_value: ReadGuard::get", "stamped_value: WriteGuard::get_mut",
-           "stamped_value: StampedValue::into_inner", "stamped_value: RuledValue::into_inner"}
+           "lent_table: Shared::load", "stamped_value: StampedValue::into_inner", "stamped_value: RuledValue::into_inner"}
 FUNCTION = re.compile(r'^( *)(pub )?(?:pub\(\w+\) )?(?:const )?(?:extern "C" )?fn (\w+)', re.M)
 
 
