@@ -153,7 +153,10 @@ impl Word {
     pub(crate) fn has_writer(&self) -> bool
         ensures { result ≡ ((counts_in self.now).writers == 1) }
     {
-        self.layout.has_writer(self.bits)
+        // The prover knows by the invariant that no word has more holders than a writer counts for, and a
+        // compiler makes this comparison a test of one bit.
+        self.known();
+        self.layout.holders_of(self.bits) >= self.layout.writer_unit()
     }
 
     pub(crate) fn reader_count(&self) -> u64

@@ -7,6 +7,7 @@ pub mod SeatSteps
 pub mod SeatMoves
 pub mod NewComers
 pub mod LockLogs
+pub mod PassesAfter
 pub mod RuleKept
 pub mod PassMoves
 pub mod NewLock

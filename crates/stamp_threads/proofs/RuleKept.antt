@@ -4,7 +4,6 @@ use Rattle.std.proofs.Common.{◌++◌, set, get_or, refl, ap, sym, ◌∙◌, s
 use Rattle.std.proofs.Common.{get_or-set_same, Some, None}
 use Rattle.std.specs.Prelude.{IsTrue}
 use mathlib.Core.Option.{Option, none, some}
-use mathlib.Core.List.{IsPrefix}
 use lib.ListN.{get_elem?}
 use prog.Atomic.{either}
 use Rattle.std.proofs.lemmas.Bool.{eqb-true}
@@ -19,67 +18,39 @@ use Rattle.stamp_core.specs.Decision.{Changes, Moves}
 use Rattle.stamp_core.specs.declared.call.Call.{Call}
 use Rattle.stamp_core.specs.declared.reply.Reply.{Reply}
 use Rattle.stamp_machines.specs.LockNumber.{RepresentsAt}
-use Rattle.stamp_threads.specs.PassName.{HasGivenAll}
 use Rattle.stamp_threads.specs.PassView.{entry, every, made_by, IsPart}
 use Rattle.stamp_threads.specs.inner.PassView.{knowing, adding, finding}
 use Rattle.stamp_threads.specs.Seats.{alone}
-use Rattle.stamp_threads.specs.inner.Seats.{both}
+use Rattle.stamp_threads.specs.inner.Seats.{both, AreSeated}
 use Rattle.stamp_threads.specs.LockLog.{LockLog, events_after, transition_after, IsLegalLog}
 use Rattle.stamp_threads.specs.LockPass.{LockPassView, IsConsistentWith, LeavesWord, first_of}
 use Rattle.stamp_threads.specs.inner.LockPass.{Seated, second_of}
 use Rattle.stamp_threads.specs.inner.LockRule.{IsKept, making, after_win, answering, reading, after_load, Loaded, Won}
 use Rattle.stamp_threads.specs.inner.LockRule.{LoadTells, ExchangeTells, MeetTells}
-use Rattle.stamp_threads.proofs.Beginnings.{begins_all}
-use Rattle.stamp_threads.proofs.ListElements.{only_one, two_of}
-use Rattle.stamp_threads.proofs.MadeBy.{Grows, grows_none, grows_one, made_by-same}
-use Rattle.stamp_threads.proofs.SeatSteps.{Same, same_one, same_two, stands_on, own_given}
-use Rattle.stamp_threads.proofs.SeatSteps.{other_part}
+use Rattle.stamp_threads.proofs.ListElements.{two_of}
+use Rattle.stamp_threads.proofs.MadeBy.{grows_none}
+use Rattle.stamp_threads.proofs.SeatSteps.{same_two}
+use Rattle.stamp_threads.proofs.PassesAfter.{all_consistent, passes_after, part_now}
+use Rattle.stamp_threads.proofs.PassesAfter.{knows_all as all_known, makes_call as call_made}
 use Rattle.stamp_threads.proofs.LockLogs.{legal_longer, represents_unchanged, represents_changed}
 use Rattle.stamp_threads.proofs.SamePass.{no_call_by}
 
-module _ {enterable : Bool} (limits : Bounds) (s : State (Unit {0}) (List LockPassView))
-    (r : IsKept enterable limits s)
-    (id : ℕ)
-    (vs ws : List LockPassView) (log' : LockLog) (at : get_elem? s.views id ≡ some vs)
-    (same : Same vs ws) (grows : Grows vs r.log log')
-    (all : (k : ℕ) (w : LockPassView) → get_elem? ws k ≡ some w →
-    (w.known ≡ log') × (made_by every w.name log' ≡ w.own)) where
-  own_parts : (k : ℕ) (w : LockPassView) → get_elem? ws k ≡ some w → IsPart every log' w
-  own_parts k w h = let a = all k w h in
-      record {
-        known = subst (λ (l : LockLog). IsPrefix l log') (sym a.0) (begins_all log');
-        own = a.1;
-        given = own_given (IsPart every r.log) r.roots r.log s.views r.passes id vs ws at same every log'
-            grows (λ _ f. f) k w h;
-      }
-
-  pub consistent_after : IsLegalLog limits log' → (k : ℕ) (w : LockPassView) → get_elem? ws k ≡ some w →
-      IsConsistentWith limits w
-  consistent_after legal k w h =
-      let f = own_parts k w h in
-      let a = all k w h in
-      record {
-        legal = subst (IsLegalLog limits) (sym a.0) legal;
-        own = ap (made_by every w.name) a.0 ∙ f.own;
-        given = subst (HasGivenAll w.name w.splits) (sym a.0) f.given;
-      }
-
-  pub kept_after : (word : ℕ) (homes : List (Option (Unit {0}))) → IsLegalLog limits log' →
-      RepresentsAt limits word (events_after limits log') →
-      IsKept enterable limits record { words = set s.words 0 word; homes = homes; views = set s.views id ws }
-  kept_after word homes legal represents = record {
-    log = log';
-    roots = r.roots;
-    one_root = r.one_root;
-    one_word = length-set s.words 0 word ∙ r.one_word;
-    legal = legal;
-    represents = subst (λ (n : ℕ). RepresentsAt limits n (events_after limits log'))
-        (sym (get_or-set_same s.words 0 word 0 (let w = r.one_word in omega arith))) represents;
-    passes = stands_on (IsPart every r.log) r.roots r.log s.views r.passes id vs ws at same
-        (IsPart every log') log' grows own_parts
-        (other_part (IsPart every r.log) r.roots r.log s.views r.passes id vs ws at same every
-        log' grows (λ _ f. f));
-  }
+-- the rule after a step of a seat that leaves these passes there, which goes on to this history
+kept_after : {enterable : Bool} (limits : Bounds) (s : State (Unit {0}) (List LockPassView))
+    (r : IsKept enterable limits s) (id : ℕ) (ws : List LockPassView) (log' : LockLog) (word : ℕ)
+    (homes : List (Option (Unit {0}))) → IsLegalLog limits log' → RepresentsAt limits word (events_after limits log') →
+    AreSeated (IsPart every log') r.roots log' (set s.views id ws) →
+    IsKept enterable limits record { words = set s.words 0 word; homes = homes; views = set s.views id ws }
+kept_after limits s r id ws log' word homes legal represents passes = record {
+  log = log';
+  roots = r.roots;
+  one_root = r.one_root;
+  one_word = length-set s.words 0 word ∙ r.one_word;
+  legal = legal;
+  represents = subst (λ (n : ℕ). RepresentsAt limits n (events_after limits log'))
+      (sym (get_or-set_same s.words 0 word 0 (let w = r.one_word in omega arith))) represents;
+  passes = passes;
+}
 
 -- the rule, and what the pass knows, after a step of a seat that holds one
 abbrev Steps : Bool → (limits : Bounds) (s : State (Unit {0}) (List LockPassView)) → ℕ → ℕ →
@@ -99,11 +70,12 @@ module _ {enterable : Bool} (limits : Bounds) (s : State (Unit {0}) (List LockPa
     (r : IsKept enterable limits s)
     (id : ℕ)
     (v : LockPassView) (at : get_elem? s.views id ≡ some (v ∷ [])) where
-  part_now : IsPart every r.log v
-  part_now = r.passes.fits id 0 v (v ∷ [], at, refl)
-
   pub leaves_now : LeavesWord limits v (get_or s.words 0 0) r.log
-  leaves_now = record { begins = part_now.known; legal = r.legal; represents = r.represents }
+  leaves_now = record {
+    begins = (part_now limits r.log r.roots s.views r.passes id v at r.legal (get_or s.words 0 0)).known;
+    legal = r.legal;
+    represents = r.represents;
+  }
 
   -- the pass once it has found the word that stands there
   abbrev after_finding : LockPassView
@@ -112,15 +84,8 @@ module _ {enterable : Bool} (limits : Bounds) (s : State (Unit {0}) (List LockPa
   pub knows_all : Steps enterable limits s id (get_or s.words 0 0) (knowing after_finding r.log)
   knows_all =
       let w : LockPassView = knowing after_finding r.log in
-      let same = same_one v w refl refl in
-      let grows = grows_none (v ∷ []) r.log in
-      let all = only_one (λ k u. (u.known ≡ r.log) × (made_by every u.name r.log ≡ u.own)) w
-      (refl, part_now.own) in (
-        kept_after limits s r id (v ∷ []) (w ∷ []) r.log at same grows all (get_or s.words 0 0)
-            s.homes r.legal r.represents,
-        consistent_after limits s r id (v ∷ []) (w ∷ []) r.log at same grows
-            all r.legal 0 w refl,
-      )
+      let after = all_known limits r.log r.roots s.views r.passes id v at r.legal (get_or s.words 0 0) in
+      (kept_after limits s r id (w ∷ []) r.log (get_or s.words 0 0) s.homes r.legal r.represents after.0, after.1)
 
   module _ (call : Call) (lock : IsTrue (is_lock_call call)) where
     pub makes_call : (t : Transition) (word : ℕ) → transition_after limits r.log call ≡ Some t
@@ -130,19 +95,11 @@ module _ {enterable : Bool} (limits : Bounds) (s : State (Unit {0}) (List LockPa
         → Steps enterable limits s id word (adding after_finding r.log (call, t.reply))
     makes_call t word is represents =
         let m : Call × Reply = (call, t.reply) in
-        let log' : LockLog = r.log ++ entry v.name m ∷ [] in
         let w : LockPassView = adding after_finding r.log m in
-        let same = same_one v w refl refl in
-        let grows = grows_one v r.log m in
-        let own = made_by-same every v.name r.log m ∙
-        ap (λ (l : List (Call × Reply)). l ++ m ∷ []) part_now.own in
-        let all = only_one (λ k u. (u.known ≡ log') × (made_by every u.name log' ≡ u.own)) w
-        (refl, own) in
-        let legal = legal_longer limits r.log call v.name t is lock r.legal in (
-          kept_after limits s r id (v ∷ []) (w ∷ []) log' at same grows all word s.homes legal
-              represents,
-          consistent_after limits s r id (v ∷ []) (w ∷ []) log' at same grows all
-              legal 0 w refl,
+        let after = call_made limits r.log r.roots s.views r.passes id v at r.legal (get_or s.words 0 0) call lock t is in (
+          kept_after limits s r id (w ∷ []) (r.log ++ entry v.name m ∷ []) word s.homes
+              (legal_longer limits r.log call v.name t is lock r.legal) represents after.0,
+          after.1,
         )
 
     by_appended : (appended : List LockEvent) (reply : Reply) →
@@ -250,12 +207,12 @@ allows_meet limits slots id me is s r _ at _ =
     let grows = grows_none vs r.log in
     let all = two_of (λ k w. (w.known ≡ r.log) × (made_by every w.name r.log ≡ w.own)) v' u'
     (refl, first.own) (refl, second.own) in
-    let so = consistent_after limits s r id vs ws r.log here same grows all r.legal in (
+    let so = all_consistent limits r.log r.roots s.views r.passes id vs ws r.log here same grows all r.legal in (
       ws,
       keeps,
       tt,
-      kept_after limits s r id vs ws r.log here same grows all (get_or s.words 0 0) s.homes r.legal
-          r.represents,
+      kept_after limits s r id ws r.log (get_or s.words 0 0) s.homes r.legal r.represents
+          (passes_after limits r.log r.roots s.views r.passes id vs ws r.log here same grows all),
       (
         λ i. (ws, (is i).1),
         record {

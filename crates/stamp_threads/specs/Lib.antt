@@ -1,4 +1,5 @@
 pub mod PassName
+pub mod Patience
 pub mod PassView
 pub mod Seats
 pub mod LockLog

@@ -14,8 +14,10 @@ use crate::lock_rule::{
     CallStep, EnterLockStep, ExchangeStep, LoadStep, LockKey, LockPasses, LockRule, MeetLockStep,
     PartSeatsStep, ShareSeatStep, SplitStep,
 };
+use crate::patience::Patience;
 use atomic_table::{Seat, Shared as SharedTable};
 use stamp_core::{Call, Reply};
+use std::sync::Wait;
 
 /// The table of a running lock: one word.
 pub type LockTable = SharedTable<(), LockPasses, LockKey, LockRule>;
@@ -110,4 +112,16 @@ pub fn part_seats(table: &LockTable, seat: &mut LockSeat) -> LockSeat
     ensures second { StandsAlone seat.old.table_id result (second_of seat.old.me.0) }
 {
     table.split_seat::<PartSeatsStep>(seat)
+}
+
+/// Rests after a load that found this word, on which a call waits. A sleep ends early where the low half of
+/// the word differs by then.
+pub fn rest<R: Wait>(rt: &R, table: &LockTable, patience: &mut Patience, found: u64)
+    requires { table.now.table_id.words ≡ 1 }
+{
+    if let Some(nap) = patience.nap() {
+        // The sleep compares no more bits than these. Each single change of the word changes them.
+        let low = (found & 0xffff_ffff) as u32;
+        table.park_timeout(rt, 0, low, nap);
+    }
 }

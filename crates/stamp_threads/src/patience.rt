@@ -1,8 +1,8 @@
 //! What a call does before it tries again.
-ghost use Rattle.std.specs.Prelude.{◌≡◌};
+ghost use Rattle.std.specs.Prelude.{◌≡◌, ◌+◌, ◌≤◌, ◌<◌, IsSome, IsNone};
+ghost use Rattle.stamp_threads.specs.Patience.{one_more};
 
-use crate::lock_steps::LockTable;
-use std::sync::Wait;
+use std::marker::Model;
 use std::time::Duration;
 use std::{hint, thread};
 
@@ -15,20 +15,35 @@ const AWAKE: u32 = 16;
 /// How many microseconds it sleeps at most.
 const NAP: u64 = 100;
 
-/// How often a call has tried in vain, counted up to `AWAKE`.
+/// What a call does that has to try again: it spins, lets other threads run, or sleeps. It is seen as the
+/// number of rounds in which the call has tried in vain, counted up to 16.
 #[derive(Drop)]
 pub struct Patience {
     rounds: u32,
 }
 
+impl Model for Patience {
+    ghost use Rattle.std.specs.Prelude.{ℕ, ◌≤◌};
+
+    ghost Value = { ℕ };
+
+    ghost view = { λ p. p.rounds };
+
+    ghost invariant = { λ p. p.rounds ≤ 16 };
+}
+
 impl Patience {
     /// A patience that has not tried yet.
-    pub fn new() -> Patience {
+    pub fn new() -> Patience
+        ensures { result ≡ 0 }
+    {
         Patience { rounds: 0 }
     }
 
     /// A patience that has tried once, and paused.
-    pub fn paused() -> Patience {
+    pub fn paused() -> Patience
+        ensures { result ≡ 1 }
+    {
         let mut patience = Patience::new();
         patience.pause();
         patience
@@ -36,7 +51,9 @@ impl Patience {
 
     /// Spins, each time twice as long as before, and after eight rounds lets other threads run. After a
     /// lost exchange that is all: others come on, so the call can be tried again soon.
-    pub fn pause(&mut self) {
+    pub fn pause(&mut self)
+        ensures { self.new ≡ one_more self.old }
+    {
         if self.rounds < SPINNING {
             for _ in 0..1u32 << self.rounds {
                 hint::spin_loop();
@@ -49,17 +66,17 @@ impl Patience {
         }
     }
 
-    /// Pauses after a load that found this word, on which the call waits. After sixteen rounds it sleeps
-    /// instead, 100 microseconds at most, and not at all where the low half of the word differs by then.
-    pub fn wait<R: Wait>(&mut self, rt: &R, table: &LockTable, found: u64)
-        requires { table.now.table_id.words ≡ 1 }
+    /// Pauses before a call that waits for others looks again. After sixteen rounds it doesn't: it answers
+    /// for how long the call is to sleep instead, 100 microseconds.
+    pub fn nap(&mut self) -> Option<Duration>
+        ensures rounds { self.new ≡ one_more self.old }
+        ensures awake { IsNone result → self.old < 16 }
+        ensures asleep { IsSome result → self.old ≡ 16 }
     {
         if self.rounds < AWAKE {
             self.pause();
-        } else {
-            // The sleep compares no more bits than these. Each single change of the word changes them.
-            let low = (found & 0xffff_ffff) as u32;
-            table.park_timeout(rt, 0, low, Duration::from_micros(NAP));
+            return None;
         }
+        Some(Duration::from_micros(NAP))
     }
 }

@@ -19,7 +19,7 @@ ghost use Rattle.stamp_threads.specs.LockPassesMet.{LockPassesMet};
 ghost use Rattle.stamp_threads.specs.Closes.{Closes};
 
 use crate::lock_rule::{LockKey, LockPasses, LockRule};
-use crate::lock_steps::{self, LockSeat, exchange, load};
+use crate::lock_steps::{self, LockSeat, exchange, load, rest};
 use crate::lost::Lost;
 use crate::pass::Pass;
 use crate::patience::Patience;
@@ -65,9 +65,10 @@ fn try_form(call: &Call) -> Call
     }
 }
 
-/// The same lock call, made anew from its stamp: so a call that is made at once is never put into memory.
+/// The same lock call, made anew of its stamp. A crate whose first try of a call is built in gives what goes on
+/// with it a call made so: then a compiler puts no call into memory that is made at once.
 #[inline(always)]
-fn anew(call: &Call) -> Call
+pub fn anew(call: &Call) -> Call
     requires { IsTrue (is_lock_call call.now) }
     ensures { result ≡ call.now }
 {
@@ -354,7 +355,7 @@ impl RunningLock {
                     patience.pause();
                 }
                 LockDecision::Wait => {
-                    patience.wait(rt, table, found);
+                    rest(rt, table, &mut patience, found);
                     found = load::<Brand>(table, seat, &call);
                 }
             }
