@@ -27,11 +27,11 @@ use Rattle.counted_slot.specs.Counting.{rounds, tag, parts}
 use Rattle.counted_slot.proofs.Parts.{parts_in}
 use base.FractionLaws.{Counts-all}
 use Rattle.lent_table.specs.Table.{Home, away, lent, none, State, opening, Closes}
-use Rattle.lent_table.specs.Lending.{TableId, age, writing, home_owns, Placed, seat_owns, standing, inner}
-use Rattle.lent_table.specs.Lending.{common, rights, table_owns}
+use Rattle.lent_table.specs.Lending.{TableId, age, writing, home_owns, Placed, seat_owns, standing, inner, common}
+use Rattle.lent_table.specs.Lending.{rights, table_owns}
 use Rattle.lent_table.specs.inner.Lending.{plot_owns}
 use Rattle.lent_table.proofs.Rounds.{first_round}
-use Rattle.lent_table.proofs.Signs.{signs}
+use Rattle.lent_table.proofs.Signs.{signs, spot}
 
 lent_value : {T : Type 0} (m n : ℕ) (x y : T) → lent m x ≡ lent n y → x ≡ y
 lent_value m n x y e = cc
@@ -64,12 +64,7 @@ module _ {M : Type 1} {𝓤 : Ura M} (𝓛 : Logic 𝓤) (R : RattleType) {V : T
     (holds : State R.Denot V → Type 0) (w p : Ptr) where
   open 𝓛 use {H, A}
   open signs 𝓛 use {⟦◌⟧, ◌∗◌, ◌⊢◌}
-
-  abbrev b : ℕ
-  b = block_of w
-
-  abbrev o : ℕ
-  o = count_of w
+  open spot w use {b, o}
 
   module _ (L : RowLaws R) (l : Lft) (shares : Shares 𝓛 R l) (τ : Lft) (r : Share) (lives : Incl τ l) (n : ℕ)
       (x : R.Denot) (v : V) where

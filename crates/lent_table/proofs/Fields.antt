@@ -1,11 +1,18 @@
 -- The fields of a `Shared`, a `Seat` and a `Plot`, and a `&` to a `Shared` taken apart. Assumes `Logic`.
-use Rattle.std.proofs.Common.{◌≡◌, ℕ, List, [], ◌∷◌, ◌++◌, refl, ◌∙◌}
+use Rattle.std.proofs.Common.{◌≡◌, ℕ, zero, T, List, [], ◌∷◌, ◌++◌, refl, sym, subst, ◌∙◌}
 use seplogic.Ra.Ura.{Ura}
-use mir.Val.{Val, vstruct, vnil, of_list}
+use mir.Syntax.{Body, Place, place as variable, deref, field, copy, rv_opd, assign, seq, block}
+use mir.Val.{Val, WT, has_ty, vptr, vstruct, vnil, of_list}
+use base.Fraction.{full_share}
 use base.Logic.{ent, emp, guard_i}
-use base.Fml.{Lft, Share, Fml, fhide, flft, fobor, fshr_bor}
+use base.Fml.{Lft, Share, Fml, fat, froom, fhide, flft, fobor, fshr_bor}
+use prog.Wp.{Heap, Calls, Loops, Env, Wp, spot_of, after_seq, after_block}
 use types.Logic.{Logic, sem}
-use types.Kit.{Goal, Soaks, Item, Seq, Step, step, ‵, ◌⊛◌, given, ◌$◌, move, split, join, fsplit, learn, use1, rewrite}
+use types.Kit.{Goal, runs, Post, any_q, post, Soaks, Item, Seq, Step, step, ‵, ◌⊛◌, given, ◌$◌, move, split, join}
+use types.Kit.{fsplit, learn, use1, rewrite}
+use types.Run.{assigns, of_opd, load, fld, stop, from, init, first, blocks}
+use types.ByLocal.{at, set, cell, through}
+use types.Part.{look_in, sub, whole}
 use types.Tokens.{shr_bor-open}
 use types.Within.{tokens_halve}
 use contract.Monad.{fact_use}
@@ -13,7 +20,7 @@ use denote.RattleType.{RattleType}
 use denote.Laws.{Is, shows}
 use denote.Opens.{Opens, Shut, unhide}
 use denote.Copied.{Struct-Copied}
-use denote.Memory.{cell_at, part_at, hidden_shr}
+use denote.Memory.{lone, cell_at, part_at, hidden_shr}
 use denote.Steps.{looks, peeks, shuts}
 use denote.RawPtr.{Ptr, block_ptr, block_of, count_of, ptr_val, at_block}
 use denote.Shadow.{makes_shadow}
@@ -29,7 +36,14 @@ use Rattle.lent_table.specs.declared.shared.TableRule.{Ghosts}
 use Rattle.lent_table.specs.contracts.plot.Plot as plot
 use Rattle.lent_table.specs.contracts.shared.Shared as table
 use Rattle.lent_table.specs.contracts.shared.Seat as seat
+use Rattle.lent_table.specs.contracts.shared.Left as left
 use Rattle.lent_table.proofs.Stepping.{placed}
+
+-- a runs to the end of a block, and then c
+abbrev ends_block : {M : Type 1} {𝓤 : Ura M} {H : Heap 𝓤} → Calls 𝓤 H → Loops 𝓤 H → Env 𝓤 H → Body → Body
+    → Post 𝓤 H → Goal 𝓤 H
+ends_block {𝓤 = 𝓤} {H = H} C Λ E a c e =
+    runs C Λ E a (any_q (after_block 𝓤 H (after_seq 𝓤 H (Wp 𝓤 H C Λ E c (post 𝓤 H e)) (post 𝓤 H e))))
 
 module _ (X : RattleType) where
   abbrev pub PlotData : RattleType
@@ -47,9 +61,30 @@ module _ (R W : RattleType) where
   abbrev pub SeatData : RattleType
   SeatData = Struct (shape (seat.the_type R W))
 
+  pub seat_told : (vs : List Val) → Is SeatData (tt, tt) vs → vs ≡ token_val ∷ []
+  seat_told vs is = is.1.0 ∙ (λ i. vstruct (of_list (is.1.1.0.1.0 i ++ [])) ∷ [])
+
   pub seat_made : {M : Type 1} {𝓤 : Ura M} (𝓛 : Logic 𝓤)
       → ent 𝓤 (emp 𝓤) (sem 𝓛 (SeatData.own_val (tt, tt) (token_val ∷ [])))
   seat_made 𝓛 = makes_shadow 𝓛 (SeatData.own_val (tt, tt) (token_val ∷ [])) (λ vss. (
+    tt,
+    (
+      (λ uss.
+          (tt, tt)),
+      tt,
+    ),
+  )) ((vstruct vnil ∷ [], tt), (refl, ((tt, (refl, tt)), tt)))
+
+module _ (W : RattleType) where
+  abbrev pub LeftData : RattleType
+  LeftData = Struct (shape (left.the_type W))
+
+  pub left_told : (vs : List Val) → Is LeftData (tt, tt) vs → vs ≡ token_val ∷ []
+  left_told vs is = is.1.0 ∙ (λ i. vstruct (of_list (is.1.1.0.1.0 i ++ [])) ∷ [])
+
+  pub left_made : {M : Type 1} {𝓤 : Ura M} (𝓛 : Logic 𝓤)
+      → ent 𝓤 (emp 𝓤) (sem 𝓛 (LeftData.own_val (tt, tt) (token_val ∷ [])))
+  left_made 𝓛 = makes_shadow 𝓛 (LeftData.own_val (tt, tt) (token_val ∷ [])) (λ vss. (
     tt,
     (
       (λ uss.
@@ -122,11 +157,15 @@ module _ (R W X Y : RattleType) (g : Ghosts Y.Denot R.Denot W.Denot X.Denot) whe
   abbrev pub lasts : Row.Denot → Lft → Fml
   lasts t κ = fshr_bor κ (λ r. flft (age t.table_id) r)
 
+  -- the open fields, and the rest that a `&` to the table has
+  abbrev around : {M : Type 1} {𝓤 : Ura M} → Logic 𝓤 → Row.Denot → Lft → Share → Share → ℕ → ℕ → List (Item 𝓤)
+      → List (Item 𝓤)
+  around 𝓛 t κ q s b o Γ = opened 𝓛 t κ q s b o (‵ (fields_at t κ b o) ∷ ‵ (lasts t κ) ∷ ‵ (known t) ∷ Γ)
+
   module _ {M : Type 1} {𝓤 : Ura M} {𝓛 : Logic 𝓤} {K : Type 0} {Γ : List (Item 𝓤)} {G : Goal 𝓤 𝓛.H} (k : K)
       (soaks : Soaks G) (t : Row.Denot) {κ : Lft} {q : Share} (b o : ℕ) where
     -- a `&` to the table has its fields, which a statement may read, its age, which lasts, and its invariant
-    pub reads_table : ((s : Share) → Seq K 𝓛
-        (opened 𝓛 t κ q s b o (‵ (fields_at t κ b o) ∷ ‵ (lasts t κ) ∷ ‵ (known t) ∷ Γ)) G)
+    pub reads_table : ((s : Share) → Seq K 𝓛 (around 𝓛 t κ q s b o Γ) G)
         → Seq K 𝓛 (‵ (hidden_shr Row κ t b o) ∷ ‵ (flft κ q) ∷ Γ) G
     unfolding Rattle.lent_table.specs.Lending.under
     reads_table next = let Here : Type 0 = Placed t.word t.value t.table_id in
@@ -150,12 +189,32 @@ module _ (R W X Y : RattleType) (g : Ghosts Y.Denot R.Denot W.Denot X.Denot) whe
     shuts_table s = step (λ next. move k (1 ∷ []) $ split k $ move k (2 ∷ 0 ∷ 1 ∷ []) $
         shuts k soaks TableData s (fields_of t) (hand t) b o $ next)
 
-  module _ {M : Type 1} {𝓤 : Ura M} {𝓛 : Logic 𝓤} {K : Type 0} {Γ : List (Item 𝓤)} {G : Goal 𝓤 𝓛.H} (k : K)
-      (soaks : Soaks G) (t : Row.Denot) {κ : Lft} {q : Share} (b o : ℕ) where
-    -- the fields are shut, and the age's token is there for a step on the word
-    pub has_age : (s : Share)
+  -- the word's place, as a value
+  abbrev word_at : Row.Denot → Val
+  word_at t = vptr (block_of t.word) (count_of t.word)
+
+  -- local i becomes the word's place, which the `&` in local j tells, and then a runs
+  abbrev takes_place : ℕ → ℕ → Body → Body
+  takes_place i j a = let there : Place = variable j (deref (lone TableData.mir) ∷ field 0 ∷ []) in
+      seq (assign (variable i []) (rv_opd (copy there))) a
+
+  module _ {M : Type 1} {𝓤 : Ura M} {𝓛 : Logic 𝓤} {K : Type 0} {Γ Δ : List (Item 𝓤)} {C : Calls 𝓤 𝓛.H}
+      {Λ : Loops 𝓤 𝓛.H} {E : Env 𝓤 𝓛.H} {i j : ℕ} {a c : Body} {e : Post 𝓤 𝓛.H} (k : K) (t : Row.Denot) {κ : Lft}
+      {q : Share} (b o : ℕ) where
+    -- the code takes the word's place from the `&` to a local that was empty, and has the age's token for a step there
+    pub reaches_word : {p : Share} → ((s : Share) → at 𝓛 j (around 𝓛 t κ q s b o Γ)
+        ≡ ‵ (fat p (spot_of 𝓤 𝓛.H E j).0 (spot_of 𝓤 𝓛.H E j).1 zero (vptr b o)))
+        → ((s : Share) → at 𝓛 i (around 𝓛 t κ q s b o Γ)
+        ≡ ‵ (froom (spot_of 𝓤 𝓛.H E i).0 (spot_of 𝓤 𝓛.H E i).1 zero))
+        → T (has_ty (spot_of 𝓤 𝓛.H E i).0 (word_at t)) × WT (word_at t)
+        → ((s : Share) → set 𝓛 i (‵ (fat full_share (spot_of 𝓤 𝓛.H E i).0 (spot_of 𝓤 𝓛.H E i).1 zero (word_at t)))
+        (around 𝓛 t κ q s b o Γ) ≡ around 𝓛 t κ q s b o Δ)
         → ((r : Share) → Seq K 𝓛 (‵ (fobor κ q (flft (age t.table_id) r)) ∷ ‵ (flft (age t.table_id) r)
-        ∷ ‵ (fields_at t κ b o) ∷ ‵ (known t) ∷ Γ) G)
-        → Seq K 𝓛 (opened 𝓛 t κ q s b o (‵ (fields_at t κ b o) ∷ ‵ (lasts t κ) ∷ ‵ (known t) ∷ Γ)) G
-    has_age s next = shuts_table k soaks t b o s $ move k (2 ∷ 0 ∷ []) $
-        shr_bor-open k soaks (tokens_halve 𝓛 (age t.table_id)) next
+        ∷ ‵ (fields_at t κ b o) ∷ ‵ (known t) ∷ Δ) (ends_block C Λ E a c e))
+        → Seq K 𝓛 (‵ (hidden_shr Row κ t b o) ∷ ‵ (flft κ q) ∷ Γ) (runs C Λ E (seq (block (takes_place i j a)) c) e)
+    reaches_word refers empty typed filled next = reads_table k tt t b o (λ s.
+        let there = load k (through k (refers s) (fld k refl (stop k))) (look_in k 0 (sub k 0 refl (whole k))) in
+        first k $ blocks k $ assigns k (of_opd k there) (from k (stop k))
+        (init k (cell i (around 𝓛 t κ q s b o Γ)) (empty s) typed) $
+        subst (λ (Ξ : List (Item 𝓤)). Seq K 𝓛 Ξ (ends_block C Λ E a c e)) (sym (filled s)) (
+        shuts_table k tt t b o s $ move k (2 ∷ 0 ∷ []) $ shr_bor-open k tt (tokens_halve 𝓛 (age t.table_id)) next))

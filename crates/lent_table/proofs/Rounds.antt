@@ -4,58 +4,38 @@ use seplogic.Ra.Ura.{Ura}
 use base.Fraction.{full_share}
 use base.FractionLaws.{Counts-all}
 use base.Logic.{via, SProp, ex, guard, guard_i, upd_i, id⊢}
-use base.Fml.{Lft, Share, Incl, Incl-trans, Fml, ftrue, fsep, fseps, fex, fwand, fupd, fdead, fbor, flft, fobs, fauth}
+use base.Fml.{Lft, Share, Incl, Incl-trans, Fml, ftrue, fsep, fseps, fex, fwand, fupd, fdead, fbor, flft, fauth}
 use contract.BorrowLft.{meet_⊑_left, meet_⊑_right, ⊑_meet}
 use ghost.Rules.{Toks, span}
 use types.Logic.{Logic, lfts}
 use types.Kit.{given, learn, some, pick, drop, show, ‵, raw, ◌⊛◌, later, ◌$◌, ◌∵◌, !, qed, by, move, keep, use1, use2}
-use types.Kit.{use3}
-use types.Kit.{split, split3, join, group, fsplit, fsplit3, fjoin, fjoin3, fpick, fpack, assume, suffices}
-use types.Kit.{await, updating, now, rewrite, done}
+use types.Kit.{use3, split, split3, join, group, fsplit, fsplit3, fjoin, fjoin3, fpick, fpack, assume, suffices, await}
+use types.Kit.{updating, now, rewrite, done}
 use types.Tokens.{lft_new, lft_end, lent_back, bor_open, obor_alter, name_agree}
 use types.Owned.{basic}
 use denote.RattleType.{RattleType, RowLaws}
-use denote.Memory.{part_at}
 use denote.Shares.{Shares}
-use denote.Sharing.{ShrLaws}
 use denote.SharingLaws.{contraction}
 use denote.Steps.{nothing}
 use Rattle.core.proofs.cell.Borrows.{by_one}
 use Rattle.counted_slot.specs.Counting.{tag, share, parts}
 use Rattle.counted_slot.proofs.Parts.{none_beside, parts_in, parts_cut, parts_glue, parts_whole, parts_agree, renames}
 use Rattle.lent_table.specs.Table.{Fits, Home, away, lent, Hold, none, reads, writes, Act, stays, comes, goes, takes}
-use Rattle.lent_table.specs.Table.{gives}
-use Rattle.lent_table.specs.Table.{grows, shrinks, home_after, hold_after, Valid}
-use Rattle.lent_table.specs.Lending.{TableId, age, kept, shows, waits, round_of, lends, reading, writing}
-use Rattle.lent_table.specs.inner.Lending.{resting}
-use Rattle.lent_table.specs.Lending.{counted, home_owns, hold_owns}
-use Rattle.lent_table.specs.inner.Lending.{hold_steps}
-use Rattle.lent_table.proofs.Signs.{signs}
+use Rattle.lent_table.specs.Table.{gives, grows, shrinks, home_after, hold_after, Valid}
+use Rattle.lent_table.specs.Lending.{TableId, waits, round_of, lends, reading, writing, counted, home_owns, hold_owns}
+use Rattle.lent_table.specs.inner.Lending.{resting, hold_steps}
+use Rattle.lent_table.proofs.Signs.{signs, table_signs}
 
 module _ {M : Type 1} {𝓤 : Ura M} (𝓛 : Logic 𝓤) (R : RattleType) (L : RowLaws R) (z : TableId) where
   open 𝓛 use {H, A}
   open signs 𝓛 use {⟦◌⟧, ◌∗◌, ◌⊢◌}
-
-  abbrev T : Type 0
-  T = R.Denot
-
-  abbrev γ : ℕ
-  γ = z.round_name
-
-  abbrev α : Lft
-  α = age z
-
-  abbrev V : T → Lft → Fml
-  V = shows R z
+  open table_signs R z use {T, γ, α, V, C, At, Obs}
 
   abbrev home : Home T → Fml
   home = home_owns R z
 
   abbrev hold : Hold T → Fml
   hold = hold_steps R z
-
-  V_laws : (x : T) → ShrLaws (V x)
-  V_laws x = L x z.block z.offset
 
   abbrev Lent : ℕ → T → Fml
   Lent m x = fex ℕ (lends R z m x)
@@ -91,7 +71,7 @@ module _ {M : Type 1} {𝓤 : Ura M} (𝓛 : Logic 𝓤) (R : RattleType) (L : R
       move ! (2 ∷ []) $ split ! $
       use1 𝓛 (‵ (parts γ a 1) ⊛ ‵ (parts γ a (2 ^ 63 - suc m))) (cuts γ a k m is few) $ split ! $ move ! (2 ∷ []) $
       fsplit ! $
-      use1 𝓛 (‵ (V x (a ∷ α)) ⊛ ‵ (V x (a ∷ α))) (contraction 𝓛 (V x) (V_laws x) (a ∷ α)) $ split ! $
+      use1 𝓛 (‵ (V x (a ∷ α)) ⊛ ‵ (V x (a ∷ α))) (contraction 𝓛 (V x) (L x z.block z.offset) (a ∷ α)) $ split ! $
       -- [what is shown, twice; the rest of the round; a part; the other parts; one; those left]
       move ! (3 ∷ 0 ∷ []) $ fjoin ! $ fpack ! ℕ (reading R z x) a $ move ! (0 ∷ 4 ∷ []) $ fjoin ! $
       move ! (1 ∷ 2 ∷ []) $ fjoin ! $ move ! (2 ∷ 0 ∷ []) $ fjoin ! $ fpack ! ℕ (lends R z (suc m) x) a $
@@ -204,15 +184,6 @@ module _ {M : Type 1} {𝓤 : Ura M} (𝓛 : Logic 𝓤) (R : RattleType) (L : R
   settles (writes x) = qed 𝓛 (‵ (fex ℕ (resting R z x)) ∷ []) ∵ updating ! $
       fpick ! (λ a. use1 𝓛 (later (‵ (writing R z x a))) (ended x a) $ await ! tt $
       fpack ! ℕ (writing R z x) a $ now ! $ done !)
-
-  abbrev C : Fml
-  C = kept R z
-
-  abbrev At : T → Fml
-  At x = part_at R full_share x z.block z.offset
-
-  abbrev Obs : T → Fml
-  Obs x = fobs z.value_name (R.coded.code x)
 
   abbrev Auth : T → Fml
   Auth x = fauth z.value_name (R.coded.code x)

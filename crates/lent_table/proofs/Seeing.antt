@@ -9,7 +9,7 @@ use base.FractionLaws.{Counts}
 use base.Share as half
 use base.Logic.{SProp, wand, ex, guard, upd_i, apply∗, id⊢}
 use base.Fml.{Lft, Share, Incl, Incl-refl, Incl-trans, Mask, Key, Fml, ftrue, fsep, fseps, fex, fwand, fupd, fdead}
-use base.Fml.{fbor, flft, fobs, ftok, fshr_bor}
+use base.Fml.{fbor, flft, ftok, fshr_bor}
 use base.Before.{before}
 use base.Mask.{every, just, less, take}
 use contract.BorrowLft.{meet_⊑_left, meet_⊑_right, ⊑_meet}
@@ -24,7 +24,6 @@ use types.Na.{na_inv, na_inv_new, na_inv_acc, before-Incl, before_acc, before_du
 use types.Within.{tokens_halve}
 use denote.Hidden as hidden
 use denote.RattleType.{RattleType, RowLaws}
-use denote.Memory.{part_at}
 use denote.Moves.{moves, moves_before}
 use denote.Shares.{Shares}
 use denote.Sharing.{ShrLaws}
@@ -37,10 +36,10 @@ use Rattle.core.proofs.cell.Borrows.{by_one}
 use Rattle.counted_slot.specs.Counting.{tag, parts}
 use Rattle.counted_slot.proofs.Parts.{parts_in}
 use Rattle.lent_table.specs.Table.{Hold, none, reads, writes, value_of}
-use Rattle.lent_table.specs.Lending.{TableId, age, kept, shows, reading, writing, counted, hold_owns, lit, stage}
-use Rattle.lent_table.specs.Lending.{staged, hold_shares}
+use Rattle.lent_table.specs.Lending.{TableId, age, shows, reading, writing, counted, hold_owns, lit, stage, staged}
+use Rattle.lent_table.specs.Lending.{hold_shares}
 use Rattle.lent_table.proofs.Rounds.{told_value}
-use Rattle.lent_table.proofs.Signs.{signs}
+use Rattle.lent_table.proofs.Signs.{signs, table_signs}
 
 module _ (R : RattleType) (L : RowLaws R) (z : TableId) where
   lit_laws : (x : R.Denot) (a : ℕ) → ShrLaws (lit R z x a)
@@ -72,21 +71,7 @@ none_some x e = cc
 module _ {M : Type 1} {𝓤 : Ura M} (𝓛 : Logic 𝓤) (R : RattleType) (L : RowLaws R) (z : TableId) where
   open 𝓛 use {H, A}
   open signs 𝓛 use {⟦◌⟧, ◌∗◌, ◌⊢◌}
-
-  abbrev T : Type 0
-  T = R.Denot
-
-  abbrev γ : ℕ
-  γ = z.round_name
-
-  abbrev α : Lft
-  α = age z
-
-  abbrev V : T → Lft → Fml
-  V = shows R z
-
-  V_laws : (x : T) → ShrLaws (V x)
-  V_laws x = L x z.block z.offset
+  open table_signs R z use {T, γ, α, V, C, At, Obs}
 
   -- the token of the age lasts for κ
   abbrev Lasts : Lft → Fml
@@ -110,14 +95,15 @@ module _ {M : Type 1} {𝓤 : Ura M} (𝓛 : Logic 𝓤) (R : RattleType) (L : R
     unfolding fseps
     lights q = qed 𝓛 (‵ (fbor ν P) ∷ ‵ (flft ν q) ∷ []) ∵ updating ! $ bor_open ! tt $ move ! (1 ∷ []) $
         fpick ! (λ u. fsplit ! $ fpick ! (λ e. fpick ! (λ c. fsplit ! $
-        move ! (2 ∷ []) $ use1 𝓛 (‵ (V x (u ∷ α)) ⊛ ‵ (V x (u ∷ α))) (contraction 𝓛 (V x) (V_laws x) (u ∷ α)) $
-        split ! $ move ! (3 ∷ 0 ∷ []) $
+        move ! (2 ∷ []) $ use1 𝓛 (‵ (V x (u ∷ α)) ⊛ ‵ (V x (u ∷ α)))
+        (contraction 𝓛 (V x) (L x z.block z.offset) (u ∷ α)) $ split ! $ move ! (3 ∷ 0 ∷ []) $
         use2 𝓛 (‵ (fwand (fsep (fdead ν) (fseps (flft (u ∷ []) e ∷ []))) (fupd P))) (again u e c) $ nothing ! $
         move ! (3 ∷ 0 ∷ []) $ fjoin ! $
         move ! (3 ∷ 0 ∷ 1 ∷ []) $ obor_alter ! tt (flft (u ∷ []) e ∷ []) $
         use1 𝓛 (‵ (fbor ν (flft (u ∷ []) e)) ⊛ ‵ ftrue) (id⊢ 𝓤 _) $ split ! $
         bor_fracture ! tt (λ r. flft (u ∷ []) r) e $ move ! (3 ∷ []) $
-        use1 𝓛 (‵ (V x (ν ++ (u ∷ α)))) (shortens 𝓛 (V x) (V_laws x) (u ∷ α) (ν ++ (u ∷ α)) (meet_⊑_right ν (u ∷ α))) $
+        use1 𝓛 (‵ (V x (ν ++ (u ∷ α)))) (shortens 𝓛 (V x) (L x z.block z.offset) (u ∷ α) (ν ++ (u ∷ α))
+        (meet_⊑_right ν (u ∷ α))) $
         move ! (1 ∷ 0 ∷ []) $ fjoin ! $ fpack ! ℕ (λ a. lit R z x a ν) u $ now ! $ keep ! (0 ∷ 2 ∷ []) $ done !)))
 
     -- where the age lasts too, the value is shown for as long as the seat
@@ -127,49 +113,40 @@ module _ {M : Type 1} {𝓤 : Ura M} (𝓛 : Logic 𝓤) (R : RattleType) (L : R
         let w : Lft = (u ∷ []) ++ ν in let c : Lft = α ++ w in
         let in_round : Incl c (u ∷ α) = ⊑_meet c (u ∷ []) α
         (Incl-trans (meet_⊑_right α w) (meet_⊑_left (u ∷ []) ν)) (meet_⊑_left α w) in
-        move ! (1 ∷ []) $ use1 𝓛 (‵ (V x c)) (shortens 𝓛 (V x) (V_laws x) (ν ++ (u ∷ α)) c
+        move ! (1 ∷ []) $ use1 𝓛 (‵ (V x c)) (shortens 𝓛 (V x) (L x z.block z.offset) (ν ++ (u ∷ α)) c
         (⊑_meet c ν (u ∷ α) (Incl-trans (meet_⊑_right α w) (meet_⊑_right (u ∷ []) ν)) in_round)) $
         move ! (2 ∷ []) $ shr_bor_shorten ! w (meet_⊑_right (u ∷ []) ν) $ move ! (0 ∷ 1 ∷ []) $
-        use2 𝓛 (‵ (V x w)) (moves 𝓛 (V x) (V_laws x) w α) $
-        move ! (1 ∷ 0 ∷ []) $ by ! (moves 𝓛 (V x) (V_laws x) ν (u ∷ [])))
+        use2 𝓛 (‵ (V x w)) (moves 𝓛 (V x) (L x z.block z.offset) w α) $
+        move ! (1 ∷ 0 ∷ []) $ by ! (moves 𝓛 (V x) (L x z.block z.offset) ν (u ∷ [])))
 
   module _ (x : T) where
     abbrev W : Fml
     W = fex ℕ (writing R z x)
 
-    abbrev C : Fml
-    C = kept R z
-
-    abbrev At : Fml
-    At = part_at R full_share x z.block z.offset
-
-    abbrev Obs : Fml
-    Obs = fobs z.value_name (R.coded.code x)
-
     with_tag : (ν : Lft) (c : ℕ)
-        → ⟦ tag γ full_share c ⟧ ⊢ ⟦ fwand (fsep (fdead ν) (fseps (Obs ∷ fbor α C ∷ []))) (fupd W) ⟧
+        → ⟦ tag γ full_share c ⟧ ⊢ ⟦ fwand (fsep (fdead ν) (fseps ((Obs x) ∷ fbor α C ∷ []))) (fupd W) ⟧
     unfolding fseps
     with_tag ν c = qed 𝓛 (‵ (tag γ full_share c) ∷ []) ∵
-        assume ! (‵ (fsep (fdead ν) (fsep Obs (fsep (fbor α C) ftrue)))) $ suffices ! ⟦ W ⟧ (upd_i 𝓤 ⟦ W ⟧) $
+        assume ! (‵ (fsep (fdead ν) (fsep (Obs x) (fsep (fbor α C) ftrue)))) $ suffices ! ⟦ W ⟧ (upd_i 𝓤 ⟦ W ⟧) $
         fsplit ! $ drop ! $ fsplit3 ! $ move ! (3 ∷ 0 ∷ 1 ∷ []) $ fjoin3 ! $ fpack ! ℕ (writing R z x) c $
         keep ! (0 ∷ []) $ done !
 
     -- a borrow of what a writer has is one of the value
-    bares : (ν : Lft) → Incl ν α → (q : Share) → A.bor ν W ∗ A.lft ν q ⊢ H.⇛ (A.bor ν At ∗ A.lft ν q)
+    bares : (ν : Lft) → Incl ν α → (q : Share) → A.bor ν W ∗ A.lft ν q ⊢ H.⇛ (A.bor ν (At x) ∗ A.lft ν q)
     unfolding fseps
     bares ν within q = qed 𝓛 (‵ (fbor ν W) ∷ ‵ (flft ν q) ∷ []) ∵ updating ! $ bor_open ! tt $ move ! (1 ∷ []) $
         fpick ! (λ c. fsplit3 ! $
-        use1 𝓛 (‵ (fwand (fsep (fdead ν) (fseps (Obs ∷ fbor α C ∷ []))) (fupd W))) (with_tag ν c) $ nothing ! $
+        use1 𝓛 (‵ (fwand (fsep (fdead ν) (fseps ((Obs x) ∷ fbor α C ∷ []))) (fupd W))) (with_tag ν c) $ nothing ! $
         move ! (3 ∷ 0 ∷ []) $ fjoin ! $ move ! (2 ∷ 0 ∷ []) $ fjoin ! $ move ! (2 ∷ 0 ∷ 1 ∷ []) $
-        obor_alter ! tt (Obs ∷ fbor α C ∷ []) $
-        use1 𝓛 (‵ (fbor ν Obs) ⊛ ‵ (fbor ν (fbor α C)) ⊛ ‵ ftrue) (id⊢ 𝓤 _) $ split3 ! $ move ! (1 ∷ 3 ∷ []) $
+        obor_alter ! tt ((Obs x) ∷ fbor α C ∷ []) $
+        use1 𝓛 (‵ (fbor ν (Obs x)) ⊛ ‵ (fbor ν (fbor α C)) ⊛ ‵ ftrue) (id⊢ 𝓤 _) $ split3 ! $ move ! (1 ∷ 3 ∷ []) $
         use2 𝓛 (later (‵ (fbor ν C) ⊛ ‵ (flft ν q))) (𝓛.more.bor_unnest α ν q C within) $ await ! tt $ split ! $
         -- [the borrow; the token; the borrow of what the name says]
         let l : Share = half.left q in let r : Share = half.right q in
         move ! (1 ∷ []) $ use1 𝓛 (‵ (flft ν l) ⊛ ‵ (flft ν r)) (𝓛.lfts.lft_split ν q) $ split ! $
         move ! (3 ∷ 0 ∷ []) $ bor_open ! tt $ move ! (3 ∷ 1 ∷ []) $ join ! $ move ! (0 ∷ 2 ∷ []) $
-        use2 𝓛 (later ((‵ (fbor ν At) ⊛ ‵ Obs) ⊛ ‵ (flft ν r))) (told_value 𝓛 R L z x ν r) $ await ! tt $ split ! $
-        split ! $ move ! (3 ∷ 1 ∷ []) $ obor_close ! tt $ drop ! $ move ! (0 ∷ 2 ∷ []) $
+        use2 𝓛 (later ((‵ (fbor ν (At x)) ⊛ ‵ (Obs x)) ⊛ ‵ (flft ν r))) (told_value 𝓛 R L z x ν r) $ await ! tt $
+        split ! $ split ! $ move ! (3 ∷ 1 ∷ []) $ obor_close ! tt $ drop ! $ move ! (0 ∷ 2 ∷ []) $
         use2 𝓛 (‵ (flft ν q)) (𝓛.lfts.lft_join ν q) $ now ! $ keep ! (1 ∷ 0 ∷ []) $ done !)
 
     module _ (l : Lft) (shares : Shares 𝓛 R l) (κ : Lft) where
@@ -187,8 +164,8 @@ module _ {M : Type 1} {𝓤 : Ura M} (𝓛 : Logic 𝓤) (R : RattleType) (L : R
         shared true = 𝓛.laws.⇛_intro _
         shared false = qed 𝓛 (‵ (fbor κ W) ∷ raw (lfts 𝓛 ts) ∷ []) ∵ updating ! $
             use1 𝓛 (‵ (fbor ν W)) (𝓛.bors.bor_shorten κ ν W (meet_⊑_left κ α)) $
-            use2 𝓛 (later (‵ (fbor ν At) ⊛ raw (lfts 𝓛 ts)))
-            (by_one 𝓛 ν ts sp (A.bor ν W) (A.bor ν At) (bares ν (meet_⊑_right κ α))) $ await ! tt $ split ! $
+            use2 𝓛 (later (‵ (fbor ν (At x)) ⊛ raw (lfts 𝓛 ts)))
+            (by_one 𝓛 ν ts sp (A.bor ν W) (A.bor ν (At x)) (bares ν (meet_⊑_right κ α))) $ await ! tt $ split ! $
             use2 𝓛 (later (‵ (V x ν) ⊛ raw (lfts 𝓛 ts))) (shares x ν ts z.block z.offset lives sp) $ await ! tt $
             now ! $ done !
 
@@ -200,7 +177,7 @@ module _ {M : Type 1} {𝓤 : Ura M} (𝓛 : Logic 𝓤) (R : RattleType) (L : R
             move ! (2 ∷ 0 ∷ []) $ use2 𝓛 (later (‵ Stages ⊛ raw (wand 𝓤 ⟦ Stages ⟧ (H.⇛ (A.tok One)))))
             (na_inv_acc 𝓛 at Stages) $ await ! tt $ split ! $ fpick ! (λ b. move ! (0 ∷ 3 ∷ []) $
             use2 𝓛 (later (‵ (V x ν) ⊛ raw (lfts 𝓛 ts))) (shared b) $ await ! tt $ split ! $
-            use1 𝓛 (‵ (V x ν) ⊛ ‵ (V x ν)) (contraction 𝓛 (V x) (V_laws x) ν) $ split ! $
+            use1 𝓛 (‵ (V x ν) ⊛ ‵ (V x ν)) (contraction 𝓛 (V x) (L x z.block z.offset) ν) $ split ! $
             fpack ! Bool (stage R z x κ) true $ move ! (0 ∷ 3 ∷ []) $
             use2 𝓛 (later (‵ (ftok One))) (apply∗ 𝓤 ⟦ Stages ⟧ (H.⇛ (A.tok One))) $ await ! tt $
             move ! (0 ∷ 3 ∷ []) $ use2 𝓛 (‵ (ftok every)) (𝓛.invs.tok_glue every One Rest (take every at refl)) $
@@ -261,11 +238,11 @@ module _ {M : Type 1} {𝓤 : Ura M} (𝓛 : Logic 𝓤) (R : RattleType) (L : R
         use2 𝓛 (later (‵ (flft μ q) ⊛ ‵ (flft τ r))) (apply∗ 𝓤 (lfts 𝓛 ts) (H.⇛ Two)) $ await ! tt $ split ! $
         -- [the two tokens; the value; the thread's token; before; that the age lasts]
         let c : Lft = α ++ μ in move ! (2 ∷ []) $
-        use1 𝓛 (‵ (V x (c ++ κ))) (shortens 𝓛 (V x) (V_laws x) ν (c ++ κ)
+        use1 𝓛 (‵ (V x (c ++ κ))) (shortens 𝓛 (V x) (L x z.block z.offset) ν (c ++ κ)
         (⊑_meet (c ++ κ) κ α (meet_⊑_right c κ) (Incl-trans (meet_⊑_left c κ) (meet_⊑_left α μ)))) $
         move ! (4 ∷ []) $ use1 𝓛 (‵ (before c κ)) (before_shorten 𝓛 μ c κ (meet_⊑_right α μ)) $
-        use2 𝓛 (‵ (V x c)) (moves_before 𝓛 (V x) (V_laws x) c κ) $ move ! (4 ∷ 0 ∷ []) $
-        use2 𝓛 (‵ (V x μ)) (moves 𝓛 (V x) (V_laws x) μ α) $ now ! $ keep ! (0 ∷ 1 ∷ 2 ∷ 3 ∷ []) $ done !)))
+        use2 𝓛 (‵ (V x c)) (moves_before 𝓛 (V x) (L x z.block z.offset) c κ) $ move ! (4 ∷ 0 ∷ []) $
+        use2 𝓛 (‵ (V x μ)) (moves 𝓛 (V x) (L x z.block z.offset) μ α) $ now ! $ keep ! (0 ∷ 1 ∷ 2 ∷ 3 ∷ []) $ done !)))
 
     -- where the age lasts for as long as a `&` to a seat, the value that the seat may see is shown for as long
     pub sees : (o : Hold T) (x : T) → value_of o ≡ Some x

@@ -124,6 +124,10 @@ Placed w p z = InBlock w × (p ≡ place z)
 abbrev pub seat_owns : (R : RattleType) {V : Type 0} → (V → Gv) → TableId → ℕ → Me R.Denot V → Fml
 seat_owns R c z id me = fsep (hold_owns R z me.1) (seen c z.views_name id three_quarters me.0)
 
+-- the seat left with this view, for good: nobody has it now, and nobody can make a step by it
+abbrev pub has_left : {V : Type 0} → (V → Gv) → TableId → ℕ → V → Fml
+has_left c z id v = finv (seen c z.views_name id three_quarters v)
+
 module _ (R : RattleType) {V : Type 0} (c : V → Gv) (holds : State R.Denot V → Type 0) (w p : Ptr) (z : TableId) where
   abbrev pub standing : State R.Denot V → Fml
   standing s = fsep (word (block_of w) (count_of w) s.word)

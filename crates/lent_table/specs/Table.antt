@@ -1,6 +1,6 @@
 -- A table as plain data: one word, one value and the views of its seats, and what a step does to them.
-use Rattle.std.specs.Prelude.{◌≡◌, ℕ, suc, ◌<◌, ◌^◌, List, [], ◌∷◌, ◌++◌, slice_set, Bool, true, false, Option, Some}
-use Rattle.std.specs.Prelude.{None}
+use Rattle.std.specs.Prelude.{◌≡◌, ◌≢◌, ℕ, suc, ◌<◌, ◌^◌, List, [], ◌∷◌, ◌++◌, slice_set, Bool, true, false, Option}
+use Rattle.std.specs.Prelude.{Some, None}
 use Rattle.std.specs.Coded.{Coded, coded_bool, coded×, coded_option}
 use mathlib.Core.Path.{sym, ap, ◌∙◌}
 use mathlib.Core.Option as maybe
@@ -107,10 +107,22 @@ module _ {T V : Type 0} where
       → (w : V) × (a : Act T) × Valid s.home me.1 a × holds (stepped s (f s.word) id w a)
       × then s.word (w, hold_after me.1 a)
 
-  -- the same where the word is only read: the seat's view alone may change
+  -- where the table is s and its word is only read, the seat has a new view that keeps the rule
+  abbrev pub LearnsAt : (State T V → Type 0) → ℕ → Me T V → (ℕ → Me T V → Type 0) → State T V → Type 0
+  LearnsAt holds id me then s = (w : V) × holds (stepped s s.word id w stays) × then s.word (w, me.1)
+
+  -- the same as `Allows` where the word is only read: the seat's view alone may change
   abbrev pub Learns : (State T V → Type 0) → ℕ → Me T V → (ℕ → Me T V → Type 0) → Type 0
-  Learns holds id me then = (s : State T V) → Finds holds id me s
-      → (w : V) × holds (stepped s s.word id w stays) × then s.word (w, me.1)
+  Learns holds id me then = (s : State T V) → Finds holds id me s → LearnsAt holds id me then s
+
+  -- beside the seat id the table has another, whose view this is
+  abbrev pub Neighbours : ℕ → ℕ → V → State T V → Type 0
+  Neighbours id other v s = (other ≢ id) × (get_elem? s.views other ≡ maybe.some v)
+
+  -- the same as `Learns` where the reader has another seat of the table, with this view
+  abbrev pub LearnsBeside : (State T V → Type 0) → ℕ → Me T V → ℕ → V → (ℕ → Me T V → Type 0) → Type 0
+  LearnsBeside holds id me other v then = (s : State T V) → Finds holds id me s → Neighbours id other v s
+      → LearnsAt holds id me then s
 
   -- the same where a new seat reads the word, which has nothing of the value
   abbrev pub Enters : (State T V → Type 0) → (ℕ → Me T V → Type 0) → Type 0

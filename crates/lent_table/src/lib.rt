@@ -5,8 +5,9 @@
 mod lends;
 mod plot;
 mod shared;
+mod sleep;
 mod steps;
 mod table;
 
-pub use shared::{Play, Seat, Shared, TableRule};
+pub use shared::{Left, Play, Seat, Shared, TableRule};
 pub use table::Table;

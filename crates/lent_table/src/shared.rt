@@ -2,6 +2,8 @@
 ghost use Rattle.std.specs.Prelude.{◌≡◌, ℕ};
 ghost use Rattle.lent_table.specs.Table.{State, Hold, Me, Step, none, writes, me_coded, opening, Closes};
 ghost use Rattle.lent_table.specs.Lending.{TableId, table_id_coded, table_owns, table_shares, seat_owns, hold_shares};
+ghost use Rattle.lent_table.specs.Lending.{has_left};
+ghost use types.Logic.{sem};
 
 use crate::plot::Plot;
 use std::marker::{Model, PhantomData};
@@ -50,6 +52,19 @@ impl<T, V> Model for Seat<T, V> {
     ghost also_shares = { λ s _ κ. hold_shares T.row s.table_id s.me.1 κ };
 }
 
+/// That a seat left its table for good, and what it knew then. It has no bytes.
+#[derive(Drop)]
+pub struct Left<V> {
+    pub(crate) marker: PhantomData<V>,
+    pub ghost table_id: { TableId } by { table_id_coded },
+    pub ghost id: { ℕ },
+    pub ghost view: { V },
+}
+
+impl<V> Model for Left<V> {
+    ghost also_owns = { λ l. has_left V.row.coded.code l.table_id l.id l.view };
+}
+
 impl<T, V, K, P: TableRule<T, V, K>> Shared<T, V, K, P> {
     pub(crate) fn deal(
         about: &K,
@@ -92,11 +107,23 @@ impl<T, V> Seat<T, V> {
         ensures alone { other.old.table_id ≡ self.old.table_id → (x : T) → self.old.me.1 ≡ writes x → other.old.me.1 ≡ none }
     {}
 
-    /// Gives up a seat that has nothing of the value.
-    pub fn leave(self)
+    /// Gives up a seat that has nothing of the value, for good.
+    pub fn leave(self) -> Left<V>
         requires { self.me.1 ≡ none }
+        ensures { (result.table_id ≡ self.table_id) × (result.id ≡ self.id) × (result.view ≡ self.me.0) }
     {
         let Seat { marker: _ } = self;
+        let marker = PhantomData;
+        Left { marker }
+    }
+}
+
+impl<V> Left<V> {
+    /// The same, for the contract of a function that has no result.
+    pub fn tell(self)
+        ensures* left { sem 𝓛 (has_left V.row.coded.code self.table_id self.id self.view) }
+    {
+        let Left { marker: _ } = self;
     }
 }
 

@@ -1,7 +1,7 @@
 //! Single steps on the word.
 ghost use Rattle.std.specs.Prelude.{◌≡◌, ◌==◌};
 ghost use prog.Atomic.{either};
-ghost use Rattle.lent_table.specs.Table.{none, step, Allows, Learns, Enters};
+ghost use Rattle.lent_table.specs.Table.{none, step, Allows, Learns, LearnsBeside, Enters};
 
 use crate::shared::{Play, Seat, Shared, TableRule};
 use atomic_table::exchange;
@@ -14,6 +14,16 @@ impl<T, V, K, P: TableRule<T, V, K>> Shared<T, V, K, P> {
     pub fn load<M: Play<T, V>>(&self, seat: &mut Seat<T, V>) -> u64
         requires { (seat.old.table_id ≡ self.now.table_id) × Learns (P.holds self.now.key) seat.old.id seat.old.me (M.then (step 0 0) seat.old.me) }
         ensures { (seat.new.table_id ≡ seat.old.table_id) × (seat.new.id ≡ seat.old.id) × M.then (step 0 0) seat.old.me result seat.new.me }
+    {
+        unsafe { raw::load::<Brand>(self.word, SeqCst) }
+    }
+
+    /// Reads the word by one seat beside another seat of the table: as `load`, where the view of the
+    /// other is known to be in the table too. The other stays as it is.
+    pub fn load_beside<M: Play<T, V>>(&self, seat: &mut Seat<T, V>, other: &mut Seat<T, V>) -> u64
+        requires { (seat.old.table_id ≡ self.now.table_id) × (other.old.table_id ≡ self.now.table_id) × LearnsBeside (P.holds self.now.key) seat.old.id seat.old.me other.old.id other.old.me.0 (M.then (step 0 0) seat.old.me) }
+        ensures learns { (seat.new.table_id ≡ seat.old.table_id) × (seat.new.id ≡ seat.old.id) × M.then (step 0 0) seat.old.me result seat.new.me }
+        ensures other { other.new ≡ other.old }
     {
         unsafe { raw::load::<Brand>(self.word, SeqCst) }
     }

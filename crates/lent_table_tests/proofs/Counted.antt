@@ -4,8 +4,7 @@ use Rattle.std.proofs.Common.{eqb-true, eq-eqb, true≢false, ◌∙◌}
 use prog.Atomic.{either}
 use Rattle.lent_table.specs.Table.{Home, away, lent, Hold, none, reads, Act, stays, comes, goes, takes, gives}
 use Rattle.lent_table.specs.Table.{home_after, hold_after, Valid, Fits, State, Me, Finds, Allows, Learns, Enters}
-use Rattle.lent_table.specs.Table.{step}
-use Rattle.lent_table.specs.Table.{stepped}
+use Rattle.lent_table.specs.Table.{step, stepped, LearnsBeside}
 use Rattle.lent_table_tests.specs.Count.{Counts, Idles, Reads, Writes, Looked, Brings, Frees}
 
 unequal : (n k : ℕ) → (n == k) ≡ false → n ≡ k → ⊥
@@ -78,6 +77,9 @@ module _ {T : Type 0} (id : ℕ) (me : Me T (Unit {0})) where
           let at = subst (λ (h : Home T). Counts h s.word) k.1.1 f.rule in omega arith,
     ),
   )
+
+  pub looks_beside : (other : ℕ) → LearnsBeside rule id me other tt (Looked (step 0 0) me)
+  looks_beside other s f _ = looks s f
 
 pub enters : {T : Type 0} (v : Unit {0})
     → Enters (λ (s : State T (Unit {0})). Counts s.home s.word) (Looked (step 0 0) (v, none))

@@ -11,6 +11,7 @@ use std::alloc::Global;
 use std::process::Abort;
 use std::test::Fail;
 use std::thread::join;
+use std::time::Duration;
 
 /// A number, and its first seat.
 fn made(alloc: Global, value: u64) -> Result<(Number, Seated), Fail>
@@ -105,6 +106,7 @@ fn readers_read_beside_each_other_and_keep_writers_out(rt: HostRuntime) -> Resul
     assert!(rt; word == 2);
     assert!(rt; read_once(&rt, &number.shared, &mut third) == Some(7));
     assert!(rt; *first.value_ref(&number.shared) == 7);
+    assert!(rt; number.shared.load_beside::<Looking>(&mut third, &mut first) == 2);
     let (_, mut fourth) = number.shared.enter::<Looking>();
     assert!(rt; !add_one(&number.shared, &mut fourth));
     assert!(rt; try_leave(&number.shared, &mut first));
@@ -140,5 +142,18 @@ fn threads_lose_no_write(rt: HostRuntime) -> Result<(), Fail> {
         || add_some(&number.shared, 2_000),
     );
     assert!(rt; number.close() == (1, left.wrapping_add(right)));
+    Ok(())
+}
+
+#[test]
+fn a_sleep_heeds_the_word_and_ends(rt: HostRuntime) -> Result<(), Fail> {
+    let (number, seat) = made(rt.alloc(), 7)?;
+    seat.leave();
+    // The word is 1: a sleep that took no heed of it would go on beyond the time of a test.
+    number
+        .shared
+        .park_timeout(&rt, 2, Duration::from_secs(3600));
+    number.shared.park_timeout(&rt, 1, Duration::ZERO);
+    assert!(rt; number.close() == (1, 7));
     Ok(())
 }

@@ -4,13 +4,12 @@ use Rattle.atomic_table.proofs.Names.{◌≡◌, ℕ, ◌^◌, ◌<◌, List, []
 use Rattle.atomic_table.proofs.Names.{vint, vptr, inst_fn, SProp, emp, Lft, Share, Fml, ftrue, fsep, flft, ‵, raw, ◌⊛◌}
 use Rattle.atomic_table.proofs.Names.{given, later, mean, at_ret, ◌$◌, ◌∵◌, !, qed, by, move, keep, drop, split}
 use Rattle.atomic_table.proofs.Names.{split3, join, fsplit, fsplit3, fjoin, fjoin3, fpick, learn, await, use0, use1}
-use Rattle.atomic_table.proofs.Names.{use3, rewrite, feq_i, flt_i, stop, fld, load, of_opd, no_more, and_then, first}
-use Rattle.atomic_table.proofs.Names.{blocks, exec, Calls-last, returns, enter, alloc_all, pass_all, free_all, look_at}
-use Rattle.atomic_table.proofs.Names.{get, through, sets, lands_last, env, sub, whole, look_in, tables, yes}
-use Rattle.atomic_table.proofs.Names.{RattleType, owns, types_at, plain, Ptr, block_ptr, nothing, heard, param}
-use Rattle.atomic_table.proofs.Names.{bounded, Stays, stay_dropped, walk_of, Goes-dropped, fact, fact_i, block_of}
-use Rattle.atomic_table.proofs.Names.{count_of, via, RefOf, u64, mut_vals, mut_Tells, shr_vals, shr_Tells, uint_vals}
-use Rattle.atomic_table.proofs.Names.{uint_Tells, opens, closes, stay_ref, Goes-ref, obor_close, ◌⊑◌}
+use Rattle.atomic_table.proofs.Names.{use3, rewrite, feq_i, flt_i, of_opd, no_more, and_then, exec, Calls-last}
+use Rattle.atomic_table.proofs.Names.{returns, enter, alloc_all, pass_all, free_all, look_at, get, sets, lands_last}
+use Rattle.atomic_table.proofs.Names.{env, tables, yes, RattleType, owns, types_at, plain, Ptr, block_ptr, nothing}
+use Rattle.atomic_table.proofs.Names.{heard, param, bounded, Stays, stay_dropped, walk_of, Goes-dropped, fact, fact_i}
+use Rattle.atomic_table.proofs.Names.{block_of, count_of, via, RefOf, u64, mut_vals, mut_Tells, shr_vals, shr_Tells}
+use Rattle.atomic_table.proofs.Names.{uint_vals, uint_Tells, opens, closes, stay_ref, Goes-ref, obor_close, ◌⊑◌}
 use Rattle.atomic_table.proofs.Walks.{proved, leaves}
 use Rattle.atomic_table.proofs.Calls.{fm, found, finds, exchanges as raw_exchange}
 use Rattle.atomic_table.specs.Seated.{seen}
@@ -25,7 +24,7 @@ use Rattle.lent_table.specs.Lending.{TableId, age, hold_owns}
 use Rattle.lent_table.specs.inner.Lending.{hold_steps}
 use Rattle.lent_table.specs.contracts.shared.Shared as table
 use Rattle.lent_table.specs.contracts.shared.Seat as seat
-use Rattle.lent_table.proofs.Fields.{reads_table, has_age}
+use Rattle.lent_table.proofs.Fields.{reaches_word}
 use Rattle.lent_table.proofs.Rounds.{readies, settles}
 use Rattle.lent_table.proofs.Stepping.{after_exchange, exchanges}
 use Rattle.lent_table.specs.contracts.shared.Shared.compare_exchange.{ended, clauses}
@@ -106,9 +105,7 @@ compare_exchange_spec 𝓤 𝓛 𝓜 𝓡 wired T U Q P Mv L _ _ _ _ g d g' d' _
         ),
       ),
     ) $ let Ev = env fn.locals l in
-    reads_table R W X Y g ! tt t b o (λ q. first ! $ blocks ! $
-    sets ! (of_opd ! (load ! (through ! refl (fld ! refl (stop !))) (look_in ! 0 (sub ! 0 refl (whole !))))) refl
-    (tt, tt) $ has_age R W X Y g ! tt t b o q (λ r.
+    reaches_word R W X Y g ! t b o (λ _. refl) (λ _. refl) (tt, tt) (λ _. refl) (λ r.
     let out : ℕ → Fml = λ n. fsep (flft (age z) r) (after_exchange 𝓛 R W.coded (g.holds t.key)
     w t.value z r laws.shr_laws s.id me f then n) in
     move ! (4 ∷ 5 ∷ 6 ∷ []) $ opens ! tt Sr b' o' (λ us. move ! (1 ∷ []) $ fsplit ! $ move ! (1 ∷ []) $ fsplit ! $
@@ -144,4 +141,4 @@ compare_exchange_spec 𝓤 𝓛 𝓜 𝓡 wired T U Q P Mv L _ _ _ _ g d g' d' _
     use0 𝓛 (raw (fact 𝓤 Told)) (fact_i 𝓤 Told (emp 𝓤) (refl, refl, so)) $ flt_i ! n (2 ^ 64) fits $
     feq_i ! (List Val) (vint w64 n ∷ []) (vint w64 n ∷ []) refl $ fjoin ! $
     returns ! (look_at ! 0 refl) $ free_all ! refl $ keep ! (2 ∷ 3 ∷ 0 ∷ 1 ∷ []) $
-    by ! (leaves 𝓛 En hs c y (vint w64 n) n (tt, (after, (tt, (tt, tt)))) (tt, (tt, (tt, (tt, tt))))))))))))))))
+    by ! (leaves 𝓛 En hs c y (vint w64 n) n (tt, (after, (tt, (tt, tt)))) (tt, (tt, (tt, (tt, tt)))))))))))))))

@@ -3,12 +3,11 @@ use Rattle.atomic_table.proofs.Names.{◌≡◌, ℕ, ◌^◌, List, [], ◌∷�
 use Rattle.atomic_table.proofs.Names.{Val, vint, vptr, vstruct, vcons, vnil, inst_fn, SProp, emp, Lft, Fml, ftrue}
 use Rattle.atomic_table.proofs.Names.{fsep, flft, ‵, raw, ◌⊛◌, given, mean, at_ret, ◌$◌, ◌∵◌, !, qed, by, move, keep}
 use Rattle.atomic_table.proofs.Names.{drop, split, join, fsplit, fjoin, fpick, fpack, learn, use0, use3, feq_i, flt_i}
-use Rattle.atomic_table.proofs.Names.{stop, fld, load, lit, of_opd, no_more, and_then, first, blocks, exec, Calls-last}
-use Rattle.atomic_table.proofs.Names.{returns, enter, alloc_all, pass_all, free_all, look_at, get, through, sets}
-use Rattle.atomic_table.proofs.Names.{lands_last, env, agg, sub, whole, look_in, tables, yes, RattleType, owns, Valss}
-use Rattle.atomic_table.proofs.Names.{types_at, plain, Ptr, block_ptr, nothing, param, bounded, Stays, stay_dropped}
-use Rattle.atomic_table.proofs.Names.{walk_of, Goes-dropped, fact, fact_i, block_of, count_of, via, RefOf, u64}
-use Rattle.atomic_table.proofs.Names.{shr_vals, shr_Tells, obor_close, of_list}
+use Rattle.atomic_table.proofs.Names.{lit, of_opd, no_more, and_then, exec, Calls-last, returns, enter, alloc_all}
+use Rattle.atomic_table.proofs.Names.{pass_all, free_all, look_at, get, sets, lands_last, env, agg, tables, yes}
+use Rattle.atomic_table.proofs.Names.{RattleType, owns, Valss, types_at, plain, Ptr, block_ptr, nothing, param}
+use Rattle.atomic_table.proofs.Names.{bounded, Stays, stay_dropped, walk_of, Goes-dropped, fact, fact_i, block_of}
+use Rattle.atomic_table.proofs.Names.{count_of, via, RefOf, u64, shr_vals, shr_Tells, obor_close, of_list}
 use Rattle.atomic_table.proofs.Walks.{proved, leaves}
 use Rattle.atomic_table.proofs.Calls.{fm, seq_cst, found, finds, loads as raw_load}
 use Rattle.atomic_table.proofs.Fields.{token_val}
@@ -17,7 +16,7 @@ use Rattle.lent_table.specs.Table.{Me, none, step, Enters}
 use Rattle.lent_table.specs.Lending.{TableId, age}
 use Rattle.lent_table.specs.contracts.shared.Shared as table
 use Rattle.lent_table.specs.contracts.shared.Seat as seat
-use Rattle.lent_table.proofs.Fields.{SeatData, seat_made, reads_table, has_age}
+use Rattle.lent_table.proofs.Fields.{SeatData, seat_made, reaches_word}
 use Rattle.lent_table.proofs.Stepping.{after_enter, enters}
 use Rattle.lent_table.specs.contracts.shared.Shared.enter.{ended, clauses}
 use Rattle.lent_table.specs.contracts.shared.Shared.enter.Key.{name as #self}
@@ -57,9 +56,7 @@ enter_spec 𝓤 𝓛 𝓜 𝓡 wired T U Q P Mv _ _ _ _ _ g d g' d' _ _ =
     keep ! (1 ∷ 3 ∷ 4 ∷ []) $
     enter ! 𝓣.C 𝓣.Λ fn (vptr b o ∷ []) Post $ alloc_all ! (λ l. pass_all ! refl ((tt, tt), tt) $
     let Ev = env fn.locals l in
-    reads_table R W X Y g ! tt t b o (λ q. first ! $ blocks ! $
-    sets ! (of_opd ! (load ! (through ! refl (fld ! refl (stop !))) (look_in ! 0 (sub ! 0 refl (whole !))))) refl
-    (tt, tt) $ has_age R W X Y g ! tt t b o q (λ r.
+    reaches_word R W X Y g ! t b o (λ _. refl) (λ _. refl) (tt, tt) (λ _. refl) (λ r.
     let out : ℕ → Fml = λ n. fsep (flft (age z) r) (after_enter 𝓛 R W.coded (g.holds t.key) w t.value z r then n) in
     -- [the borrow of the age's token; that; the table's fields; the invariant; the other tokens]
     nothing ! $ move ! (4 ∷ 2 ∷ 0 ∷ []) $
@@ -101,4 +98,4 @@ enter_spec 𝓤 𝓛 𝓜 𝓡 wired T U Q P Mv _ _ _ _ _ g d g' d' _ _ =
     nothing ! $ nothing ! $ fjoin ! $ move ! (2 ∷ 4 ∷ []) $ join ! $
     use0 𝓛 (raw (fact 𝓤 Told)) (fact_i 𝓤 Told (emp 𝓤) (refl, refl, so)) $
     returns ! (look_at ! 0 refl) $ free_all ! refl $ keep ! (1 ∷ 2 ∷ 3 ∷ 0 ∷ []) $
-    by ! (leaves 𝓛 En hs c y v (n, come) (tt, tt) (tt, tt)))))))))))
+    by ! (leaves 𝓛 En hs c y v (n, come) (tt, tt) (tt, tt))))))))))

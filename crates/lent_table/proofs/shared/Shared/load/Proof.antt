@@ -3,12 +3,12 @@ use Rattle.atomic_table.proofs.Names.{◌≡◌, ℕ, ◌^◌, List, [], ◌∷�
 use Rattle.atomic_table.proofs.Names.{Val, vint, vptr, inst_fn, SProp, emp, Lft, Fml, ftrue, fsep, flft, ‵, raw, ◌⊛◌}
 use Rattle.atomic_table.proofs.Names.{given, mean, at_ret, ◌$◌, ◌∵◌, !, qed, by, move, keep, drop, split, split3, join}
 use Rattle.atomic_table.proofs.Names.{fsplit, fsplit3, fjoin, fjoin3, fpick, learn, use0, use3, rewrite, feq_i, flt_i}
-use Rattle.atomic_table.proofs.Names.{stop, fld, load, lit, of_opd, no_more, and_then, first, blocks, exec, Calls-last}
-use Rattle.atomic_table.proofs.Names.{returns, enter, alloc_all, pass_all, free_all, look_at, get, through, sets}
-use Rattle.atomic_table.proofs.Names.{lands_last, env, agg, sub, whole, look_in, tables, yes, RattleType, owns}
-use Rattle.atomic_table.proofs.Names.{types_at, plain, Ptr, block_ptr, nothing, param, bounded, Stays, stay_dropped}
-use Rattle.atomic_table.proofs.Names.{walk_of, Goes-dropped, fact, fact_i, block_of, count_of, via, RefOf, mut_vals}
-use Rattle.atomic_table.proofs.Names.{mut_Tells, shr_vals, shr_Tells, opens, closes, stay_ref, Goes-ref, obor_close}
+use Rattle.atomic_table.proofs.Names.{lit, of_opd, no_more, and_then, exec, Calls-last, returns, enter, alloc_all}
+use Rattle.atomic_table.proofs.Names.{pass_all, free_all, look_at, get, sets, lands_last, env, agg, tables, yes}
+use Rattle.atomic_table.proofs.Names.{RattleType, owns, types_at, plain, Ptr, block_ptr, nothing, param, bounded}
+use Rattle.atomic_table.proofs.Names.{Stays, stay_dropped, walk_of, Goes-dropped, fact, fact_i, block_of, count_of}
+use Rattle.atomic_table.proofs.Names.{via, RefOf, mut_vals, mut_Tells, shr_vals, shr_Tells, opens, closes, stay_ref}
+use Rattle.atomic_table.proofs.Names.{Goes-ref, obor_close}
 use Rattle.atomic_table.proofs.Walks.{proved, leaves}
 use Rattle.atomic_table.proofs.Calls.{fm, seq_cst, found, finds, loads as raw_load}
 use denote.Param.Laws.{param_laws}
@@ -17,8 +17,8 @@ use Rattle.lent_table.specs.Table.{Me, step, Learns}
 use Rattle.lent_table.specs.Lending.{TableId, age, seat_owns}
 use Rattle.lent_table.specs.contracts.shared.Shared as table
 use Rattle.lent_table.specs.contracts.shared.Seat as seat
-use Rattle.lent_table.proofs.Fields.{reads_table, has_age}
-use Rattle.lent_table.proofs.Stepping.{after_load, loads}
+use Rattle.lent_table.proofs.Fields.{reaches_word}
+use Rattle.lent_table.proofs.Stepping.{after_beside, loads}
 use Rattle.lent_table.specs.contracts.shared.Shared.load.{ended, clauses}
 use Rattle.lent_table.specs.contracts.shared.Shared.load.Key.{name as #self}
 use Rattle.lent_table.proofs.shared.Shared.load.Statement.{statement}
@@ -61,16 +61,14 @@ load_spec 𝓤 𝓛 𝓜 𝓡 wired T U Q P Mv L _ _ _ _ g d g' d' _ _ =
     move ! (2 ∷ []) $ fsplit3 ! $ keep ! (4 ∷ 6 ∷ 1 ∷ 2 ∷ 7 ∷ 8 ∷ []) $
     enter ! 𝓣.C 𝓣.Λ fn (vptr b o ∷ vptr b' o' ∷ []) Post $
     alloc_all ! (λ l. pass_all ! refl ((tt, tt), ((tt, tt), tt)) $ let Ev = env fn.locals l in
-    reads_table R W X Y g ! tt t b o (λ q. first ! $ blocks ! $
-    sets ! (of_opd ! (load ! (through ! refl (fld ! refl (stop !))) (look_in ! 0 (sub ! 0 refl (whole !))))) refl
-    (tt, tt) $ has_age R W X Y g ! tt t b o q (λ r.
-    let out : ℕ → Fml = λ n. fsep (flft (age z) r) (after_load 𝓛 R W.coded (g.holds t.key)
-    w t.value z r (param_laws 0 T L).shr_laws s.id me then n) in
+    reaches_word R W X Y g ! t b o (λ _. refl) (λ _. refl) (tt, tt) (λ _. refl) (λ r.
+    let out : ℕ → Fml = λ n. fsep (flft (age z) r) (after_beside 𝓛 R W.coded (g.holds t.key)
+    w t.value z r (param_laws 0 T L).shr_laws s.id me then ftrue n) in
     move ! (4 ∷ 5 ∷ 6 ∷ []) $ opens ! tt Sr b' o' (λ us. move ! (1 ∷ []) $ fsplit ! $ move ! (1 ∷ []) $
     -- [the seat; its fields and borrow; the borrow that the age's token came from; that; the table's fields; the
     -- invariant]
     let Mine : TableId → Me T.Denot U.Denot → Fml = λ u v. seat_owns R W.coded.code u s.id v in
-    rewrite ! 0 (λ (u : TableId). ‵ (Mine u me)) asked.0 refl $ move ! (9 ∷ 7 ∷ 0 ∷ []) $
+    rewrite ! 0 (λ (u : TableId). ‵ (Mine u me)) asked.0 refl $ nothing ! $ fjoin ! $ move ! (9 ∷ 7 ∷ 0 ∷ []) $
     use3 𝓛 (raw (𝓣.C _ (vptr (block_of w) (count_of w) ∷ seq_cst ∷ []) (λ u. mean 𝓛 (found out u))))
     (via 𝓤 _ (loads 𝓛 R W.coded (g.holds t.key) w t.value z r (param_laws 0 T L).shr_laws s.id me then asked.1)
     (raw_load 𝓛 𝓜 𝓡 (code.calls-core::raw_atomic::load 𝓡.env wired) (block_ptr (block_of w) (count_of w)) out)) $
@@ -79,8 +77,8 @@ load_spec 𝓤 𝓛 𝓜 𝓡 wired T U Q P Mv L _ _ _ _ g d g' d' _ _ =
     finds ! out (λ n fits.
     lands_last ! refl (tt, record { fits = fits }) $ exec ! 𝓣.C 𝓣.Λ Ev (tail fn.body) (at_ret Ev Post) $
     sets ! (of_opd ! (get ! refl)) refl (tt, record { fits = fits }) $
-    fsplit ! $ move ! (7 ∷ 0 ∷ []) $ obor_close ! tt $ drop ! $ move ! (1 ∷ []) $ fpick ! (λ v. fsplit ! $
-    fpick ! (λ so. drop ! $
+    fsplit ! $ move ! (7 ∷ 0 ∷ []) $ obor_close ! tt $ drop ! $ move ! (1 ∷ []) $ fsplit ! $ drop ! $
+    fpick ! (λ v. fsplit ! $ fpick ! (λ so. drop ! $
     let new : Sr.Denot = record { marker = s.marker; table_id = s.table_id; id = s.id; me = (v, me.1) } in
     let Told : Type 0 = (s.table_id ≡ s.table_id) × (s.id ≡ s.id) × then n (v, me.1) in
     rewrite ! 0 (λ (u : TableId). ‵ (Mine u (v, me.1))) (sym asked.0) refl $ move ! (2 ∷ 0 ∷ []) $ fjoin ! $
@@ -91,4 +89,4 @@ load_spec 𝓤 𝓛 𝓜 𝓡 wired T U Q P Mv L _ _ _ _ g d g' d' _ _ =
     use0 𝓛 (raw (fact 𝓤 Told)) (fact_i 𝓤 Told (emp 𝓤) (refl, refl, so)) $ flt_i ! n (2 ^ 64) fits $
     feq_i ! (List Val) (vint w64 n ∷ []) (vint w64 n ∷ []) refl $ fjoin ! $
     returns ! (look_at ! 0 refl) $ free_all ! refl $ keep ! (2 ∷ 3 ∷ 0 ∷ 1 ∷ []) $
-    by ! (leaves 𝓛 En hs c y (vint w64 n) n (tt, (new, tt)) (tt, (tt, tt)))))))))))))
+    by ! (leaves 𝓛 En hs c y (vint w64 n) n (tt, (new, tt)) (tt, (tt, tt))))))))))))
