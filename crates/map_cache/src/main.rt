@@ -49,6 +49,9 @@ fn main(rt: HostRuntime) -> anyhow::Result<()> {
     );
     put?;
     let are_right = one? && two? && three?;
-    println!(rt; "right: {are_right}, known: {}", ports.into_inner().len())?;
+    let Ok(ports) = ports.into_inner() else {
+        bail!("a writer's guard was leaked");
+    };
+    println!(rt; "right: {are_right}, known: {}", ports.len())?;
     Ok(())
 }

@@ -124,7 +124,10 @@ pub(crate) fn value_outcome<R: Wait + Clock>(
         Use::Own => Outcome::Right,
         Use::Guard => {
             let is_used = is_exchanged(rt, &lock, next) && is_left(rt, &lock, spare);
-            Outcome::right_if(is_used && is_pair(&lock.into_inner(), 8))
+            let Ok(last) = lock.into_inner() else {
+                return Outcome::Wrong;
+            };
+            Outcome::right_if(is_used && is_pair(&last, 8))
         }
     }
 }

@@ -1,4 +1,4 @@
--- What a guard is seen as, and what its drop does.
+-- What a guard is seen as, and what its drop may do.
 use Rattle.std.specs.Prelude.{◌⊎◌, ℕ}
 use Rattle.stamp_core.specs.declared.call.Call.{Call}
 use Rattle.stamp_core.specs.declared.reply.Reply.TheVariants.{Done, Mismatch}
@@ -10,7 +10,7 @@ pub record GuardView : Type 0 where
   pub handle : LockHandleView
   pub stamp : ℕ
 
--- the last call of a handle was this release: it was made, or refused since another had made it
-pub record LastCall (call : Call) (h : LockHandleView) : Type 0 where
+-- the handle can make this release: it is done, or refused since another had made it
+pub record CanRelease (call : Call) (h : LockHandleView) : Type 0 where
   pub after : LockHandleView
   pub made : Made call Done h after ⊎ Made call Mismatch h after

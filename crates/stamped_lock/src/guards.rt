@@ -4,7 +4,7 @@ ghost use Rattle.stamp_core.specs.declared.call.Call.TheVariants.{WriteLock, Rea
 ghost use Rattle.stamp_core.specs.declared.call.Call.TheVariants.{UnlockWrite, UnlockRead, ToWrite, ToRead};
 ghost use Rattle.stamped_lock.specs.Made.{Made};
 ghost use Rattle.stamped_lock.specs.Replies.{stamped, released};
-ghost use Rattle.stamped_lock.specs.Guards.{LastCall};
+ghost use Rattle.stamped_lock.specs.Guards.{CanRelease};
 
 use crate::handle::LockHandle;
 use crate::mismatch::Mismatch;
@@ -211,7 +211,7 @@ impl<'r, 'a, R: Wait, L: KnownLayout> LockWriteGuard<'r, 'a, R, L> {
 
 impl<'r, 'a, R: Wait, L: KnownLayout> Drop for LockReadGuard<'r, 'a, R, L> {
     fn drop(self)
-        ensures { LastCall (UnlockRead self.entry.stamp) self.entry.handle }
+        ensures { CanRelease (UnlockRead self.entry.stamp) self.entry.handle }
     {
         let LockReadGuard {
             mut handle,
@@ -224,7 +224,7 @@ impl<'r, 'a, R: Wait, L: KnownLayout> Drop for LockReadGuard<'r, 'a, R, L> {
 
 impl<'r, 'a, R: Wait, L: KnownLayout> Drop for LockWriteGuard<'r, 'a, R, L> {
     fn drop(self)
-        ensures { LastCall (UnlockWrite self.entry.stamp) self.entry.handle }
+        ensures { CanRelease (UnlockWrite self.entry.stamp) self.entry.handle }
     {
         let LockWriteGuard {
             mut handle,

@@ -44,7 +44,8 @@ use Rattle.stamped_value.proofs.Passing.{part_now}
 reading_not_free : (h : Held) (n : ℕ) → h ≡ Reading n → h ≢ Free
 reading_not_free h n is free = cc
 
-module _ {T : Type 0} {first : T} (limits : Bounds) (s : State T (ValueView T)) (r : IsKept limits first s) (id : ℕ)
+module _ {T : Type 0} {enterable : Bool} {first : T} (limits : Bounds) (s : State T (ValueView T))
+    (r : IsKept enterable limits first s) (id : ℕ)
     (me : Seen T) (at : get_elem? s.views id ≡ some me.0) where
   abbrev now : Counts
   now = counts_now limits s r
@@ -85,7 +86,7 @@ module _ {T : Type 0} {first : T} (limits : Bounds) (s : State T (ValueView T)) 
       (lock : IsTrue (is_lock_call call)) (new : ℕ) where
     -- the seat has a view and an act that keep the rule, and is told of its win
     abbrev Wins : Type 0
-    Wins = (w : ValueView T) × (a : Act T) × Valid s.home me.1 a × IsKept limits first (stepped s new id w a)
+    Wins = (w : ValueView T) × (a : Act T) × Valid s.home me.1 a × IsKept enterable limits first (stepped s new id w a)
         × WonTells limits call me s.word (w, hold_after me.1 a)
 
     -- the call appends these events and is answered this, and the new word represents it
@@ -225,16 +226,16 @@ module _ {T : Type 0} {first : T} (limits : Bounds) (s : State T (ValueView T)) 
     exchange_at : MayCall call me.0.held → (old : ℕ) (reply : Reply) →
         Changes limits (word_at limits old) call (word_at limits new) reply → (b : Bool) → eqb s.word old ≡ b →
         (w : ValueView T) × (a : Act T) × Valid s.home me.1 a
-        × IsKept limits first (stepped s (either b new s.word) id w a)
+        × IsKept enterable limits first (stepped s (either b new s.word) id w a)
         × MatchBool b (WonTells limits call me s.word (w, hold_after me.1 a))
         (LoadTells limits call me s.word (w, hold_after me.1 a))
     exchange_at may old reply changes true e = wins may old reply (eqb-true s.word old e) changes
     exchange_at may old reply changes false e =
         let t = load_leaves limits s r id me at call lock in (t.0, stays, tt, t.1, t.2)
 
-pub allows_exchange : {T : Type 0} {first : T} (limits : Bounds) (call : Call) (id : ℕ) (me : Seen T) (old new : ℕ)
-    (reply : Reply) → AreInRange limits → IsTrue (is_lock_call call) → MayCall call me.0.held →
+pub allows_exchange : {T : Type 0} {enterable : Bool} {first : T} (limits : Bounds) (call : Call) (id : ℕ)
+    (me : Seen T) (old new : ℕ) (reply : Reply) → AreInRange limits → IsTrue (is_lock_call call) → MayCall call me.0.held →
     HasHold me.0.held me.0.values me.1 → Changes limits (word_at limits old) call (word_at limits new) reply →
-    Allows (IsKept limits first) id me (λ n. either (n == old) new n) (ExchangeTells limits call (step old new) me)
+    Allows (IsKept enterable limits first) id me (λ n. either (n == old) new n) (ExchangeTells limits call (step old new) me)
 allows_exchange limits call id me old new reply range lock may hold changes s f =
     exchange_at limits s f.rule id me f.view range hold call lock new may old reply changes (eqb s.word old) refl

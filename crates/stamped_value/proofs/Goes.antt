@@ -1,7 +1,7 @@
 -- Each row of the lock's call table does what a call of a seat does: by the counts before it, and by the mode that
 -- the seat holds, whose stamp matches.
 use Rattle.std.proofs.Common.{◌≡◌, ℕ, ◌+◌, ◌<◌, ◌≤◌, ◌^◌, ◌==◌, List, [], ◌∷◌, refl, subst, arith, Bool, true}
-use Rattle.std.proofs.Common.{false, Option, Some, None}
+use Rattle.std.proofs.Common.{false, Option, Some, None, ◌⊎◌, inl, inr}
 use Rattle.std.specs.Prelude.{if◌then◌else◌, ◌&&◌, nat_lt}
 use Rattle.std.proofs.lemmas.Bool.Decides.{nat_tests}
 use Rattle.std.proofs.lemmas.Bool.{and_parts}
@@ -17,7 +17,7 @@ use Rattle.stamp_core.proofs.TransitionsKeep.{writer_of, reader_of, sole_reader}
 use Rattle.stamp_core.specs.declared.call.Call.{Call}
 use Rattle.stamp_core.specs.declared.call.Call.TheVariants.{TryWrite, TryRead, WriteLock, ReadLock}
 use Rattle.stamp_core.specs.declared.call.Call.TheVariants.{Optimistic, Validate, UnlockWrite}
-use Rattle.stamp_core.specs.declared.call.Call.TheVariants.{UnlockRead, ToWrite, ToRead}
+use Rattle.stamp_core.specs.declared.call.Call.TheVariants.{UnlockRead, ToWrite, ToRead, ToOptimistic}
 use Rattle.stamp_core.specs.declared.call.Call.TheVariants.{IsWriteLocked, IsReadLocked, ReadCount}
 use Rattle.stamp_core.specs.declared.reply.Reply.{Reply}
 use Rattle.stamp_core.specs.declared.reply.Reply.TheVariants.{Stamp, Done}
@@ -151,6 +151,21 @@ not_to_write l c some may = let none = (free_to_write l c may).1 in omega arith
 not_to_read : (l : Bounds) (c : Counts) → c.writers ≡ 1 → may_read l c ≡ true → ⊥
 not_to_read l c one may = let none = (free_to_read l c may).0 in omega arith
 
+-- a seat that holds one of the modes by this stamp holds the one that the stamp matches
+is_the_writer : (l : Bounds) (c : Counts) → CountsAreWithin l c → (h : Held) (s : ℕ) →
+    (h ≡ Reading s) ⊎ (h ≡ Writing s) → MatchesAt l c h → is_held_write (units l) c s ≡ true → h ≡ Writing s
+is_the_writer l c within h s (inl reads) m held =
+    let one = writer_of l c s held in
+    let none = no_writer l c within (reader_counted l c h s reads m) in absurd (omega arith)
+is_the_writer l c within h s (inr writes) m held = writes
+
+is_a_reader : (l : Bounds) (c : Counts) → CountsAreWithin l c → (h : Held) (s : ℕ) →
+    (h ≡ Reading s) ⊎ (h ≡ Writing s) → MatchesAt l c h → is_held_read (units l) c s ≡ true → h ≡ Reading s
+is_a_reader l c within h s (inl reads) m held = reads
+is_a_reader l c within h s (inr writes) m held =
+    let one = writer_counted l c h s writes m in
+    let none = no_writer l c within (reader_of l c s held) in absurd (omega arith)
+
 -- the rows
 rows_go : (limits : Bounds) (c : Counts) → AreInRange limits → CountsAreWithin limits c → (call : Call) (h : Held) →
     MayCall call h → MatchesAt limits c h → Moves limits c h (row limits c call)
@@ -180,6 +195,13 @@ rows_go l c range within (ToRead s) h at m =
     (λ _. moves_if l c h (is_held_read (units l) c s) (λ _. stays)
     (λ _. moves_if l c h ((s == optimistic_stamp (units l) c.write_count) && may_read l c)
     (λ t. absurd (not_to_read l c (writer_counted l c h s at m) (and_parts _ _ t).1)) (λ _. stays)))
+rows_go l c range within (ToOptimistic s) h at m =
+    moves_if l c h (is_held_write (units l) c s)
+    (λ t. moves (end_write l c within h s (is_the_writer l c within h s at m t) t))
+    (λ _. moves_if l c h (is_held_read (units l) c s)
+    (λ t. moves (end_read l c range within h s (is_a_reader l c within h s at m t) t))
+    (λ _. moves_if l c h ((s == optimistic_stamp (units l) c.write_count) && (c.writers == 0)) (λ _. stays)
+    (λ _. stays)))
 rows_go l c range within IsWriteLocked h may m = stays
 rows_go l c range within IsReadLocked h may m = stays
 rows_go l c range within ReadCount h may m = stays

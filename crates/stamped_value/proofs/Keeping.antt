@@ -1,5 +1,5 @@
 -- A call of a seat that changes who holds the lock keeps the rule, where it leaves the value as the counts say.
-use Rattle.std.proofs.Common.{◌≡◌, ◌≢◌, ℕ, ◌+◌, List, [], ◌∷◌, ◌++◌, length, set, refl, ap, sym, ◌∙◌, subst}
+use Rattle.std.proofs.Common.{Bool, ◌≡◌, ◌≢◌, ℕ, ◌+◌, List, [], ◌∷◌, ◌++◌, length, set, refl, ap, sym, ◌∙◌, subst}
 use Rattle.std.proofs.Common.{arith, Option, Some}
 use Rattle.std.specs.Prelude.{IsTrue, count_by}
 use mathlib.Core.Option.{some}
@@ -52,7 +52,8 @@ own_matches limits c h m (ReadReleased ∷ WriteAcquired ∷ []) reply goes = rw
 own_matches limits c h m (WriteReleased ∷ ReadAcquired ∷ []) reply goes = rw goes.2 goes.6
 own_matches limits c h m _ reply goes = absurd goes
 
-module _ {T : Type 0} {first : T} (limits : Bounds) (s : State T (ValueView T)) (r : IsKept limits first s) where
+module _ {T : Type 0} {enterable : Bool} {first : T} (limits : Bounds) (s : State T (ValueView T))
+    (r : IsKept enterable limits first s) where
   abbrev pub counts_now : Counts
   counts_now = counts (events_after limits r.log)
 
@@ -132,7 +133,7 @@ module _ {T : Type 0} {first : T} (limits : Bounds) (s : State T (ValueView T)) 
           omega (arith, count_by-append is_write_released (events_after limits r.log) appended))
 
       pub keeps : (word : ℕ) → RepresentsAt limits word (events_after limits r.log ++ appended) →
-          IsKept limits first record { word = word; home = home; views = set s.views id view_then } ×
+          IsKept enterable limits first record { word = word; home = home; views = set s.views id view_then } ×
           IsConsistentWith limits view_then.pass
       keeps word represents =
           let passes = makes_call limits r.log r.roots s.views r.legal r.passes id v at call lock did is view_then
@@ -143,6 +144,7 @@ module _ {T : Type 0} {first : T} (limits : Bounds) (s : State T (ValueView T)) 
               log = log_then;
               values = values;
               roots = r.roots;
+              one_root = r.one_root;
               legal = legal_longer limits r.log call v.pass.name did is lock r.legal;
               represents = represents_changed limits r.log call v.pass.name did is word represents;
               passes = passes.0;

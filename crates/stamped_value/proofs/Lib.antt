@@ -1,3 +1,4 @@
+pub mod OneValue
 pub mod Counted
 pub mod Going
 pub mod Goes
@@ -23,3 +24,6 @@ pub mod OfStamp
 pub mod Validating
 pub mod Timing
 pub mod Ruling
+pub mod ReleasingTo
+pub mod Testing
+pub mod Meeting

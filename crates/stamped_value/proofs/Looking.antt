@@ -1,5 +1,5 @@
 -- A load keeps the rule, whoever's seat makes it, and tells what it is to tell.
-use Rattle.std.proofs.Common.{◌≡◌, ℕ, List, [], ◌∷◌, ◌++◌, refl, sym, ◌∙◌, subst, append-nil}
+use Rattle.std.proofs.Common.{Bool, ◌≡◌, ℕ, List, [], ◌∷◌, ◌++◌, refl, sym, ◌∙◌, subst, append-nil}
 use Rattle.std.proofs.Common.{Option, Some, None, suc, length}
 use Rattle.std.specs.Prelude.{IsTrue, count_by}
 use mathlib.Core.Option.{some}
@@ -27,7 +27,8 @@ use Rattle.stamped_value.proofs.HeldCounts.{counted_still}
 use Rattle.stamped_value.proofs.Passing.{Passes, part_now, knows_all, makes_call}
 use Rattle.stamped_value.proofs.Seats.{after_one}
 
-module _ {T : Type 0} {first : T} (limits : Bounds) (s : State T (ValueView T)) (r : IsKept limits first s) (id : ℕ)
+module _ {T : Type 0} {enterable : Bool} {first : T} (limits : Bounds) (s : State T (ValueView T))
+    (r : IsKept enterable limits first s) (id : ℕ)
     (v : ValueView T) (at : get_elem? s.views id ≡ some v) where
   -- the seat once it knows all values, and its pass is this
   abbrev seeing : LockPassView → ValueView T
@@ -35,7 +36,7 @@ module _ {T : Type 0} {first : T} (limits : Bounds) (s : State T (ValueView T)) 
 
   -- the rule once the seat's pass is this, which is consistent
   abbrev Sees : LockPassView → Type 0
-  Sees p = IsKept limits first (stepped s s.word id (seeing p) stays) × IsConsistentWith limits p
+  Sees p = IsKept enterable limits first (stepped s s.word id (seeing p) stays) × IsConsistentWith limits p
 
   module _ (log' : LockLog) (same : events_after limits log' ≡ events_after limits r.log) where
     fits_still : (u : ValueView T) → Fits limits r.log r.values u → Fits limits log' r.values u
@@ -57,6 +58,7 @@ module _ {T : Type 0} {first : T} (limits : Bounds) (s : State T (ValueView T)) 
             log = log';
             values = r.values;
             roots = r.roots;
+            one_root = r.one_root;
             legal = legal;
             represents = subst (RepresentsAt limits s.word) (sym same) r.represents;
             passes = passes.0;
@@ -102,10 +104,10 @@ module _ {T : Type 0} {first : T} (limits : Bounds) (s : State T (ValueView T)) 
     loads = by_transition (transition_after limits r.log call) refl
 
 -- the seat of a load, of which the state is one that a step finds
-pub load_leaves : {T : Type 0} {first : T} (limits : Bounds) (s : State T (ValueView T))
-    (r : IsKept limits first s) (id : ℕ) (me : Seen T) → get_elem? s.views id ≡ some me.0 → (call : Call) →
+pub load_leaves : {T : Type 0} {enterable : Bool} {first : T} (limits : Bounds) (s : State T (ValueView T))
+    (r : IsKept enterable limits first s) (id : ℕ) (me : Seen T) → get_elem? s.views id ≡ some me.0 → (call : Call) →
     IsTrue (is_lock_call call) →
-    (w : ValueView T) × IsKept limits first (stepped s s.word id w stays) × LoadTells limits call me s.word (w, me.1)
+    (w : ValueView T) × IsKept enterable limits first (stepped s s.word id w stays) × LoadTells limits call me s.word (w, me.1)
 load_leaves limits s r id me at call lock =
     let own = r.fits id me.0 at in
     let t = loads limits s r id me.0 at call lock in (
@@ -129,6 +131,6 @@ load_leaves limits s r id me at call lock =
       },
     )
 
-pub learns_load : {T : Type 0} {first : T} (limits : Bounds) (call : Call) (id : ℕ) (me : Seen T) →
-    IsTrue (is_lock_call call) → Learns (IsKept limits first) id me (LoadTells limits call me)
+pub learns_load : {T : Type 0} {enterable : Bool} {first : T} (limits : Bounds) (call : Call) (id : ℕ) (me : Seen T) →
+    IsTrue (is_lock_call call) → Learns (IsKept enterable limits first) id me (LoadTells limits call me)
 learns_load limits call id me lock s f = load_leaves limits s f.rule id me f.view call lock

@@ -1,6 +1,6 @@
 -- A seat that enters by a load keeps the rule: it knows the whole history and all values, and holds no mode.
 use Rattle.std.proofs.Common.{◌≡◌, ℕ, ◌+◌, [], ◌∷◌, ◌++◌, refl, sym, ◌∙◌, subst, ⊎_elim, append-nil, length}
-use Rattle.std.proofs.Common.{Bool, false, Some, arith}
+use Rattle.std.proofs.Common.{Bool, true, false, true≢false, Some, arith}
 use Rattle.std.proofs.lemmas.List.{map-append}
 use Rattle.std.specs.Prelude.{count_by}
 use mathlib.Core.Option.{some}
@@ -17,7 +17,7 @@ use Rattle.stamped_value.specs.inner.Held.{is_reading, is_writing}
 use Rattle.stamped_value.specs.inner.VersionRule.{IsKept, Fits, EnterTells, passes_of}
 use Rattle.stamped_value.proofs.Counted.{count_by-one}
 
-module _ {T : Type 0} {first : T} (limits : Bounds) (s : State T (ValueView T)) (r : IsKept limits first s) where
+module _ {T : Type 0} {first : T} (limits : Bounds) (s : State T (ValueView T)) (r : IsKept true limits first s) where
   abbrev newcomer : ValueView T
   newcomer = record { pass = entering r.roots tt r.log s.word; values = r.values; held = Free }
 
@@ -41,11 +41,12 @@ module _ {T : Type 0} {first : T} (limits : Bounds) (s : State T (ValueView T)) 
       count_by f (s.views ++ newcomer ∷ []) ≡ count_by f s.views
   uncounted f not = omega (arith, rw not at (count_by-one f s.views newcomer))
 
-  enters : IsKept limits first (record { word = s.word; home = s.home; views = s.views ++ newcomer ∷ [] })
+  enters : IsKept true limits first (record { word = s.word; home = s.home; views = s.views ++ newcomer ∷ [] })
   enters = record {
     log = r.log;
     values = r.values;
     roots = r.roots + 1;
+    one_root = λ shut. absurd (true≢false shut);
     legal = r.legal;
     represents = r.represents;
     passes = seated;
@@ -58,7 +59,7 @@ module _ {T : Type 0} {first : T} (limits : Bounds) (s : State T (ValueView T)) 
   }
 
 pub enters_by_load : {T : Type 0} (limits : Bounds) (first : T) →
-    Enters (IsKept limits first) (λ n w. EnterTells limits (Some first) w)
+    Enters (IsKept true limits first) (λ n w. EnterTells limits (Some first) w)
 enters_by_load limits first s r _ = (
   newcomer limits s r,
   enters limits s r,

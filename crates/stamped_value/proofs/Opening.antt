@@ -1,5 +1,5 @@
 -- A new guarded value: no history, the first value alone, and one seat, which holds no mode.
-use Rattle.std.proofs.Common.{ℕ, [], ◌∷◌, refl}
+use Rattle.std.proofs.Common.{Bool, ℕ, [], ◌∷◌, refl}
 use Rattle.lent_table.specs.Table.{opening}
 use Rattle.stamp_core.specs.Limits.{Bounds}
 use Rattle.stamp_machines.specs.LockNumber.{RepresentsAt}
@@ -16,12 +16,13 @@ use Rattle.stamped_value.specs.inner.VersionRule.{IsKept, Fits}
 abbrev pub first_view : {T : Type 0} → ValueView T
 first_view = record { pass = first_pass; values = []; held = Free }
 
-pub value_opens : {T : Type 0} (limits : Bounds) (word : ℕ) (x : T) → RepresentsAt limits word [] →
-    IsKept limits x (opening word (first_view {T = T}) x)
+pub value_opens : {T : Type 0} {enterable : Bool} (limits : Bounds) (word : ℕ) (x : T) →
+    RepresentsAt limits word [] → IsKept enterable limits x (opening word (first_view {T = T}) x)
 value_opens {T} limits word x represents = record {
   log = [];
   values = x ∷ [];
   roots = 1;
+  one_root = λ _. refl;
   legal = record { calls = tt; legal = tt };
   represents = represents;
   passes = stands_alone (IsPart every []) [] first_pass refl refl

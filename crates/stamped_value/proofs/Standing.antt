@@ -116,7 +116,7 @@ module _ {T : Type 0} where
     within = (obeys_now limits before well_formed).within
 
     -- what the seat had it has still when the call is made
-    had : HasHold v.0.held m.values v.1
+    pub had : HasHold v.0.held m.values v.1
     had = has_still limits range v.0.pass.known m.made.log v.0.values m.values stands.consistent.legal m.made.left.legal
         stands.are m.are m.begins v.0.held v.1 stands.matches m.matches stands.hold
 
@@ -126,11 +126,11 @@ module _ {T : Type 0} where
       known = m.made.known ∙
           ap (λ (r : Reply). m.made.log ++ entry v.0.pass.name (call, r) ∷ []) (sym same)
 
-      events : events_after limits w.0.pass.known ≡ before ++ t.appended
+      pub events : events_after limits w.0.pass.known ≡ before ++ t.appended
       events = ap (λ (l : LockLog). events_after limits l) known ∙
           events_longer limits m.made.log call v.0.pass.name t is
 
-      counted : counts (before ++ t.appended) ≡ after_events (counts before) t.appended
+      pub counted : counts (before ++ t.appended) ≡ after_events (counts before) t.appended
       counted = subst (λ (o : Option Transition). counts (before ++ appended_by o) ≡
           after_events (counts before) (appended_by o)) is (transition_counts limits before call range well_formed).1
 

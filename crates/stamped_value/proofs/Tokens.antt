@@ -60,3 +60,8 @@ last_written {T} values hold x y had last has =
 -- who reads is shown what it reads
 pub shown_read : {T : Type 0} (hold : Hold T) (x y : T) → hold ≡ reads x → value_of hold ≡ Some y → hold ≡ reads y
 shown_read hold x y has shown = let same : Some x ≡ Some y = sym (ap value_of has) ∙ shown in cc
+
+-- and so is who writes
+pub shown_written : {T : Type 0} (hold : Hold T) (x y : T) → hold ≡ writes x → value_of hold ≡ Some y →
+    hold ≡ writes y
+shown_written hold x y has shown = let same : Some x ≡ Some y = sym (ap value_of has) ∙ shown in cc

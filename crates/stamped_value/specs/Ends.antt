@@ -6,13 +6,28 @@ use Rattle.stamp_machines.specs.LockNumber.{RepresentsAt}
 use Rattle.stamp_threads.specs.LockLog.{LockLog, events_after, IsLegalLog}
 use Rattle.stamped_value.specs.Values.{HasValues, Opens, IsLastOf}
 
--- The last word represents a legal history, and there is a value for each of its versions, of which the
--- first is this one. Where no writer is left, x is the last of them
-pub record Ends {T : Type 0} (limits : Bounds) (first : T) (word : ℕ) (x : T) : Type 0 where
+-- The last word represents a legal history, and there is a value for each of its versions, of which the first is this
+-- one
+pub record Ends {T : Type 0} (limits : Bounds) (first : T) : Type 0 where
+  pub word : ℕ
   pub log : LockLog
   pub legal : IsLegalLog limits log
   pub represents : RepresentsAt limits word (events_after limits log)
   pub values : List T
   pub are : HasValues limits log values
   pub opens : Opens first values
-  pub last : writers (events_after limits log) ≡ 0 → IsLastOf values x
+
+-- how many writers are left
+abbrev pub writers_left : {T : Type 0} {limits : Bounds} {first : T} → Ends limits first → ℕ
+writers_left {T} {limits} ends = writers (events_after limits ends.log)
+
+-- no writer is left, and x is the last of the values
+pub record EndsWithLast {T : Type 0} (limits : Bounds) (first x : T) : Type 0 where
+  pub ends : Ends limits first
+  pub nobody : writers_left ends ≡ 0
+  pub last : IsLastOf ends.values x
+
+-- a writer is left
+pub record EndsWithWriter {T : Type 0} (limits : Bounds) (first : T) : Type 0 where
+  pub ends : Ends limits first
+  pub writer : writers_left ends ≡ 1

@@ -6,9 +6,13 @@ pub mod Outcomes
 pub mod ValueLock
 pub mod ValueCalls
 pub mod Releases
+pub mod Leaving
 pub mod Sections
+pub mod WriteIf
 pub mod Seated
 pub mod inner
 pub mod Ends
 pub mod OfStamp
+pub mod Asks
 pub mod Timed
+pub mod Met

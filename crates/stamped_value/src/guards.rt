@@ -1,16 +1,21 @@
 //! The guards of a guarded value.
 ghost use Rattle.std.specs.Prelude.{◌≡◌, IfOk, IfErr};
+ghost use types.Logic.{sem};
+ghost use Rattle.lent_table.specs.Table.{reads, writes};
 ghost use Rattle.stamp_core.specs.declared.call.Call.TheVariants.{UnlockWrite, UnlockRead, ToWrite, ToRead};
 ghost use Rattle.stamp_core.specs.declared.reply.Reply.TheVariants.{Stamp, Done};
 ghost use Rattle.stamped_value.specs.Held.{stamp_held};
+ghost use Rattle.stamped_value.specs.Leaving.{LeftReleased, LeftWritten, a_seat_left};
 ghost use Rattle.stamped_value.specs.Outcomes.{WritesLast, WritesWhatRead, ReadsWhatWritten, LeavesWhatWritten};
 ghost use Rattle.stamped_value.specs.ValueCalls.{Calls};
-ghost use Rattle.stamped_value.specs.Releases.{Releases, ReleasesWritten};
+ghost use Rattle.stamped_value.specs.Releases.{Releases, ReleasesWritten, ReleasesTo};
 ghost use Rattle.stamped_value.specs.declared.view.Held.TheVariants.{Reading, Writing};
 
+use crate::guarded::Guarded;
 use crate::handle::ValueHandle;
 use crate::steps::ValueSeat;
-use crate::value::StampedValue;
+use crate::view::ValueView;
+use lent_table::Left;
 use stamp_core::{Call, LockReply};
 use std::marker::Model;
 use std::sync::Wait;
@@ -22,7 +27,7 @@ use std::sync::Wait;
 /// releases read mode as `release` does.
 pub struct ReadGuard<'a, T, R: Wait> {
     pub(crate) rt: &'a R,
-    pub(crate) value: &'a StampedValue<T>,
+    pub(crate) value: &'a Guarded<T>,
     pub(crate) seat: ValueSeat<T>,
     pub(crate) stamp: u64,
 }
@@ -45,7 +50,7 @@ impl<'a, T, R: Wait> Model for ReadGuard<'a, T, R> {
 /// dropped, it releases write mode as `release` does.
 pub struct WriteGuard<'a, T, R: Wait> {
     pub(crate) rt: &'a R,
-    pub(crate) value: &'a StampedValue<T>,
+    pub(crate) value: &'a Guarded<T>,
     pub(crate) seat: ValueSeat<T>,
     pub(crate) stamp: u64,
 }
@@ -65,32 +70,20 @@ impl<'a, T, R: Wait> Model for WriteGuard<'a, T, R> {
 impl<T, R: Wait> Drop for ReadGuard<'_, T, R> {
     /// Releases read mode (`unlockRead`).
     fn drop(self)
-        ensures { Releases self.entry }
+        ensures released { Releases self.entry }
+        ensures* left { sem 𝓛 (a_seat_left T.row (LeftReleased self.entry)) }
     {
-        let Self {
-            rt,
-            value,
-            mut seat,
-            stamp,
-        } = self;
-        let _ = value.call(rt, &mut seat, Call::UnlockRead(stamp));
-        seat.leave();
+        self.leave().tell();
     }
 }
 
 impl<T, R: Wait> Drop for WriteGuard<'_, T, R> {
     /// Releases write mode (`unlockWrite`), and leaves what was written as the last value.
     fn drop(self)
-        ensures { ReleasesWritten self.entry }
+        ensures released { ReleasesWritten self.entry }
+        ensures* left { sem 𝓛 (a_seat_left T.row (LeftWritten self.entry)) }
     {
-        let Self {
-            rt,
-            value,
-            mut seat,
-            stamp,
-        } = self;
-        let _ = value.call(rt, &mut seat, Call::UnlockWrite(stamp));
-        seat.leave();
+        self.leave().tell();
     }
 }
 
@@ -115,6 +108,32 @@ impl<'a, T, R: Wait> ReadGuard<'a, T, R> {
         } = self;
         let _ = value.call(rt, &mut seat, Call::UnlockRead(stamp));
         ValueHandle { value, seat }
+    }
+
+    /// Releases read mode to an optimistic stamp (`tryConvertToOptimisticRead`), which it tells beside
+    /// the handle. The stamp is never 0, and stands for the value that was read: `is_last` tells by it
+    /// whether this still is the last one. It waits for nobody, and tries again where another thread
+    /// came between.
+    pub fn release_optimistic(self) -> (ValueHandle<'a, T>, u64)
+        ensures { (x : _) × (self.entry.me.1 ≡ reads x) × ReleasesTo result.1 x self.entry result.0 }
+    {
+        let ReadGuard {
+            rt,
+            value,
+            mut seat,
+            stamp,
+        } = self;
+        let LockReply::Stamp(new) = value.call(rt, &mut seat, Call::ToOptimistic(stamp)) else {
+            unreachable!()
+        };
+        (ValueHandle { value, seat }, new)
+    }
+
+    // Releases read mode, and gives up the seat.
+    fn leave(self) -> Left<ValueView<T>>
+        ensures { LeftReleased self.entry result }
+    {
+        self.release().leave()
     }
 
     /// Converts to write mode, where there is no other reader and a version is left
@@ -178,6 +197,32 @@ impl<'a, T, R: Wait> WriteGuard<'a, T, R> {
         } = self;
         let _ = value.call(rt, &mut seat, Call::UnlockWrite(stamp));
         ValueHandle { value, seat }
+    }
+
+    /// Releases write mode to an optimistic stamp (`tryConvertToOptimisticRead`), which it tells beside
+    /// the handle, and leaves what was written as the last value. The stamp is never 0, and stands for
+    /// this value: `is_last` tells by it whether it still is the last one. It waits for nobody, and
+    /// tries again where another thread came between.
+    pub fn release_optimistic(self) -> (ValueHandle<'a, T>, u64)
+        ensures { (x : _) × (self.entry.me.1 ≡ writes x) × ReleasesTo result.1 x self.entry result.0 }
+    {
+        let WriteGuard {
+            rt,
+            value,
+            mut seat,
+            stamp,
+        } = self;
+        let LockReply::Stamp(new) = value.call(rt, &mut seat, Call::ToOptimistic(stamp)) else {
+            unreachable!()
+        };
+        (ValueHandle { value, seat }, new)
+    }
+
+    // Releases write mode, and gives up the seat.
+    fn leave(self) -> Left<ValueView<T>>
+        ensures { LeftWritten self.entry result }
+    {
+        self.release().leave()
     }
 
     /// Converts to read mode (`tryConvertToReadLock`), with no writer between: the value is the one

@@ -1,16 +1,20 @@
 //! The handles of a guarded value.
 ghost use Rattle.std.specs.Prelude.{◌≡◌, IfOk, IfErr};
+ghost use types.Logic.{sem};
 ghost use Rattle.stamp_core.specs.declared.call.Call.TheVariants.{TryWrite, TryRead, WriteLock, ReadLock};
 ghost use Rattle.stamp_core.specs.declared.reply.Reply.TheVariants.{Stamp};
 ghost use Rattle.stamped_value.specs.Held.{stamp_held};
+ghost use Rattle.stamped_value.specs.Leaving.{IsLeft, a_seat_left};
 ghost use Rattle.stamped_value.specs.Outcomes.{WritesLast};
 ghost use Rattle.stamped_value.specs.Seated.{IsSeated};
 ghost use Rattle.stamped_value.specs.ValueCalls.{Calls};
 ghost use Rattle.stamped_value.specs.declared.view.Held.TheVariants.{Free};
 
+use crate::guarded::Guarded;
 use crate::guards::{ReadGuard, WriteGuard};
 use crate::steps::ValueSeat;
-use crate::value::StampedValue;
+use crate::view::ValueView;
+use lent_table::Left;
 use stamp_core::{Call, LockReply};
 use std::marker::Model;
 use std::sync::Wait;
@@ -20,7 +24,7 @@ use std::sync::Wait;
 ///
 /// It is seen as its lock, what it knows, and what it has of the value: nothing.
 pub struct ValueHandle<'a, T> {
-    pub(crate) value: &'a StampedValue<T>,
+    pub(crate) value: &'a Guarded<T>,
     pub(crate) seat: ValueSeat<T>,
 }
 
@@ -38,15 +42,26 @@ impl<'a, T> Model for ValueHandle<'a, T> {
 
 impl<T> Drop for ValueHandle<'_, T> {
     /// Leaves the lock.
-    fn drop(self) {
-        let Self { value: _, seat } = self;
-        seat.leave();
+    fn drop(self)
+        ensures* left { sem 𝓛 (a_seat_left T.row (IsLeft self.entry)) }
+    {
+        self.leave().tell();
+    }
+}
+
+impl<T> ValueHandle<'_, T> {
+    // Gives up the seat, as the handle knows it.
+    pub(crate) fn leave(self) -> Left<ValueView<T>>
+        ensures { IsLeft self.entry result }
+    {
+        let ValueHandle { value: _, seat } = self;
+        seat.leave()
     }
 }
 
 impl<'a, T> ValueHandle<'a, T> {
     /// Its lock and its seat, for the methods of other files.
-    pub(crate) fn into_parts(self) -> (&'a StampedValue<T>, ValueSeat<T>)
+    pub(crate) fn into_parts(self) -> (&'a Guarded<T>, ValueSeat<T>)
         ensures lock { result.0.now ≡ self.entry.lock }
         ensures me { result.1.me ≡ self.entry.me }
         ensures seated { IsSeated result.0.now Free result.1.table_id result.1.me }

@@ -48,8 +48,8 @@ impl<T, K: ValueRule<T>> Kept<T, K> {
 
     /// Runs the closure on the value. It leaves one that keeps to the rule.
     pub fn change<A, F: FnOnce(&mut T) -> A>(&mut self, f: F) -> A
-        requires may { (x : _) → K.holds x.now → F.pre f x }
-        requires keeps { (x : _) (a : A) (y : _) → K.holds x.now → F.post f x a y → K.holds y.now }
+        requires may { (x : _) → x.now ≡ self.old → K.holds x.now → F.pre f x }
+        requires keeps { (x : _) (a : A) (y : _) → x.now ≡ self.old → K.holds x.now → F.post f x a y → K.holds y.now }
         ensures rule { K.holds self.old × K.holds self.new }
         ensures changed { FnOnceReturnsAtMut F.FnOnce f self.old result self.new }
     {

@@ -5,11 +5,13 @@ use lent_table::{Play, TableRule};
 use stamp_core::{Call, Limits};
 use std::marker::{Brand, PhantomData};
 
-/// What the rule reads: the limits of the lock, and the first value.
+/// What the rule reads: the limits of the lock, whether seats may enter, and the first value.
 #[derive(Drop)]
 pub struct ValueKey<T> {
     /// The limits.
     pub limits: Limits,
+    /// Whether seats may enter. No code can ask it, so each call is proved for both.
+    pub enterable: bool,
     /// The first value.
     pub first: First<T>,
 }
@@ -23,7 +25,7 @@ impl<T> TableRule<T, ValueView<T>, ValueKey<T>> for VersionRule {
     ghost use Rattle.stamped_value.specs.declared.view.Held.TheVariants.{Free};
     ghost use Rattle.stamped_value.specs.inner.VersionRule.{IsKept};
 
-    ghost holds = { λ key. IsKept key.limits key.first.value };
+    ghost holds = { λ key. IsKept key.enterable key.limits key.first.value };
 
     // a seat that is yet to enter
     ghost first = { λ _. record { pass = first_pass; values = []; held = Free } };
@@ -71,6 +73,29 @@ impl<T> OpenStep<T> for Brand {
     ghost first = { None };
 }
 
+/// The limits of the lock, and what another seat knows, which the contract of a step speaks of that a seat makes
+/// beside it.
+pub trait BesideStep<T> {
+    ghost use Rattle.stamp_core.specs.Limits.{Bounds};
+    ghost use Rattle.stamped_value.specs.declared.view.ValueView.{ValueView};
+
+    ghost limits: { Bounds };
+
+    ghost other: { ValueView T };
+}
+
+impl<T> BesideStep<T> for Brand {
+    ghost use Rattle.std.specs.Prelude.{[]};
+    ghost use Rattle.stamp_core.specs.Limits.{bounds};
+    ghost use Rattle.stamp_core.specs.declared.layout.Layout.TheVariants.{One};
+    ghost use Rattle.stamp_threads.specs.LockPass.{first_pass};
+    ghost use Rattle.stamped_value.specs.declared.view.Held.TheVariants.{Free};
+
+    ghost limits = { bounds One 1 0 };
+
+    ghost other = { record { pass = first_pass; values = []; held = Free } };
+}
+
 /// A load of the word, by which a call may be made.
 pub struct LoadStep<C> {
     of: PhantomData<C>,
@@ -102,4 +127,26 @@ impl<T, C: OpenStep<T>> Play<T, ValueView<T>> for EnterStep<C> {
     ghost use Rattle.stamped_value.specs.inner.VersionRule.{EnterTells};
 
     ghost then = { λ _ _ _ w. EnterTells C.limits C.first w };
+}
+
+/// A load beside another seat, by which a seat comes to know all.
+pub struct MeetStep<C> {
+    of: PhantomData<C>,
+}
+
+impl<T, C: BesideStep<T>> Play<T, ValueView<T>> for MeetStep<C> {
+    ghost use Rattle.stamped_value.specs.inner.VersionRule.{MeetTells};
+
+    ghost then = { λ _ v _ w. MeetTells C.limits C.other v w };
+}
+
+/// A load beside another seat, by which a seat comes to know what the other knows.
+pub struct FollowStep<C> {
+    of: PhantomData<C>,
+}
+
+impl<T, C: BesideStep<T>> Play<T, ValueView<T>> for FollowStep<C> {
+    ghost use Rattle.stamped_value.specs.inner.VersionRule.{FollowTells};
+
+    ghost then = { λ _ v _ w. FollowTells C.other v w };
 }

@@ -1,7 +1,7 @@
 //! A value that keeps to a rule of the user's.
-ghost use Rattle.std.specs.Prelude.{◌≡◌, ℕ, IfOk, IfErr};
+ghost use Rattle.std.specs.Prelude.{◌≡◌, ◌⊎◌, IfOk, IfErr};
 ghost use Rattle.stamp_threads.specs.LockPass.{HasEntered};
-ghost use Rattle.stamped_value.specs.Ends.{Ends};
+ghost use Rattle.stamped_value.specs.Ends.{EndsWithLast, EndsWithWriter};
 ghost use Rattle.stamped_value.specs.Values.{HasValues, Opens};
 ghost use Rattle.stamped_value.specs.declared.view.Held.TheVariants.{Free};
 
@@ -66,12 +66,15 @@ impl<T, K: ValueRule<T>> RuledValue<T, K> {
     }
 
     /// The value, once all handles and guards are gone. It keeps to the rule, and is the last one
-    /// where no writer is left.
+    /// where no writer is left. None is, since sections release their mode and there is no writer's
+    /// guard to leak; but no contract says so.
     pub fn into_inner(self) -> T
         ensures rule { K.holds result }
-        ensures ends { (word : ℕ) × Ends self.limits self.first word result }
+        ensures ends { EndsWithLast self.limits self.first result ⊎ EndsWithWriter self.limits self.first }
     {
         let RuledValue { inner } = self;
-        inner.into_inner().into_value()
+        match inner.into_inner() {
+            Ok(kept) | Err(kept) => kept.into_value(),
+        }
     }
 }

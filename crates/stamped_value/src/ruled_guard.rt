@@ -1,17 +1,21 @@
 //! The guard of a value that keeps to a rule.
 ghost use Rattle.std.specs.Prelude.{◌≡◌};
+ghost use types.Logic.{sem};
 ghost use Rattle.lent_table.specs.Table.{reads};
 ghost use Rattle.stamp_core.specs.declared.call.Call.TheVariants.{UnlockRead};
 ghost use Rattle.stamp_core.specs.declared.reply.Reply.TheVariants.{Done};
 ghost use Rattle.stamped_value.specs.Held.{stamp_held};
+ghost use Rattle.stamped_value.specs.Leaving.{LeftReleased, a_seat_left};
 ghost use Rattle.stamped_value.specs.Values.{IsLastOf};
 ghost use Rattle.stamped_value.specs.ValueCalls.{Calls};
-ghost use Rattle.stamped_value.specs.Releases.{Releases};
+ghost use Rattle.stamped_value.specs.Releases.{Releases, ReleasesTo};
 ghost use Rattle.stamped_value.specs.declared.view.Held.TheVariants.{Reading};
 
 use crate::guards::ReadGuard;
 use crate::kept::{Kept, ValueRule};
 use crate::ruled_handle::RuledHandle;
+use crate::view::ValueView;
+use lent_table::Left;
 use std::marker::Model;
 use std::ops::Deref;
 use std::sync::Wait;
@@ -35,9 +39,10 @@ impl<'a, T, K: ValueRule<T>, R: Wait> Model for RuledReadGuard<'a, T, K, R> {
 impl<T, K: ValueRule<T>, R: Wait> Drop for RuledReadGuard<'_, T, K, R> {
     /// Releases read mode (`unlockRead`).
     fn drop(self)
-        ensures { Releases self.entry }
+        ensures released { Releases self.entry }
+        ensures* left { sem 𝓛 (a_seat_left T.row (LeftReleased self.entry)) }
     {
-        let Self { inner: _ } = self;
+        self.leave().tell();
     }
 }
 
@@ -73,5 +78,22 @@ impl<'a, T, K: ValueRule<T>, R: Wait> RuledReadGuard<'a, T, K, R> {
         RuledHandle {
             inner: inner.release(),
         }
+    }
+
+    // Releases read mode, and gives up the seat.
+    fn leave(self) -> Left<ValueView<Kept<T, K>>>
+        ensures { LeftReleased self.entry result }
+    {
+        self.release().leave()
+    }
+
+    /// Releases read mode to an optimistic stamp of the value that was read, as
+    /// `ReadGuard::release_optimistic` (`tryConvertToOptimisticRead`).
+    pub fn release_optimistic(self) -> (RuledHandle<'a, T, K>, u64)
+        ensures { (x : _) × (self.entry.me.1 ≡ reads x) × ReleasesTo result.1 x self.entry result.0 }
+    {
+        let Self { inner } = self;
+        let (inner, stamp) = inner.release_optimistic();
+        (RuledHandle { inner }, stamp)
     }
 }

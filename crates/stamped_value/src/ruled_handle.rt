@@ -1,20 +1,22 @@
 //! The handles of a value that keeps to a rule.
-ghost use Rattle.std.specs.Prelude.{◌≡◌, ◌≢◌, ℕ, [], ◌∷◌, IfOk, IfErr, IfSome, IsNone, IsTrue};
-ghost use Rattle.std.specs.Fn.{FnOnceReturnsAt, FnOnceReturnsAtMut};
-ghost use mathlib.Core.List.{IsPrefix};
-ghost use Rattle.stamp_core.specs.declared.call.Call.TheVariants.{TryRead, ReadLock, WriteLock, Optimistic, Validate};
-ghost use Rattle.stamp_core.specs.declared.reply.Reply.{Reply};
+ghost use Rattle.std.specs.Prelude.{◌≡◌, IfOk, IfErr, IfSome, IsNone, true};
+ghost use Rattle.std.specs.Fn.{FnReturnsAt, FnOnceReturnsAt, FnOnceReturnsAtMut};
+ghost use types.Logic.{sem};
+ghost use Rattle.stamp_core.specs.declared.call.Call.TheVariants.{TryRead, ReadLock, WriteLock};
 ghost use Rattle.stamp_core.specs.declared.reply.Reply.TheVariants.{Stamp};
-ghost use Rattle.stamp_threads.specs.PassView.{HasFound};
+ghost use Rattle.stamped_value.specs.Asks.{AsksIsLast, AsksStamp};
 ghost use Rattle.stamped_value.specs.Held.{stamp_held};
-ghost use Rattle.stamped_value.specs.ValueMade.{ValueMade};
-ghost use Rattle.stamped_value.specs.OfStamp.{IsOfLast, IsYesButForWriters};
+ghost use Rattle.stamped_value.specs.Leaving.{IsLeft, a_seat_left};
 ghost use Rattle.stamped_value.specs.Sections.{ReadSection, ReadsByStamp, WriteSection};
 ghost use Rattle.stamped_value.specs.ValueCalls.{Calls};
+ghost use Rattle.stamped_value.specs.WriteIf.{WriteIfSection};
 
 use crate::handle::ValueHandle;
 use crate::kept::{Kept, ValueRule};
 use crate::ruled_guard::RuledReadGuard;
+use crate::spent::Spent;
+use crate::view::ValueView;
+use lent_table::Left;
 use std::marker::Model;
 use std::sync::Wait;
 
@@ -36,8 +38,20 @@ impl<'a, T, K: ValueRule<T>> Model for RuledHandle<'a, T, K> {
 
 impl<T, K: ValueRule<T>> Drop for RuledHandle<'_, T, K> {
     /// Leaves the lock.
-    fn drop(self) {
-        let Self { inner: _ } = self;
+    fn drop(self)
+        ensures* left { sem 𝓛 (a_seat_left T.row (IsLeft self.entry)) }
+    {
+        self.leave().tell();
+    }
+}
+
+impl<T, K: ValueRule<T>> RuledHandle<'_, T, K> {
+    // Gives up the seat, as the handle knows it.
+    pub(crate) fn leave(self) -> Left<ValueView<Kept<T, K>>>
+        ensures { IsLeft self.entry result }
+    {
+        let RuledHandle { inner } = self;
+        inner.leave()
     }
 }
 
@@ -122,27 +136,52 @@ impl<'a, T, K: ValueRule<T>> RuledHandle<'a, T, K> {
         )
     }
 
+    /// Runs the second closure on the value in write mode, where the first answers true of it, as
+    /// `ValueHandle::write_if`: `None` where that answers false. Both may rely on the rule, and the
+    /// second on the test, too. It leaves a value that keeps the rule.
+    ///
+    /// It waits as `read_with` and `write_with` do. `Spent` where no version was left: the second
+    /// closure has not run, and nothing was changed.
+    pub fn write_if<A: Drop, R: Wait, P: Fn(&T) -> bool, F: FnOnce(&mut T) -> A>(
+        &mut self,
+        rt: &R,
+        test: P,
+        then: F,
+    ) -> Result<Option<A>, Spent>
+        requires test { (x : _) → K.holds x.now → P.pre test x }
+        requires then { (x : _) → K.holds x.now → FnReturnsAt P.Fn test x.now true → F.pre then x }
+        requires keeps { (x : _) (a : A) (y : _) →
+            K.holds x.now → FnReturnsAt P.Fn test x.now true → F.post then x a y → K.holds y.now }
+        ensures { WriteIfSection (λ yes x. K.holds x × FnReturnsAt P.Fn test x yes)
+            (λ a x y. K.holds x × K.holds y × FnOnceReturnsAtMut F.FnOnce then x a y) result self.old self.new }
+    {
+        self.inner.write_if(
+            rt,
+            |kept: &Kept<T, K>| -> bool
+                requires { (x : _) → K.holds x.now → P.pre test x }
+                ensures { K.holds kept.now × FnReturnsAt P.Fn test kept.now result }
+            { test(kept.get()) },
+            |kept: &mut Kept<T, K>| -> A
+                requires may { (x : _) → x.now ≡ kept.old → K.holds x.now → F.pre then x }
+                requires keeps { (x : _) (a : A) (y : _) →
+                    x.now ≡ kept.old → K.holds x.now → F.post then x a y → K.holds y.now }
+                ensures { K.holds kept.old × K.holds kept.new
+                    × FnOnceReturnsAtMut F.FnOnce then kept.old result kept.new }
+            { kept.change(then) },
+        )
+    }
+
     /// Whether the value that a read stamp or an optimistic stamp stands for is still the last one, as
     /// `ValueHandle::is_last`.
     pub fn is_last(&mut self, stamp: u64) -> bool
-        ensures lock { self.new.lock ≡ self.old.lock }
-        ensures once { (word : ℕ) × HasFound self.old.me.0.pass (word ∷ []) self.new.me.0.pass }
-        ensures answer { let limits = self.new.lock.limits in (reply : Reply)
-            × ValueMade limits (Validate stamp) reply self.old.me self.new.me
-            × IsYesButForWriters limits stamp reply result }
-        ensures begins { IsPrefix self.old.me.0.values self.new.me.0.values }
-        ensures last { IsTrue result → IsOfLast self.new.lock.limits self.new.me.0.values stamp }
+        ensures { AsksIsLast stamp result self.old self.new }
     {
         self.inner.is_last(stamp)
     }
 
     /// The optimistic stamp of the last value, as `ValueHandle::optimistic`; 0 where a writer is there.
     pub fn optimistic(&mut self) -> u64
-        ensures lock { self.new.lock ≡ self.old.lock }
-        ensures once { (word : ℕ) × HasFound self.old.me.0.pass (word ∷ []) self.new.me.0.pass }
-        ensures made { ValueMade self.new.lock.limits Optimistic (Stamp result) self.old.me self.new.me }
-        ensures begins { IsPrefix self.old.me.0.values self.new.me.0.values }
-        ensures last { result ≢ 0 → IsOfLast self.new.lock.limits self.new.me.0.values result }
+        ensures { AsksStamp result self.old self.new }
     {
         self.inner.optimistic()
     }

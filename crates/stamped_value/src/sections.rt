@@ -1,22 +1,24 @@
 //! Sections: a closure that reads or writes the value, between two calls of the lock.
 ghost use Rattle.std.specs.Prelude.{◌≡◌, IfSome, IsNone};
 ghost use Rattle.std.specs.Fn.{FnOnceReturnsAt, FnOnceReturnsAtMut};
+ghost use Rattle.lent_table.specs.Table.{writes};
 ghost use Rattle.stamp_core.specs.declared.call.Call.TheVariants.{WriteLock};
 ghost use Rattle.stamp_core.specs.declared.reply.Reply.TheVariants.{Stamp};
 ghost use Rattle.stamped_value.specs.Stands.{Stands};
-ghost use Rattle.stamped_value.specs.Sections.{ReadSection, ReadsByStamp, WriteSection};
+ghost use Rattle.stamped_value.specs.Outcomes.{WritesLast};
+ghost use Rattle.stamped_value.specs.Sections.{EndsWriting, ReadSection, ReadsByStamp, WriteSection};
 ghost use Rattle.stamped_value.specs.ValueCalls.{Calls};
 ghost use Rattle.stamped_value.specs.inner.ValueLock.{token};
 ghost use Rattle.stamped_value.specs.Seated.{IsSeated};
-ghost use Rattle.stamped_value.specs.declared.view.Held.TheVariants.{Free};
+ghost use Rattle.stamped_value.specs.declared.view.Held.TheVariants.{Free, Writing};
 
+use crate::guarded::Guarded;
 use crate::handle::ValueHandle;
 use crate::steps::ValueSeat;
-use crate::value::StampedValue;
 use stamp_core::{Call, LockReply};
 use std::sync::Wait;
 
-impl<T> StampedValue<T> {
+impl<T> Guarded<T> {
     fn read_section<A: Drop, R: Wait, F: FnOnce(&T) -> A>(
         &self,
         rt: &R,
@@ -57,9 +59,27 @@ impl<T> StampedValue<T> {
         if stamp == 0 {
             return None;
         }
+        Some(self.write_held(rt, seat, stamp, f))
+    }
+
+    /// Runs the closure in the write mode that the seat holds, and releases it.
+    pub(crate) fn write_held<A: Drop, R: Wait, F: FnOnce(&mut T) -> A>(
+        &self,
+        rt: &R,
+        seat: &mut ValueSeat<T>,
+        stamp: u64,
+        f: F,
+    ) -> A
+        requires call { (x : _) → seat.old.me.1 ≡ writes x.now → F.pre f x }
+        requires seated { IsSeated self.now (Writing stamp) seat.old.table_id seat.old.me }
+        requires last { WritesLast seat.old.me }
+        ensures seated { IsSeated self.now Free seat.new.table_id seat.new.me }
+        ensures ends { EndsWriting (λ x y. FnOnceReturnsAtMut F.FnOnce f x result y) stamp
+            (token self.now seat.old.me) (token self.now seat.new.me) }
+    {
         let answer = f(seat.value_mut(&self.table.shared));
         let _ = self.call(rt, seat, Call::UnlockWrite(stamp));
-        Some(answer)
+        answer
     }
 }
 

@@ -1,5 +1,5 @@
 //! The steps on the word of a guarded value, by the seats of its table.
-ghost use Rattle.std.specs.Prelude.{◌≡◌, IsTrue, Some};
+ghost use Rattle.std.specs.Prelude.{◌≡◌, IsTrue, Some, true};
 ghost use Rattle.stamp_core.specs.Call.{is_lock_call};
 ghost use Rattle.stamp_core.specs.Limits.{AreInRange};
 ghost use Rattle.stamp_core.specs.Word.{word_at};
@@ -8,12 +8,18 @@ ghost use Rattle.stamp_core.specs.declared.reply.Reply.{Reply};
 ghost use Rattle.lent_table.specs.Table.{step};
 ghost use Rattle.stamped_value.specs.Held.{HasHold};
 ghost use Rattle.stamped_value.specs.inner.Held.{MayCall};
-ghost use Rattle.stamped_value.specs.inner.VersionRule.{LoadTells, ExchangeTells, EnterTells};
+ghost use Rattle.stamped_value.specs.inner.VersionRule.{LoadTells, ExchangeTells, EnterTells, MeetTells, FollowTells};
+ghost use Rattle.stamped_value.specs.declared.view.Held.TheVariants.{Free};
 
-use crate::rule::{CallStep, EnterStep, ExchangeStep, LoadStep, OpenStep, ValueKey, VersionRule};
+use crate::rule::{
+    BesideStep, CallStep, EnterStep, ExchangeStep, FollowStep, LoadStep, MeetStep, OpenStep,
+    ValueKey, VersionRule,
+};
 use crate::view::ValueView;
 use lent_table::{Seat, Shared};
 use stamp_core::Call;
+use stamp_threads::Patience;
+use std::sync::Wait;
 
 /// The table of a guarded value.
 pub type ValueTable<T> = Shared<T, ValueView<T>, ValueKey<T>, VersionRule>;
@@ -63,9 +69,51 @@ pub fn exchange<T, C: CallStep>(
 /// A new seat, made by a load: its pass has the next root.
 pub fn enter<T, C: OpenStep<T>>(table: &ValueTable<T>) -> ValueSeat<T>
     requires step { (C.limits ≡ table.now.key.limits) × (C.first ≡ Some table.now.key.first.value) }
+    requires enterable { table.now.key.enterable ≡ true }
     ensures table { result.table_id ≡ table.now.table_id }
     ensures entered { EnterTells table.now.key.limits (Some table.now.key.first.value) result.me }
 {
     let (_, seat) = table.enter::<EnterStep<C>>();
     seat
+}
+
+/// Loads the word beside another seat. The seat then knows the whole history and all values, of which both
+/// knew a part.
+pub fn meet<T, C: BesideStep<T>>(
+    table: &ValueTable<T>,
+    seat: &mut ValueSeat<T>,
+    other: &mut ValueSeat<T>,
+)
+    requires step { (C.limits ≡ table.now.key.limits) × (C.other ≡ other.old.me.0) }
+    requires table { (seat.old.table_id ≡ table.now.table_id) × (other.old.table_id ≡ table.now.table_id) }
+    ensures table { seat.new.table_id ≡ table.now.table_id }
+    ensures met { MeetTells table.now.key.limits other.old.me.0 seat.old.me seat.new.me }
+    ensures other { other.new ≡ other.old }
+{
+    table.load_beside::<MeetStep<C>>(seat, other);
+}
+
+/// Loads the word beside another seat. The seat, which holds no mode, then knows just what the other does.
+pub fn follow<T, C: BesideStep<T>>(
+    table: &ValueTable<T>,
+    seat: &mut ValueSeat<T>,
+    other: &mut ValueSeat<T>,
+)
+    requires step { C.other ≡ other.old.me.0 }
+    requires table { (seat.old.table_id ≡ table.now.table_id) × (other.old.table_id ≡ table.now.table_id) }
+    requires free { seat.old.me.0.held ≡ Free }
+    ensures table { seat.new.table_id ≡ table.now.table_id }
+    ensures followed { FollowTells other.old.me.0 seat.old.me seat.new.me }
+    ensures other { other.new ≡ other.old }
+{
+    table.load_beside::<FollowStep<C>>(seat, other);
+}
+
+/// Rests after a load that found this word, on which a call waits. A sleep ends early where the low half of
+/// the word differs by then.
+pub fn rest<T, R: Wait>(rt: &R, table: &ValueTable<T>, patience: &mut Patience, found: u64) {
+    if let Some(nap) = patience.nap() {
+        // The sleep compares no more bits than these. Each single change of the word changes them.
+        table.park_timeout(rt, (found & 0xffff_ffff) as u32, nap);
+    }
 }

@@ -12,10 +12,10 @@ ghost use Rattle.stamped_value.specs.ValueCalls.{Calls};
 ghost use Rattle.stamped_value.specs.inner.ValueLock.{token};
 ghost use Rattle.stamped_value.specs.declared.view.Held.TheVariants.{Free};
 
+use crate::guarded::Guarded;
 use crate::guards::{ReadGuard, WriteGuard};
 use crate::handle::ValueHandle;
 use crate::steps::ValueSeat;
-use crate::value::StampedValue;
 use stamp_core::{Call, LockReply};
 use std::sync::Wait;
 use std::time::{Clock, Duration, Instant};
@@ -90,7 +90,7 @@ impl<'a, T> ValueHandle<'a, T> {
     }
 }
 
-impl<T> StampedValue<T> {
+impl<T> Guarded<T> {
     /// Makes the call until it answers a stamp. It answers no stamp where the time is over, or the
     /// clock fails.
     fn try_for<R: Wait + Clock>(

@@ -83,3 +83,13 @@ fn what_is_written_through_a_guard_is_there_at_once(rt: HostRuntime) -> Result<(
     assert!(rt; *handle.read(&rt) == 7);
     Ok(())
 }
+
+#[test]
+fn a_dropped_reader_uses_no_version(rt: HostRuntime) -> Result<(), Fail> {
+    let value = made(rt.alloc(), 7u64)?;
+    let mut handle = value.enter();
+    let stamp = handle.optimistic();
+    drop(read_at_once(&rt, value.enter())?);
+    assert!(rt; handle.is_last(stamp));
+    Ok(())
+}

@@ -32,6 +32,14 @@ pub fn made<T: Drop>(alloc: Global, value: T) -> Result<StampedValue<T>, Fail> {
     }
 }
 
+/// The last value; the test fails where a writer is left.
+pub fn last_of<T: Drop>(value: StampedValue<T>) -> Result<T, Fail> {
+    match value.into_inner() {
+        Ok(value) => Ok(value),
+        Err(_) => Err(Fail::from("a writer is left")),
+    }
+}
+
 /// The writer's guard; the test fails where no version is left.
 pub fn writing<'a, T, R: Wait>(
     rt: &'a R,

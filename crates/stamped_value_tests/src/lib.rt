@@ -4,11 +4,15 @@
 #[cfg(test)]
 mod drop_tests;
 #[cfg(test)]
+mod ends_tests;
+#[cfg(test)]
 mod fixtures;
 #[cfg(test)]
 mod guard_tests;
 #[cfg(test)]
 mod limits_tests;
+#[cfg(test)]
+mod meet_tests;
 #[cfg(test)]
 mod memory_tests;
 #[cfg(test)]
@@ -23,3 +27,5 @@ mod thread_tests;
 mod ticking;
 #[cfg(test)]
 mod timed_tests;
+#[cfg(test)]
+mod write_if_tests;

@@ -1,6 +1,6 @@
 //! Locks of few readers and versions, in both layouts.
 use crate::fixtures::{made_in, read_at_once, refused_reader, refused_writer, writing};
-use stamp_core::Layout;
+use stamp_core::{Layout, Limits};
 use std::test::Fail;
 
 #[test]
@@ -44,7 +44,29 @@ fn without_a_version_a_writer_is_refused_and_its_handle_reads(rt: HostRuntime) -
         };
         assert!(rt; *reader == 8);
         reader.release();
-        assert!(rt; value.into_inner() == 8);
+        assert!(rt; value.into_inner() == Ok(8));
+    }
+    Ok(())
+}
+
+#[test]
+fn a_lock_of_the_widest_limits_is_made_and_a_sole_reader_becomes_the_writer(
+    rt: HostRuntime,
+) -> Result<(), Fail> {
+    for layout in [Layout::One, Layout::Two] {
+        let widest = Limits::widest(layout);
+        let value = made_in(
+            rt.alloc(),
+            layout,
+            (widest.readers(), widest.versions()),
+            7u64,
+        )?;
+        let Ok(mut writer) = read_at_once(&rt, value.enter())?.upgrade() else {
+            return Err(Fail::from("a sole reader is refused"));
+        };
+        *writer = 8;
+        writer.release();
+        assert!(rt; value.into_inner() == Ok(8));
     }
     Ok(())
 }

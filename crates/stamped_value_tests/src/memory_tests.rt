@@ -1,7 +1,8 @@
 //! Values that have memory of their own, and when they are dropped. A sanitizer sees what is freed twice.
-use crate::fixtures::{made, writing};
+use crate::fixtures::{last_of, made, writing};
 use stamped_value::StampedValue;
 use std::alloc::Global;
+use std::mem;
 use std::sync::Wait;
 use std::sync::atomic::{AtomicU64, Ordering};
 use std::test::Fail;
@@ -20,9 +21,9 @@ fn two_words<R: Wait>(rt: &R, alloc: Global) -> Result<StampedValue<Words>, Fail
 
 #[test]
 fn the_last_value_comes_out(rt: HostRuntime) -> Result<(), Fail> {
-    let words = two_words(&rt, rt.alloc())?.into_inner();
+    let words = last_of(two_words(&rt, rt.alloc())?)?;
     assert!(rt; words.len() == 2 && words[0].as_str() == "first" && words[1].as_str() == "second");
-    assert!(rt; made(rt.alloc(), 7u64)?.into_inner() == 7);
+    assert!(rt; made(rt.alloc(), 7u64)?.into_inner() == Ok(7));
     Ok(())
 }
 
@@ -55,7 +56,23 @@ fn a_value_is_dropped_once_with_its_lock(rt: HostRuntime) -> Result<(), Fail> {
 #[test]
 fn a_value_that_comes_out_is_not_dropped_with_its_lock(rt: HostRuntime) -> Result<(), Fail> {
     let drops = AtomicU64::new(0);
-    let value = made(rt.alloc(), Counted { drops: &drops })?.into_inner();
+    let value = last_of(made(rt.alloc(), Counted { drops: &drops })?)?;
+    assert!(rt; drops.load(Ordering::SeqCst) == 0);
+    drop(value);
+    assert!(rt; drops.load(Ordering::SeqCst) == 1);
+    Ok(())
+}
+
+#[test]
+fn the_value_of_a_forgotten_writer_comes_out_and_is_dropped_once(
+    rt: HostRuntime,
+) -> Result<(), Fail> {
+    let drops = AtomicU64::new(0);
+    let value = made(rt.alloc(), Counted { drops: &drops })?;
+    mem::forget(writing(&rt, value.enter())?);
+    let Err(value) = value.into_inner() else {
+        return Err(Fail::from("no writer is left"));
+    };
     assert!(rt; drops.load(Ordering::SeqCst) == 0);
     drop(value);
     assert!(rt; drops.load(Ordering::SeqCst) == 1);

@@ -24,3 +24,20 @@ fn the_value_of_a_stamp_is_the_last_until_a_writer_comes(rt: HostRuntime) -> Res
     }
     Ok(())
 }
+
+#[test]
+fn a_guard_is_released_to_the_optimistic_stamp_of_its_value(rt: HostRuntime) -> Result<(), Fail> {
+    for (layout, [first, next]) in [(Layout::One, [256, 512]), (Layout::Two, [131_072, 262_144])] {
+        let value = made_in(rt.alloc(), layout, (2, 1), 7u64)?;
+        let other = read_at_once(&rt, value.enter())?;
+        let (mut handle, stamp) = read_at_once(&rt, value.enter())?.release_optimistic();
+        assert!(rt; stamp == first && handle.is_last(stamp));
+        other.release();
+        let mut writer = write_at_once(&rt, handle)?;
+        *writer = 8;
+        let (mut handle, stamp) = writer.release_optimistic();
+        assert!(rt; stamp == next && handle.is_last(stamp) && !handle.is_last(first));
+        assert!(rt; *read_at_once(&rt, handle)? == 8);
+    }
+    Ok(())
+}

@@ -2,8 +2,9 @@
 ghost use Rattle.std.specs.Prelude.{◌≤◌};
 
 use stamp_core::{Layout, Limits};
-use stamped_value::{RuledHandle, RuledReadGuard, RuledValue, ValueRule};
+use stamped_value::{RuledHandle, RuledReadGuard, RuledValue, Spent, ValueRule};
 use std::alloc::Global;
+use std::mem;
 use std::sync::Wait;
 use std::test::Fail;
 
@@ -89,6 +90,61 @@ fn without_a_version_no_section_writes(rt: HostRuntime) -> Result<(), Fail> {
     Ok(())
 }
 
+/// Adds one where the number is below the bound: what it was. By the rule and the test the sum keeps the rule.
+fn add_below<R: Wait>(
+    rt: &R,
+    handle: &mut RuledHandle<'_, u64, TenAtMost>,
+    bound: u64,
+) -> Result<Option<u64>, Spent>
+    requires { bound ≤ 10 }
+{
+    handle.write_if(
+        rt,
+        |n: &u64| *n < bound,
+        |n: &mut u64| {
+            let old = *n;
+            *n = old + 1;
+            old
+        },
+    )
+}
+
+#[test]
+fn a_section_relies_on_its_test_and_the_rule_where_it_writes(rt: HostRuntime) -> Result<(), Fail> {
+    for layout in [Layout::One, Layout::Two] {
+        let value = ruled_in(rt.alloc(), layout, 2, 8)?;
+        let mut handle = value.enter();
+        assert!(rt; add_below(&rt, &mut handle, 8) == Ok(None));
+        assert!(rt; add_below(&rt, &mut handle, 10) == Ok(Some(8)));
+        assert!(rt; add_below(&rt, &mut handle, 10) == Ok(Some(9)));
+        assert!(rt; add_below(&rt, &mut handle, 10) == Ok(None));
+        drop(handle);
+        assert!(rt; value.into_inner() == 10);
+    }
+    Ok(())
+}
+
+#[test]
+fn without_a_version_a_section_tests_and_does_not_write(rt: HostRuntime) -> Result<(), Fail> {
+    for layout in [Layout::One, Layout::Two] {
+        let value = ruled_in(rt.alloc(), layout, 1, 7)?;
+        let mut handle = value.enter();
+        assert!(rt; add_below(&rt, &mut handle, 9) == Ok(Some(7)));
+        assert!(rt; add_below(&rt, &mut handle, 9) == Err(Spent));
+        assert!(rt; add_below(&rt, &mut handle, 8) == Ok(None));
+        assert!(rt; handle.read_with(&rt, |n: &u64| *n) == 8);
+    }
+    Ok(())
+}
+
+#[test]
+fn where_a_reader_was_forgotten_the_last_value_comes_out(rt: HostRuntime) -> Result<(), Fail> {
+    let value = ruled_in(rt.alloc(), Layout::One, 9, 7)?;
+    mem::forget(value.enter().read(&rt));
+    assert!(rt; 10 - value.into_inner() == 3);
+    Ok(())
+}
+
 #[test]
 fn guards_read_side_by_side_and_are_released(rt: HostRuntime) -> Result<(), Fail> {
     let value = ruled_in(rt.alloc(), Layout::One, 9, 7)?;
@@ -129,6 +185,16 @@ fn the_stamp_of_a_section_is_of_the_last_value_until_a_writer_comes(
     assert!(rt; room == 3 && handle.is_last(stamp));
     assert!(rt; handle.write_with(&rt, |n: &mut u64| *n = 8) == Some(()));
     assert!(rt; !handle.is_last(stamp) && !handle.is_last(256) && handle.optimistic() == 512);
+    Ok(())
+}
+
+#[test]
+fn a_guard_is_released_to_the_optimistic_stamp_of_its_value(rt: HostRuntime) -> Result<(), Fail> {
+    let value = ruled_in(rt.alloc(), Layout::One, 9, 7)?;
+    let (mut handle, stamp) = value.enter().read(&rt).release_optimistic();
+    assert!(rt; stamp == 256 && handle.is_last(stamp));
+    assert!(rt; handle.write_with(&rt, |n: &mut u64| *n = 8) == Some(()));
+    assert!(rt; !handle.is_last(stamp));
     Ok(())
 }
 

@@ -56,7 +56,7 @@ fn threads_lose_no_write_and_no_reader_sees_the_number_fall(rt: HostRuntime) -> 
         },
     );
     assert!(rt; added == (2_000, 2_000) && risen == (true, true));
-    assert!(rt; value.into_inner() == 4_000);
+    assert!(rt; value.into_inner() == Ok(4_000));
     Ok(())
 }
 
@@ -123,6 +123,6 @@ fn a_writer_waits_for_the_reader_who_reads_on(rt: HostRuntime) -> Result<(), Fai
         || write_late(&rt, value.enter(), 8, &both),
         || read_and_leave(&rt, reader, &both),
     );
-    assert!(rt; (replaced, read, value.into_inner()) == (Some(7), 7, 8));
+    assert!(rt; (replaced, read, value.into_inner()) == (Some(7), 7, Ok(8)));
     Ok(())
 }

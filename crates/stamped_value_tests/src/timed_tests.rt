@@ -142,7 +142,7 @@ fn a_writer_that_finds_no_version_left_gives_up(rt: HostRuntime) -> Result<(), F
 
 /// By how many nanoseconds the clock goes on at each reading, for how many a call tries while the holder stays, and
 /// how often it has read the clock when it gives up.
-const FINE_ROWS: [(u64, u64, u64); 7] = [
+const FINE_ROWS: [(u64, u64, u64); 8] = [
     (1_000_000, 1_500_000, 3),
     (1_000_000, 1_000_001, 3),
     (1_000_000, 1_000_000, 2),
@@ -150,6 +150,8 @@ const FINE_ROWS: [(u64, u64, u64); 7] = [
     (1, 3, 4),
     (700_000_000, 1_500_000_000, 4),
     (999_999_999, 1_000_000_000, 3),
+    // For a day, by a clock that goes on an hour.
+    (3_600_000_000_000, 86_400_000_000_000, 25),
 ];
 
 #[test]

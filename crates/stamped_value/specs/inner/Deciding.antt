@@ -5,6 +5,8 @@ use Rattle.stamp_core.specs.Limits.{Bounds}
 use Rattle.stamp_core.specs.declared.call.Call.{Call}
 use Rattle.stamp_threads.specs.inner.GoesAsMachine as passes
 use Rattle.stamped_value.specs.ValueMade.{Seen}
+use Rattle.stamped_value.specs.Stands.{Stands}
+use Rattle.stamped_value.specs.inner.Held.{MayCall}
 use Rattle.stamped_value.specs.inner.VersionRule.{LoadTells}
 
 module _ {T : Type 0} where
@@ -21,3 +23,9 @@ module _ {T : Type 0} where
     pub before : Seen T
     pub still : HoldsStill v before
     pub tells : LoadTells limits call before found w
+
+  -- the call is to decide on this word, and the seat stood when it began, in a mode that allows the call
+  pub record IsUnderWay (limits : Bounds) (call : Call) (v : Seen T) (found : ℕ) (w : Seen T) : Type 0 where
+    pub to_decide : IsToDecide limits call v found w
+    pub stands : Stands limits v
+    pub may : MayCall call v.0.held

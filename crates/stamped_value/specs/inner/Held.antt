@@ -1,8 +1,8 @@
 -- What a seat of a guarded value may ask of the lock by the mode that it holds.
-use Rattle.std.specs.Prelude.{◌≡◌, Bool, true, false}
+use Rattle.std.specs.Prelude.{◌≡◌, ◌⊎◌, Bool, true, false}
 use Rattle.stamp_core.specs.declared.call.Call.{Call}
 use Rattle.stamp_core.specs.declared.call.Call.TheVariants.{TryWrite, TryRead, WriteLock, ReadLock, Optimistic, Validate}
-use Rattle.stamp_core.specs.declared.call.Call.TheVariants.{UnlockWrite, UnlockRead, ToWrite, ToRead}
+use Rattle.stamp_core.specs.declared.call.Call.TheVariants.{UnlockWrite, UnlockRead, ToWrite, ToRead, ToOptimistic}
 use Rattle.stamp_core.specs.declared.call.Call.TheVariants.{IsWriteLocked, IsReadLocked, ReadCount}
 use Rattle.stamped_value.specs.declared.view.Held.{Held}
 use Rattle.stamped_value.specs.declared.view.Held.TheVariants.{Free, Reading, Writing}
@@ -18,6 +18,7 @@ MayCall (UnlockWrite s) held = held ≡ Writing s
 MayCall (UnlockRead s) held = held ≡ Reading s
 MayCall (ToWrite s) held = held ≡ Reading s
 MayCall (ToRead s) held = held ≡ Writing s
+MayCall (ToOptimistic s) held = (held ≡ Reading s) ⊎ (held ≡ Writing s)
 MayCall Optimistic held = Unit {0}
 MayCall (Validate s) held = Unit {0}
 MayCall IsWriteLocked held = Unit {0}

@@ -1,5 +1,5 @@
 -- The rule of a guarded value, and what each step on its word tells.
-use Rattle.std.specs.Prelude.{◌≡◌, ◌≢◌, ℕ, ◌==◌, MatchBool, Option, IfSome, List, [], ◌∷◌, map, count_by}
+use Rattle.std.specs.Prelude.{◌≡◌, ◌≢◌, ℕ, ◌==◌, Bool, false, MatchBool, Option, IfSome, List, [], ◌∷◌, map, count_by}
 use mathlib.Core.List.{IsPrefix}
 use mathlib.Core.Option as maybe
 use lib.ListN.{get_elem?}
@@ -9,6 +9,7 @@ use Rattle.stamp_core.specs.LockEvent.{Counts, counts, readers, writers}
 use Rattle.stamp_core.specs.declared.call.Call.{Call}
 use Rattle.stamp_machines.specs.LockNumber.{RepresentsAt}
 use Rattle.stamp_threads.specs.PassView.{IsPart, every}
+use Rattle.stamp_threads.specs.inner.PassView.{knowing}
 use Rattle.stamp_threads.specs.inner.Seats.{AreSeated}
 use Rattle.stamp_threads.specs.inner.LockRule.{Loaded, Won}
 use Rattle.stamp_threads.specs.LockLog.{LockLog, events_after, transition_after, IsLegalLog}
@@ -35,11 +36,13 @@ module _ {T : Type 0} where
   passes_of views = map (λ v. v.pass ∷ []) views
 
   -- There is one legal history, whose events the word represents, and a value for each of its versions, of which the
-  -- first is this one and the last is the value. The modes that are held are those that seats hold
-  pub record IsKept (limits : Bounds) (first : T) (s : State T (ValueView T)) : Type 0 where
+  -- first is this one and the last is the value. The modes that are held are those that seats hold. Where seats may not
+  -- enter, the first one is the only root
+  pub record IsKept (enterable : Bool) (limits : Bounds) (first : T) (s : State T (ValueView T)) : Type 0 where
     pub log : LockLog
     pub values : List T
     pub roots : ℕ
+    pub one_root : enterable ≡ false → roots ≡ 1
     pub legal : IsLegalLog limits log
     pub represents : RepresentsAt limits s.word (events_after limits log)
     pub passes : AreSeated (IsPart every log) roots log (passes_of s.views)
@@ -77,3 +80,19 @@ module _ {T : Type 0} where
     pub are : HasValues limits w.0.pass.known w.0.values
     pub opens : IfSome first (λ x. Opens x w.0.values)
     pub free : (w.0.held ≡ Free) × (w.1 ≡ none)
+
+  -- A load beside another seat, which knows u. The seat then knows the whole history and all values, of which both knew
+  -- a part, under names of their own, and holds what it held
+  pub record MeetTells (limits : Bounds) (u : ValueView T) (v w : Seen T) : Type 0 where
+    pub pass : w.0.pass ≡ knowing v.0.pass w.0.pass.known
+    pub legal : IsLegalLog limits w.0.pass.known
+    pub parts : IsPart every w.0.pass.known v.0.pass × IsPart every w.0.pass.known u.pass
+    pub apart : v.0.pass.name ≢ u.pass.name
+    pub begin : IsPrefix v.0.values w.0.values × IsPrefix u.values w.0.values
+    pub are : HasValues limits w.0.pass.known w.0.values
+    pub same : (w.0.held ≡ v.0.held) × (w.1 ≡ v.1)
+
+  -- a load beside another seat, which knows u: the seat then knows just what the other does, and holds what it held
+  abbrev pub FollowTells : ValueView T → Seen T → Seen T → Type 0
+  FollowTells u v w =
+      w ≡ (record { pass = knowing v.0.pass u.pass.known; values = u.values; held = v.0.held }, v.1)

@@ -1,5 +1,10 @@
+use Rattle.std.proofs.Common.{rules}
 use Rattle.stamped_value.proofs.Validating.{observed}
 use Rattle.stamped_value.proofs.handle.ValueHandle.optimistic.Goals as goal
 
-pub returns-clause-last : goal.returns-clause-last
-returns-clause-last g c some = observed _ _ _ _ c.ask.ensures.range c.in-Stamp.ensures.made some
+pub returns : goal.returns
+returns g c = record {
+  asks = record { lock = search rules; once = search rules; begins = search rules };
+  made = search rules;
+  last = λ some. observed _ _ _ _ c.ask.ensures.range c.in-Stamp.ensures.made some;
+}

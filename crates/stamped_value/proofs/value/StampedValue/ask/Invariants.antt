@@ -1,4 +1,0 @@
-use Rattle.stamped_value.proofs.value.StampedValue.ask.Given as goal
-
-abbrev pub ghosts-load : goal.ghosts-load
-ghosts-load g a = record { limits = a.table.now.key.limits; call = a.call.now }
