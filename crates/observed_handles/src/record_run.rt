@@ -6,8 +6,8 @@ use std::alloc::AllocError;
 use std::sync::Wait;
 use std::thread::yield_now;
 
-/// A thread's recorder of the record's calls.
-pub type RecordRecorder<'a> = Recorder<'a, RecordHandle<'a, WIDTH, AnyContent>>;
+/// A thread's handle of the record.
+pub type RowHandle<'a> = RecordHandle<'a, WIDTH, AnyContent>;
 
 /// The words of which each is one more.
 fn one_more(row: Row) -> Row {
@@ -15,59 +15,67 @@ fn one_more(row: Row) -> Row {
 }
 
 /// Gets the words, and puts a number that no other put has.
-fn put<R: Wait>(rt: &R, recorder: &mut RecordRecorder<'_>) -> Result<(), AllocError> {
+fn put<R: Wait>(
+    rt: &R,
+    recorder: &mut Recorder<'_>,
+    record: &mut RowHandle<'_>,
+) -> Result<(), AllocError> {
     let begun = recorder.begin();
-    let row = recorder.handle.get(rt);
+    let row = record.get(rt);
     recorder.end(begun, Call::Get, row)?;
     let begun = recorder.begin();
     let row = [begun; WIDTH];
-    let done = recorder.handle.put(rt, row);
+    let done = record.put(rt, row);
     let _ = recorder.end(begun, Call::Put(words_of(row)), done)?;
     Ok(())
 }
 
 /// As `put`, by calls that are tried once.
-fn put_once(recorder: &mut RecordRecorder<'_>) -> Result<(), AllocError> {
+fn put_once(recorder: &mut Recorder<'_>, record: &mut RowHandle<'_>) -> Result<(), AllocError> {
     let begun = recorder.begin();
-    let row = recorder.handle.get_once();
+    let row = record.get_once();
     let _ = recorder.end(begun, Call::Get, row)?;
     let begun = recorder.begin();
     let row = [begun; WIDTH];
-    let done = recorder.handle.put_once(row);
+    let done = record.put_once(row);
     let _ = recorder.end(begun, Call::Put(words_of(row)), done)?;
     Ok(())
 }
 
 /// Gets the words, and puts one more of each if the record still holds them.
-fn put_if<R: Wait>(rt: &R, recorder: &mut RecordRecorder<'_>) -> Result<(), AllocError> {
+fn put_if<R: Wait>(
+    rt: &R,
+    recorder: &mut Recorder<'_>,
+    record: &mut RowHandle<'_>,
+) -> Result<(), AllocError> {
     let begun = recorder.begin();
-    let old = recorder.handle.get(rt);
+    let old = record.get(rt);
     let old = recorder.end(begun, Call::Get, old)?;
     yield_now();
     let new = one_more(old);
     let begun = recorder.begin();
-    let done = recorder.handle.put_if(rt, old, new);
+    let done = record.put_if(rt, old, new);
     let _ = recorder.end(begun, Call::PutIf(words_of(old), words_of(new)), done)?;
     Ok(())
 }
 
 /// As `put_if`, by calls that are tried once.
-fn put_if_once(recorder: &mut RecordRecorder<'_>) -> Result<(), AllocError> {
+fn put_if_once(recorder: &mut Recorder<'_>, record: &mut RowHandle<'_>) -> Result<(), AllocError> {
     let begun = recorder.begin();
-    let old = recorder.handle.get_once();
+    let old = record.get_once();
     let Ok(old) = recorder.end(begun, Call::Get, old)? else {
         return Ok(());
     };
     let new = one_more(old);
     let begun = recorder.begin();
-    let done = recorder.handle.put_if_once(old, new);
+    let done = record.put_if_once(old, new);
     let _ = recorder.end(begun, Call::PutIf(words_of(old), words_of(new)), done)?;
     Ok(())
 }
 
 /// Keeps an update that gave these old words, if it was made. It is a put_if of them, which put the new ones.
 fn end_update(
-    recorder: &mut RecordRecorder<'_>,
+    recorder: &mut Recorder<'_>,
     begun: u64,
     updated: Option<Row>,
 ) -> Result<(), AllocError> {
@@ -79,9 +87,13 @@ fn end_update(
 }
 
 /// Adds one to each word. Others may put while the closure runs, and then it runs again.
-fn update<R: Wait>(rt: &R, recorder: &mut RecordRecorder<'_>) -> Result<(), AllocError> {
+fn update<R: Wait>(
+    rt: &R,
+    recorder: &mut Recorder<'_>,
+    record: &mut RowHandle<'_>,
+) -> Result<(), AllocError> {
     let begun = recorder.begin();
-    let updated = recorder.handle.update(rt, |row: &Row| -> Row {
+    let updated = record.update(rt, |row: &Row| -> Row {
         yield_now();
         one_more(*row)
     });
@@ -89,18 +101,20 @@ fn update<R: Wait>(rt: &R, recorder: &mut RecordRecorder<'_>) -> Result<(), Allo
 }
 
 /// As `update`, by a call that is tried once.
-fn update_once(recorder: &mut RecordRecorder<'_>) -> Result<(), AllocError> {
+fn update_once(recorder: &mut Recorder<'_>, record: &mut RowHandle<'_>) -> Result<(), AllocError> {
     let begun = recorder.begin();
-    let updated = recorder
-        .handle
-        .update_once(|row: &Row| -> Row { one_more(*row) });
+    let updated = record.update_once(|row: &Row| -> Row { one_more(*row) });
     end_update(recorder, begun, updated.ok())
 }
 
 /// Adds one to each word, unless the first is even: such an update makes no call.
-fn try_update<R: Wait>(rt: &R, recorder: &mut RecordRecorder<'_>) -> Result<(), AllocError> {
+fn try_update<R: Wait>(
+    rt: &R,
+    recorder: &mut Recorder<'_>,
+    record: &mut RowHandle<'_>,
+) -> Result<(), AllocError> {
     let begun = recorder.begin();
-    let updated = recorder.handle.try_update(rt, |row: &Row| -> Option<Row> {
+    let updated = record.try_update(rt, |row: &Row| -> Option<Row> {
         (row[0] % 2 == 1).then(|| one_more(*row))
     });
     end_update(recorder, begun, updated.ok())
@@ -109,16 +123,17 @@ fn try_update<R: Wait>(rt: &R, recorder: &mut RecordRecorder<'_>) -> Result<(), 
 /// Makes calls of the record; which ones, the number decides.
 pub fn use_record<R: Wait>(
     rt: &R,
-    recorder: &mut RecordRecorder<'_>,
+    recorder: &mut Recorder<'_>,
+    record: &mut RowHandle<'_>,
     number: u64,
 ) -> Result<(), AllocError> {
     match number % 7 {
-        0 => put(rt, recorder),
-        1 => put_once(recorder),
-        2 => put_if(rt, recorder),
-        3 => put_if_once(recorder),
-        4 => update(rt, recorder),
-        5 => update_once(recorder),
-        _ => try_update(rt, recorder),
+        0 => put(rt, recorder, record),
+        1 => put_once(recorder, record),
+        2 => put_if(rt, recorder, record),
+        3 => put_if_once(recorder, record),
+        4 => update(rt, recorder, record),
+        5 => update_once(recorder, record),
+        _ => try_update(rt, recorder, record),
     }
 }

@@ -1,6 +1,6 @@
-//! A recorder: a handle whose calls are kept, each with a ticket taken before it and one after it.
-ghost use Rattle.std.specs.Prelude.{◌≡◌, [], IfOk, OnErr};
-ghost use Rattle.observed_handles.specs.Recorder.{WasKept};
+//! A recorder: it keeps a thread's calls, each with a ticket taken before it and one after it.
+ghost use Rattle.std.specs.Prelude.{◌≡◌, [], ◌∷◌, ◌++◌, IfOk, OnErr};
+ghost use Rattle.observed_handles.specs.Recorder.{WasKept, observed};
 
 use stamp_core::{Call, Reply, Words};
 use stamp_explain::{Observation, Returned};
@@ -24,8 +24,8 @@ pub fn words_of(row: Row) -> Words
     words
 }
 
-/// What a handle's method answers.
-pub trait Answer: Copy {
+/// What a method of a handle or of a guard answers.
+pub trait Answer: Drop {
     ghost use Rattle.std.specs.Prelude.{◌≡◌, Option};
     ghost use Rattle.stamp_core.specs.declared.reply.Reply.{Reply};
 
@@ -33,8 +33,8 @@ pub trait Answer: Copy {
     ghost replied: { Self → Option Reply };
 
     /// The reply that the sequential call has. None where the call failed, and was not made.
-    fn reply(self) -> Option<Reply>
-        ensures { result ≡ replied self };
+    fn reply(&self) -> Option<Reply>
+        ensures { result ≡ replied self.now };
 }
 
 impl Answer for Option<Stamp> {
@@ -43,7 +43,7 @@ impl Answer for Option<Stamp> {
 
     ghost replied = { λ s. Some (stamped s) };
 
-    fn reply(self) -> Option<Reply> {
+    fn reply(&self) -> Option<Reply> {
         Some(Reply::Stamp(self.map_or(0, |stamp| stamp.number())))
     }
 }
@@ -54,7 +54,7 @@ impl Answer for Stamp {
 
     ghost replied = { λ s. Some (reply.Stamp s) };
 
-    fn reply(self) -> Option<Reply> {
+    fn reply(&self) -> Option<Reply> {
         Some(Reply::Stamp(self.number()))
     }
 }
@@ -65,8 +65,8 @@ impl Answer for bool {
 
     ghost replied = { λ b. Some (tested b) };
 
-    fn reply(self) -> Option<Reply> {
-        Some(if self { Reply::Yes } else { Reply::No })
+    fn reply(&self) -> Option<Reply> {
+        Some(if *self { Reply::Yes } else { Reply::No })
     }
 }
 
@@ -76,7 +76,7 @@ impl Answer for Result<(), Mismatch> {
 
     ghost replied = { λ r. Some (released r) };
 
-    fn reply(self) -> Option<Reply> {
+    fn reply(&self) -> Option<Reply> {
         Some(if self.is_ok() {
             Reply::Done
         } else {
@@ -91,8 +91,8 @@ impl Answer for u64 {
 
     ghost replied = { λ n. Some (Count n) };
 
-    fn reply(self) -> Option<Reply> {
-        Some(Reply::Count(self))
+    fn reply(&self) -> Option<Reply> {
+        Some(Reply::Count(*self))
     }
 }
 
@@ -103,7 +103,7 @@ impl Answer for () {
 
     ghost replied = { λ _. Some Done };
 
-    fn reply(self) -> Option<Reply> {
+    fn reply(&self) -> Option<Reply> {
         Some(Reply::Done)
     }
 }
@@ -115,8 +115,8 @@ impl Answer for Row {
 
     ghost replied = { λ row. Some (Content row) };
 
-    fn reply(self) -> Option<Reply> {
-        Some(Reply::Content(words_of(self)))
+    fn reply(&self) -> Option<Reply> {
+        Some(Reply::Content(words_of(*self)))
     }
 }
 
@@ -126,8 +126,8 @@ impl<T: Answer> Answer for Result<T, Lost> {
 
     ghost replied = { reply_if_made T.replied };
 
-    fn reply(self) -> Option<Reply> {
-        self.ok()?.reply()
+    fn reply(&self) -> Option<Reply> {
+        self.as_ref().ok()?.reply()
     }
 }
 
@@ -137,8 +137,8 @@ impl<T: Answer> Answer for Result<T, GetFault> {
 
     ghost replied = { reply_if_made T.replied };
 
-    fn reply(self) -> Option<Reply> {
-        self.ok()?.reply()
+    fn reply(&self) -> Option<Reply> {
+        self.as_ref().ok()?.reply()
     }
 }
 
@@ -148,8 +148,8 @@ impl<T: Answer> Answer for Result<T, PutFault> {
 
     ghost replied = { reply_if_made T.replied };
 
-    fn reply(self) -> Option<Reply> {
-        self.ok()?.reply()
+    fn reply(&self) -> Option<Reply> {
+        self.as_ref().ok()?.reply()
     }
 }
 
@@ -159,32 +159,27 @@ impl<T: Answer> Answer for Result<T, Spent> {
 
     ghost replied = { reply_if_made T.replied };
 
-    fn reply(self) -> Option<Reply> {
-        self.ok()?.reply()
+    fn reply(&self) -> Option<Reply> {
+        self.as_ref().ok()?.reply()
     }
 }
 
-/// A thread's handle of a lock or of a record, the tickets that all threads share, and the calls that this
-/// thread made by the handle.
+/// The calls that one thread made by its handles and guards, and the tickets that all threads share.
 #[derive(Drop)]
-pub struct Recorder<'a, H: Drop> {
-    /// The handle, by which the thread makes its calls between `begin` and `end`.
-    pub handle: H,
+pub struct Recorder<'a> {
     tickets: &'a AtomicU64,
     thread: u64,
     tape: Vec<Observation>,
 }
 
-impl<'a, H: Drop> Recorder<'a, H> {
+impl<'a> Recorder<'a> {
     /// A recorder for one thread, which has a number of its own, below 64.
-    pub fn new(alloc: Global, handle: H, tickets: &'a AtomicU64, thread: u64) -> Recorder<'a, H>
-        ensures handle { result.handle ≡ handle }
+    pub fn new(alloc: Global, tickets: &'a AtomicU64, thread: u64) -> Recorder<'a>
         ensures tickets { result.tickets ≡ tickets.entry }
         ensures thread { result.thread ≡ thread }
         ensures tape { result.tape.items ≡ [] }
     {
         Recorder {
-            handle,
             tickets,
             thread,
             tape: Vec::new(alloc),
@@ -201,7 +196,7 @@ impl<'a, H: Drop> Recorder<'a, H> {
     }
 
     /// Takes the ticket after a call, and keeps the call; one that was not made is not kept. It gives the
-    /// answer back. Without memory the call is not kept.
+    /// answer back. Without memory the call is not kept, and the answer is dropped.
     pub fn end<T: Answer>(&mut self, first: u64, call: Call, answer: T) -> Result<T, AllocError>
         ensures answer { IfOk result (λ a. a ≡ answer) }
         ensures kept { IfOk result (λ a.
@@ -209,18 +204,36 @@ impl<'a, H: Drop> Recorder<'a, H> {
         ensures refused { OnErr result (self.new.tape.items ≡ self.old.tape.items) }
         ensures thread { self.new.thread ≡ self.old.thread }
         ensures tickets { self.new.tickets ≡ self.old.tickets }
-        ensures handle { self.new.handle ≡ self.old.handle }
     {
         let last = self.ticket();
         if let Some(reply) = answer.reply() {
-            self.tape.push(Observation {
-                thread: self.thread,
-                call,
-                first,
-                returned: Some(Returned { last, reply }),
-            })?;
+            self.keep(first, last, call, reply)?;
         }
         Ok(answer)
+    }
+
+    /// Keeps a call that was made between these two tickets, as `end` does: the two of a section, which is one
+    /// call of a handle.
+    pub fn keep(
+        &mut self,
+        first: u64,
+        last: u64,
+        call: Call,
+        reply: Reply,
+    ) -> Result<(), AllocError>
+        ensures kept { IfOk result (λ _.
+            self.new.tape.items ≡ self.old.tape.items ++ observed self.old.thread first last call reply ∷ []) }
+        ensures refused { OnErr result (self.new.tape.items ≡ self.old.tape.items) }
+        ensures thread { self.new.thread ≡ self.old.thread }
+        ensures tickets { self.new.tickets ≡ self.old.tickets }
+    {
+        self.tape.push(Observation {
+            thread: self.thread,
+            call,
+            first,
+            returned: Some(Returned { last, reply }),
+        })?;
+        Ok(())
     }
 
     /// The calls, in their order.
