@@ -1,7 +1,7 @@
 //! Times what the libraries do: `timings WHAT [NUMBER..]` writes its lines to standard error.
 //!
-//! WHAT is `decide`, `steps`, `check`, `lock`, `record`, `write_waits` or `read_waits`, and each has
-//! its own numbers. Where nothing is given, each is timed once, for a moment. Any other argument is
+//! WHAT is `decide`, `steps`, `check`, `lock`, `record`, `value`, `write_waits` or `read_waits`, and each
+//! has its own numbers. Where nothing is given, each is timed once, for a moment. Any other argument is
 //! refused, with status 2.
 #![tactic(auto)]
 
@@ -15,6 +15,7 @@ mod lock;
 mod record;
 mod steps;
 mod threads;
+mod value;
 mod waits;
 mod words;
 
@@ -47,17 +48,20 @@ enum What {
     Lock,
     /// Puts and gets on a record.
     Record,
+    /// Reads and writes of a value behind a lock.
+    Value,
     /// Threads that wait for this mode.
     Waits(Mode),
 }
 
 /// All of it by its arguments, in the order of the libraries.
-const ALL: [(&str, What); 7] = [
+const ALL: [(&str, What); 8] = [
     ("decide", What::Decide),
     ("steps", What::Steps),
     ("check", What::Check),
     ("lock", What::Lock),
     ("record", What::Record),
+    ("value", What::Value),
     ("write_waits", What::Waits(Mode::Write)),
     ("read_waits", What::Waits(Mode::Read)),
 ];
@@ -74,6 +78,7 @@ impl What {
             What::Check => check::time(rt, numbers),
             What::Lock => lock::time(rt, numbers),
             What::Record => record::time(rt, numbers),
+            What::Value => value::time(rt, numbers),
             What::Waits(mode) => waits::time(rt, mode, numbers),
         }
     }
