@@ -1,5 +1,5 @@
 -- A table is made of two plots, and gives them back. Assumes `Logic`.
-use Rattle.std.proofs.Common.{◌≡◌, ℕ, ◌-◌, ◌^◌, [], ◌∷◌, sym, refl, ◌∙◌, subst}
+use Rattle.std.proofs.Common.{◌≡◌, ℕ, ◌-◌, ◌^◌, List, [], ◌∷◌, sym, refl, ◌∙◌, subst}
 use seplogic.Ra.Ura.{Ura}
 use base.Fraction.{full_share}
 use base.Share.{quarter, three_quarters}
@@ -21,14 +21,14 @@ use denote.Shares.{Shares}
 use denote.Steps.{nothing}
 use Rattle.core.specs.Sync.RawAtomic.{word}
 use Rattle.core.proofs.tally.Steps.{word_out, word_in}
-use Rattle.atomic_table.specs.Seated.{halved, seen, unused}
+use Rattle.atomic_table.specs.Seated.{halved, seen, unused, roster}
 use Rattle.atomic_table.proofs.Roster.{resets}
 use Rattle.counted_slot.specs.Counting.{rounds, tag, parts}
 use Rattle.counted_slot.proofs.Parts.{parts_in}
 use base.FractionLaws.{Counts-all}
 use Rattle.lent_table.specs.Table.{Home, away, lent, none, State, opening, Closes}
 use Rattle.lent_table.specs.Lending.{TableId, age, writing, home_owns, Placed, seat_owns, standing, inner, common}
-use Rattle.lent_table.specs.Lending.{rights, table_owns}
+use Rattle.lent_table.specs.Lending.{rights, table_owns, has_ended}
 use Rattle.lent_table.specs.inner.Lending.{plot_owns}
 use Rattle.lent_table.proofs.Rounds.{first_round}
 use Rattle.lent_table.proofs.Signs.{signs, spot}
@@ -143,9 +143,9 @@ module _ {M : Type 1} {𝓤 : Ura M} (𝓛 : Logic 𝓤) (R : RattleType) {V : T
         name_agree ! R.coded (λ same.
         check ! (λ k u e. sym same ∙ lent_value m k y u e) $ nothing ! $ keep ! (0 ∷ []) $ done !))
 
-    abbrev pub Gathered : ℕ × R.Denot → SProp 𝓤
-    Gathered t = guard 𝓤 (Closes holds t.0 t.1 × InBlock w × InBlock p)
-        (⟦ plot_owns u64 w t.0 ⟧ ∗ ⟦ plot_owns R p t.1 ⟧)
+    abbrev pub Gathered : ℕ × R.Denot × List V → SProp 𝓤
+    Gathered t = guard 𝓤 (Closes holds t.0 t.1 t.2 × InBlock w × InBlock p)
+        (⟦ plot_owns u64 w t.0 ⟧ ∗ ⟦ plot_owns R p t.1 ⟧ ∗ ⟦ has_ended cv.code z t.2 ⟧)
 
     abbrev Whole : Fml
     Whole = table_owns R cv.code holds w p z
@@ -173,5 +173,7 @@ module _ {M : Type 1} {𝓤 : Ura M} (𝓛 : Logic 𝓤) (R : RattleType) {V : T
         use1 𝓛 (‵ (plot_owns R p x)) (plot_in 𝓛 R p x in_p) $
         move ! (2 ∷ []) $ use1 𝓛 (‵ (part_at u64 full_share s.word b o)) (word_in 𝓛 b o s.word) $
         use1 𝓛 (‵ (plot_owns u64 w s.word)) (plot_in 𝓛 u64 w s.word at.0) $
-        now ! $ show ! Gathered (s.word, x) $ check ! ((s, so, refl, is), at.0, in_p) $ keep ! (0 ∷ 1 ∷ []) $
-        done !)))))
+        move ! (2 ∷ []) $ use1 𝓛 (later (‵ (has_ended cv.code z s.views)))
+        (𝓛.invs.inv_new (roster cv.code z.views_name 0 s.views)) $ await ! tt $
+        now ! $ show ! Gathered (s.word, x, s.views) $ check ! ((s, so, refl, refl, is), at.0, in_p) $
+        keep ! (1 ∷ 2 ∷ 0 ∷ []) $ done !)))))

@@ -1,8 +1,9 @@
 -- The fields of a `Shared`, a `Seat` and a `Plot`, and a `&` to a `Shared` taken apart. Assumes `Logic`.
 use Rattle.std.proofs.Common.{◌≡◌, ℕ, zero, T, List, [], ◌∷◌, ◌++◌, refl, sym, subst, ◌∙◌}
 use seplogic.Ra.Ura.{Ura}
-use mir.Syntax.{Body, Place, place as variable, deref, field, copy, rv_opd, assign, seq, block}
-use mir.Val.{Val, WT, has_ty, vptr, vstruct, vnil, of_list}
+use mir.Syntax.{Ty, ty_ptr, ty_struct, tcons, tnil, Body, Place, place as variable, deref, field, copy, rv_opd}
+use mir.Syntax.{assign, seq, block}
+use mir.Val.{Val, WT, has_ty, vptr, vstruct, vcons, vnil, of_list}
 use base.Fraction.{full_share}
 use base.Logic.{ent, emp, guard_i}
 use base.Fml.{Lft, Share, Fml, fat, froom, fhide, flft, fobor, fshr_bor}
@@ -22,7 +23,7 @@ use denote.Opens.{Opens, Shut, unhide}
 use denote.Copied.{Struct-Copied}
 use denote.Memory.{lone, cell_at, part_at, hidden_shr}
 use denote.Steps.{looks, peeks, shuts}
-use denote.RawPtr.{Ptr, block_ptr, block_of, count_of, ptr_val, at_block}
+use denote.RawPtr.{Ptr, block_ptr, null_ptr, block_of, count_of, ptr_val, at_block, InBlock}
 use denote.Shadow.{makes_shadow}
 use denote.Struct.Laws.{RawPtr-copy, field_copy}
 use denote.Struct.Struct.{Struct}
@@ -37,6 +38,7 @@ use Rattle.lent_table.specs.contracts.plot.Plot as plot
 use Rattle.lent_table.specs.contracts.shared.Shared as table
 use Rattle.lent_table.specs.contracts.shared.Seat as seat
 use Rattle.lent_table.specs.contracts.shared.Left as left
+use Rattle.lent_table.specs.contracts.shared.Ended as ended
 use Rattle.lent_table.proofs.Stepping.{placed}
 
 -- a runs to the end of a block, and then c
@@ -92,6 +94,41 @@ module _ (W : RattleType) where
       tt,
     ),
   )) ((vstruct vnil ∷ [], tt), (refl, ((tt, (refl, tt)), tt)))
+
+module _ (W : RattleType) where
+  abbrev pub EndedData : RattleType
+  EndedData = Struct (shape (ended.the_type W))
+
+  pub ended_told : (vs : List Val) → Is EndedData (tt, tt) vs → vs ≡ token_val ∷ []
+  ended_told vs is = is.1.0 ∙ (λ i. vstruct (of_list (is.1.1.0.1.0 i ++ [])) ∷ [])
+
+  pub ended_made : {M : Type 1} {𝓤 : Ura M} (𝓛 : Logic 𝓤)
+      → ent 𝓤 (emp 𝓤) (sem 𝓛 (EndedData.own_val (tt, tt) (token_val ∷ [])))
+  ended_made 𝓛 = makes_shadow 𝓛 (EndedData.own_val (tt, tt) (token_val ∷ [])) (λ vss. (
+    tt,
+    (
+      (λ uss.
+          (tt, tt)),
+      tt,
+    ),
+  )) ((vstruct vnil ∷ [], tt), (refl, ((tt, (refl, tt)), tt)))
+
+abbrev strip_ty : Ty
+strip_ty = ty_struct [] (tcons ty_ptr tnil)
+
+-- two strips and a token, as `gather` gives them
+abbrev pub gathered_of : Ptr → Ptr → Val
+gathered_of w p = vstruct (vcons (strip_of w) (vcons (strip_of p) (vcons token_val vnil)))
+
+abbrev gathered_ty : Ty
+gathered_ty =
+    ty_struct [] (tcons strip_ty (tcons strip_ty (tcons (ty_struct [] (tcons (ty_struct [] tnil) tnil)) tnil)))
+
+pub gathered_good : (w p : Ptr) → InBlock w → InBlock p → T (has_ty gathered_ty (gathered_of w p))
+    × WT (gathered_of w p)
+gathered_good (block_ptr b o) (block_ptr c e) i j = (tt, ((tt, tt), ((tt, tt), ((tt, tt), tt))))
+gathered_good (block_ptr b o) null_ptr i j = absurd j
+gathered_good null_ptr p i j = absurd i
 
 module _ (R W X Y : RattleType) (g : Ghosts Y.Denot R.Denot W.Denot X.Denot) where
   abbrev pub TableData : RattleType

@@ -2,7 +2,7 @@
 -- keeps. While the value is lent, it is shared for a round, a lifetime within the age. Of the round's token each
 -- reader has one part in 2 ^ 63, and the table the rest; the round's name is agreed upon in the same parts. Readers
 -- are counted by parts too. Whoever has the whole round ends it.
-use Rattle.std.specs.Prelude.{◌≡◌, ℕ, ◌-◌, ◌^◌, [], ◌∷◌, ◌++◌, Bool, true, false}
+use Rattle.std.specs.Prelude.{◌≡◌, ℕ, ◌-◌, ◌^◌, [], ◌∷◌, ◌++◌, Bool, true, false, List}
 use mir.Syntax.{Ty}
 use mir.Raw.{raw}
 use base.Fraction.{full_share}
@@ -127,6 +127,11 @@ seat_owns R c z id me = fsep (hold_owns R z me.1) (seen c z.views_name id three_
 -- the seat left with this view, for good: nobody has it now, and nobody can make a step by it
 abbrev pub has_left : {V : Type 0} → (V → Gv) → TableId → ℕ → V → Fml
 has_left c z id v = finv (seen c z.views_name id three_quarters v)
+
+-- the table ended, and these are the last views of all seats that it ever had, by their order. Nobody can say so of
+-- another list: the views are those that the seats themselves had, or left with
+abbrev pub has_ended : {V : Type 0} → (V → Gv) → TableId → List V → Fml
+has_ended c z views = finv (roster c z.views_name 0 views)
 
 module _ (R : RattleType) {V : Type 0} (c : V → Gv) (holds : State R.Denot V → Type 0) (w p : Ptr) (z : TableId) where
   abbrev pub standing : State R.Denot V → Fml

@@ -133,9 +133,10 @@ module _ {T V : Type 0} where
   abbrev pub opening : ℕ → V → T → State T V
   opening n v x = record { word = n; home = lent 0 x; views = v ∷ [] }
 
-  -- the table at last: the rule holds, and a value that was lent is what was lent
-  abbrev pub Closes : (State T V → Type 0) → ℕ → T → Type 0
-  Closes holds n x = (s : State T V) × holds s × (s.word ≡ n) × ((m : ℕ) (y : T) → s.home ≡ lent m y → x ≡ y)
+  -- the table at last: the rule holds with these views, and a value that was lent is what was lent
+  abbrev pub Closes : (State T V → Type 0) → ℕ → T → List V → Type 0
+  Closes holds n x views = (s : State T V) × holds s × (s.word ≡ n) × (s.views ≡ views)
+      × ((m : ℕ) (y : T) → s.home ≡ lent m y → x ≡ y)
 
 module _ {T : Type 0} where
   -- a hold as an option of the value, and whether it may be written

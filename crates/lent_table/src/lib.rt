@@ -9,5 +9,5 @@ mod sleep;
 mod steps;
 mod table;
 
-pub use shared::{Left, Play, Seat, Shared, TableRule};
+pub use shared::{Ended, Left, Play, Seat, Shared, TableRule};
 pub use table::Table;

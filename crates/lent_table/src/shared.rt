@@ -1,8 +1,9 @@
 //! The table as threads see it, and what one of them knows and has.
-ghost use Rattle.std.specs.Prelude.{◌≡◌, ℕ};
+ghost use Rattle.std.specs.Prelude.{◌≡◌, ℕ, List};
+ghost use Rattle.std.specs.Coded.{coded_list};
 ghost use Rattle.lent_table.specs.Table.{State, Hold, Me, Step, none, writes, me_coded, opening, Closes};
 ghost use Rattle.lent_table.specs.Lending.{TableId, table_id_coded, table_owns, table_shares, seat_owns, hold_shares};
-ghost use Rattle.lent_table.specs.Lending.{has_left};
+ghost use Rattle.lent_table.specs.Lending.{has_left, has_ended};
 ghost use types.Logic.{sem};
 
 use crate::plot::Plot;
@@ -65,6 +66,18 @@ impl<V> Model for Left<V> {
     ghost also_owns = { λ l. has_left V.row.coded.code l.table_id l.id l.view };
 }
 
+/// That a table ended, and what each of its seats knew at last. It has no bytes.
+#[derive(Drop)]
+pub struct Ended<V> {
+    pub(crate) marker: PhantomData<V>,
+    pub ghost table_id: { TableId } by { table_id_coded },
+    pub ghost views: { List V } by { coded_list V.code },
+}
+
+impl<V> Model for Ended<V> {
+    ghost also_owns = { λ e. has_ended V.row.coded.code e.table_id e.views };
+}
+
 impl<T, V, K, P: TableRule<T, V, K>> Shared<T, V, K, P> {
     pub(crate) fn deal(
         about: &K,
@@ -87,16 +100,17 @@ impl<T, V, K, P: TableRule<T, V, K>> Shared<T, V, K, P> {
         (shared, Seat { marker })
     }
 
-    pub(crate) fn gather(self) -> (Plot<u64>, Plot<T>)
-        ensures places { (result.0.at ≡ self.word) × (result.1.at ≡ self.value) }
-        ensures last { Closes (P.holds self.key) result.0.value result.1.value }
+    pub(crate) fn gather(self) -> (Plot<u64>, Plot<T>, Ended<V>)
+        ensures places { (result.0.at ≡ self.word) × (result.1.at ≡ self.value) × (result.2.table_id ≡ self.table_id) }
+        ensures last { Closes (P.holds self.key) result.0.value result.1.value result.2.views }
     {
         let Shared {
             word,
             value,
             marker: _,
         } = self;
-        (Plot { at: word }, Plot { at: value })
+        let marker = PhantomData;
+        (Plot { at: word }, Plot { at: value }, Ended { marker })
     }
 }
 
@@ -124,6 +138,15 @@ impl<V> Left<V> {
         ensures* left { sem 𝓛 (has_left V.row.coded.code self.table_id self.id self.view) }
     {
         let Left { marker: _ } = self;
+    }
+}
+
+impl<V> Ended<V> {
+    /// The same, for the contract of a function that has another result.
+    pub fn tell(self)
+        ensures* ended { sem 𝓛 (has_ended V.row.coded.code self.table_id self.views) }
+    {
+        let Ended { marker: _ } = self;
     }
 }
 

@@ -1,5 +1,5 @@
 //! Single steps on the word.
-ghost use Rattle.std.specs.Prelude.{◌≡◌, ◌==◌};
+ghost use Rattle.std.specs.Prelude.{◌≡◌, ◌==◌, ◌+◌, ◌-◌, ◌%◌, ◌^◌};
 ghost use prog.Atomic.{either};
 ghost use Rattle.lent_table.specs.Table.{none, step, Allows, Learns, LearnsBeside, Enters};
 
@@ -45,5 +45,14 @@ impl<T, V, K, P: TableRule<T, V, K>> Shared<T, V, K, P> {
         ensures { (seat.new.table_id ≡ seat.old.table_id) × (seat.new.id ≡ seat.old.id) × M.then (step old new) seat.old.me result seat.new.me }
     {
         unsafe { exchange::<Brand>(self.word, old, new) }
+    }
+
+    /// Returns the word as it was, and takes `k` from it, below 0 going on from 2^64. So it always changes the
+    /// word, whatever that is. The seat may give the value back by it, or take it.
+    pub fn fetch_sub<M: Play<T, V>>(&self, seat: &mut Seat<T, V>, k: u64) -> u64
+        requires { (seat.old.table_id ≡ self.now.table_id) × Allows (P.holds self.now.key) seat.old.id seat.old.me (λ n. (n + (2 ^ 64 - k)) % 2 ^ 64) (M.then (step 0 k) seat.old.me) }
+        ensures { (seat.new.table_id ≡ seat.old.table_id) × (seat.new.id ≡ seat.old.id) × M.then (step 0 k) seat.old.me result seat.new.me }
+    {
+        unsafe { raw::fetch_sub::<Brand>(self.word, k, SeqCst) }
     }
 }

@@ -3,7 +3,7 @@ ghost use Rattle.std.specs.Prelude.{◌≡◌, IfOk, IfErr};
 ghost use Rattle.lent_table.specs.Table.{none, opening, Closes};
 
 use crate::plot::{Deed, rebox, unbox};
-use crate::shared::{Seat, Shared, TableRule};
+use crate::shared::{Ended, Seat, Shared, TableRule};
 use std::alloc::{AllocFailed, Allocator};
 
 /// A table, with the memory of its word and its value. Where it is dropped the value is dropped too,
@@ -52,26 +52,27 @@ impl<T: Drop, V, K, P: TableRule<T, V, K>, A: Allocator> Table<T, V, K, P, A> {
 }
 
 impl<T, V, K, P: TableRule<T, V, K>, A: Allocator> Table<T, V, K, P, A> {
-    /// The word and the value, once the table is shared no more. A value that was lent is what was
-    /// lent; of one that a seat might still write, nothing is known.
-    pub fn close(self) -> (u64, T)
-        ensures { Closes (P.holds self.shared.key) result.0 result.1 }
+    /// The word and the value, once the table is shared no more, and what each seat knew at last. A
+    /// value that was lent is what was lent; of one that a seat might still write, nothing is known.
+    pub fn close(self) -> (u64, T, Ended<V>)
+        ensures last { Closes (P.holds self.shared.key) result.0 result.1 result.2.views }
+        ensures table { result.2.table_id ≡ self.shared.table_id }
     {
         let Table {
             shared,
             word,
             value,
         } = self;
-        let (word_plot, value_plot) = shared.gather();
+        let (word_plot, value_plot, ended) = shared.gather();
         let word = rebox(word_plot, word);
         let value = rebox(value_plot, value);
-        (Box::into_inner(word), Box::into_inner(value))
+        (Box::into_inner(word), Box::into_inner(value), ended)
     }
 }
 
 impl<T: Drop, V, K, P: TableRule<T, V, K>, A: Allocator> Drop for Table<T, V, K, P, A> {
     fn drop(self) {
-        let (_, value) = self.close();
+        let (_, value, _) = self.close();
         drop(value);
     }
 }

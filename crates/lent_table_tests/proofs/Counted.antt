@@ -1,6 +1,6 @@
 -- Each step keeps the word a count of who has the value.
-use Rattle.std.proofs.Common.{◌≡◌, ℕ, suc, ◌+◌, ◌-◌, ◌<◌, ◌≤◌, zero, ◌==◌, Bool, true, false, refl, sym, subst, arith}
-use Rattle.std.proofs.Common.{eqb-true, eq-eqb, true≢false, ◌∙◌}
+use Rattle.std.proofs.Common.{◌≡◌, ℕ, suc, ◌+◌, ◌-◌, ◌%◌, ◌^◌, ◌<◌, ◌≤◌, zero, ◌==◌, Bool, true, false}
+use Rattle.std.proofs.Common.{refl, sym, subst, arith, eqb-true, eq-eqb, true≢false, ◌∙◌}
 use prog.Atomic.{either}
 use Rattle.lent_table.specs.Table.{Home, away, lent, Hold, none, reads, Act, stays, comes, goes, takes, gives}
 use Rattle.lent_table.specs.Table.{home_after, hold_after, Valid, Fits, State, Me, Finds, Allows, Learns, Enters}
@@ -57,6 +57,13 @@ module _ {T : Type 0} (id : ℕ) (me : Me T (Unit {0})) where
   pub goes_out : Reads me.1 → (n : ℕ)
       → Allows rule id me (λ k. either (k == n) (n - 1) k) (Brings Idles (step n (n - 1)) me)
   goes_out has n = exchanges n (n - 1) Idles (leave has n)
+
+  pub leaves_now : Reads me.1 → Allows rule id me (λ n. (n + (2 ^ 64 - 1)) % 2 ^ 64) (Frees (step 0 1) me)
+  leaves_now has s f =
+      let k = subst (Fits s.home) has.1 f.hold in let d = subst (λ (i : Home T). Counts i s.word) k.1.1 f.rule in
+      let less : (s.word + (2 ^ 64 - 1)) % 2 ^ 64 ≡ s.word - 1 = omega (arith, d.0, d.1) in
+      let r = leave has s.word s.home f.rule f.hold in
+      (tt, r.0, r.1, subst (Counts (home_after s.home r.0)) (sym less) r.2, r.3)
 
   pub takes_all : Idles me.1 → Allows rule id me (λ k. either (k == 1) 0 k) (Brings Writes (step 1 0) me)
   takes_all idle = exchanges 1 0 Writes (take idle)

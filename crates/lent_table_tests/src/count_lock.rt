@@ -53,7 +53,7 @@ impl<T> Play<T, ()> for Taking {
     ghost then = { Brings Writes };
 }
 
-/// A writer gives the value back.
+/// Whoever has the value gives it back.
 pub struct Giving;
 
 impl<T> Play<T, ()> for Giving {
@@ -95,6 +95,14 @@ pub fn try_leave(number: &Shown, seat: &mut Seated) -> bool
 {
     let word = number.load::<Looking>(seat);
     number.compare_exchange::<Leaving>(seat, word, word - 1) == word
+}
+
+/// The reader leaves, by one step that nothing can disturb.
+pub fn leave(number: &Shown, seat: &mut Seated)
+    requires { (seat.old.table_id ≡ number.now.table_id) × Reads seat.old.me.1 }
+    ensures { (seat.new.table_id ≡ number.now.table_id) × (seat.new.me.1 ≡ none) }
+{
+    number.fetch_sub::<Giving>(seat, 1);
 }
 
 /// Whether the seat may write now: not beside anybody.

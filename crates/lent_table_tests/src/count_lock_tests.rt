@@ -4,7 +4,7 @@ ghost use Rattle.lent_table.specs.Table.{none, writes};
 ghost use Rattle.lent_table_tests.specs.Count.{Writes};
 
 use crate::count_lock::{
-    Looking, Number, Seated, Shown, give_back, try_leave, try_read, try_write,
+    Looking, Number, Seated, Shown, give_back, leave, try_leave, try_read, try_write,
 };
 use lent_table::Table;
 use std::alloc::Global;
@@ -21,6 +21,12 @@ fn made(alloc: Global, value: u64) -> Result<(Number, Seated), Fail>
         Ok((number, seat)) => Ok((number, seat)),
         Err(_) => Err(Fail::from("no memory for the number")),
     }
+}
+
+/// The word and the number, at last.
+fn ends(number: Number) -> (u64, u64) {
+    let (word, value, _) = number.close();
+    (word, value)
 }
 
 /// The number as this seat reads it, if it may read. The test ends where it can't leave then.
@@ -70,7 +76,7 @@ fn what_is_written_is_read_and_comes_back(rt: HostRuntime) -> Result<(), Fail> {
     assert!(rt; add_one(&number.shared, &mut seat));
     assert!(rt; read_once(&rt, &number.shared, &mut seat) == Some(9));
     seat.leave();
-    assert!(rt; number.close() == (1, 9));
+    assert!(rt; ends(number) == (1, 9));
     Ok(())
 }
 
@@ -89,7 +95,7 @@ fn a_writer_sees_what_it_wrote(rt: HostRuntime) -> Result<(), Fail> {
     assert!(rt; *seat.value_ref(&number.shared) == 9);
     give_back(&number.shared, &mut seat);
     seat.leave();
-    assert!(rt; number.close() == (1, 9));
+    assert!(rt; ends(number) == (1, 9));
     Ok(())
 }
 
@@ -109,13 +115,16 @@ fn readers_read_beside_each_other_and_keep_writers_out(rt: HostRuntime) -> Resul
     assert!(rt; number.shared.load_beside::<Looking>(&mut third, &mut first) == 2);
     let (_, mut fourth) = number.shared.enter::<Looking>();
     assert!(rt; !add_one(&number.shared, &mut fourth));
+    assert!(rt; try_read(&number.shared, &mut second));
+    leave(&number.shared, &mut second);
+    assert!(rt; number.shared.load_beside::<Looking>(&mut third, &mut first) == 2);
     assert!(rt; try_leave(&number.shared, &mut first));
     assert!(rt; add_one(&number.shared, &mut fourth));
     first.leave();
     second.leave();
     third.leave();
     fourth.leave();
-    assert!(rt; number.close() == (1, 8));
+    assert!(rt; ends(number) == (1, 8));
     Ok(())
 }
 
@@ -141,7 +150,7 @@ fn threads_lose_no_write(rt: HostRuntime) -> Result<(), Fail> {
         || add_some(&number.shared, 2_000),
         || add_some(&number.shared, 2_000),
     );
-    assert!(rt; number.close() == (1, left.wrapping_add(right)));
+    assert!(rt; ends(number) == (1, left.wrapping_add(right)));
     Ok(())
 }
 
@@ -154,6 +163,6 @@ fn a_sleep_heeds_the_word_and_ends(rt: HostRuntime) -> Result<(), Fail> {
         .shared
         .park_timeout(&rt, 2, Duration::from_secs(3600));
     number.shared.park_timeout(&rt, 1, Duration::ZERO);
-    assert!(rt; number.close() == (1, 7));
+    assert!(rt; ends(number) == (1, 7));
     Ok(())
 }

@@ -5,4 +5,4 @@ mod count_lock;
 #[cfg(test)]
 mod count_lock_tests;
 
-pub use count_lock::{Number, Seated, Shown, give_back, try_leave, try_read, try_write};
+pub use count_lock::{Number, Seated, Shown, give_back, leave, try_leave, try_read, try_write};
