@@ -1,6 +1,6 @@
 // Times the accesses of the pairs of `timings value` (crates/timings) in C11, each sequentially consistent: the same
-// loads and exchanges on the word of a lock, with the same tests of the word found and the same pauses, round a plain
-// number. Layout 1.
+// loads, exchanges and subtractions on the word of a lock, with the same tests of the word found and the same pauses,
+// round a plain number. Layout 1.
 // `value [PAIRS [ROUNDS [OFTEN]]]` writes its lines to standard error, in the form of timings.
 #include "../common/lock.h"
 #include <pthread.h>
@@ -39,13 +39,7 @@ static uint64_t read_lock(struct guarded *guarded) {
     }
 }
 
-static void unlock_read(struct guarded *guarded, uint64_t stamp) {
-    unsigned rounds = 0;
-    uint64_t word = atomic_load(&guarded->word);
-    for (; holds_read(word, stamp); pause_again(&rounds))
-        if (atomic_compare_exchange_strong(&guarded->word, &word, word - 1)) return;
-    abort();
-}
+static void unlock_read(struct guarded *guarded) { atomic_fetch_sub(&guarded->word, 1); }
 
 // 0 where no version is left.
 static uint64_t write_lock(struct guarded *guarded) {
@@ -67,9 +61,8 @@ static void unlock_write(struct guarded *guarded, uint64_t stamp) {
 static LOOP uint64_t read_pairs(struct guarded *guarded, uint64_t pairs) {
     uint64_t good = 0;
     for (uint64_t i = 0; i < pairs; i++) {
-        uint64_t stamp = read_lock(guarded);
-        good += guarded->number != 0;
-        unlock_read(guarded, stamp);
+        good += read_lock(guarded) != 0 && guarded->number != 0;
+        unlock_read(guarded);
     }
     return good;
 }

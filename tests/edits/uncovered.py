@@ -22,9 +22,10 @@ HANDS_ON = "stamped_lock"
 STATEMENT = re.compile(r";|\b(?:if|match|while|for|loop)\b")
 # Of these no wrong body compiles, or none has the form of the right one: the only verdict that the first can refer to is
 # the one that it answers; those of lent_table have a proof by hand of their few steps on the one pointer of its type; and
-# no other value of any type can be had than what the last one gives.
+# those of stamped_value hand on what `close` gives, whose wrong bodies are tried.
 WITHOUT = {"stamp_picture: Picture::verdict", "lent_table: Seat::value_mut", "lent_table: Seat::value_ref",
-           "lent_table: Seat::leave", "lent_table: Left::tell", "lent_table: Shared::load", "lent_table: Shared::load_beside",
+           "lent_table: Seat::leave", "lent_table: Left::tell", "lent_table: Ended::tell", "lent_table: Shared::load",
+           "lent_table: Shared::load_beside", "stamped_value: StampedValue::into_inner",
            "stamped_value: RuledValue::into_inner"}
 FUNCTION = re.compile(r'^( *)(pub )?(?:pub\(\w+\) )?(?:const )?(?:extern "C" )?fn (\w+)', re.M)
 

@@ -28,8 +28,8 @@ use Rattle.stamp_threads.proofs.Beginnings.{begins_all, begins_more}
 use Rattle.stamped_value.specs.declared.view.ValueView.{ValueView}
 use Rattle.stamped_value.specs.declared.view.Held.{Held}
 use Rattle.stamped_value.specs.declared.view.Held.TheVariants.{Free, Reading, Writing}
-use Rattle.stamped_value.specs.Held.{HasHold, MatchesAt}
-use Rattle.stamped_value.specs.inner.Held.{MayCall, is_writing}
+use Rattle.stamped_value.specs.Held.{HasHold, MatchesAt, is_writing}
+use Rattle.stamped_value.specs.inner.Held.{MayCall}
 use Rattle.stamped_value.specs.Values.{IsLastOf}
 use Rattle.stamped_value.specs.ValueMade.{Seen, Does, DoesBy}
 use Rattle.stamped_value.specs.inner.VersionRule.{IsKept, HomeIs, WonTells, LoadTells, ExchangeTells}
@@ -85,7 +85,7 @@ module _ {T : Type 0} {enterable : Bool} {first : T} (limits : Bounds) (s : Stat
   module _ (range : AreInRange limits) (hold : HasHold me.0.held me.0.values me.1) (call : Call)
       (lock : IsTrue (is_lock_call call)) (new : ℕ) where
     -- the seat has a view and an act that keep the rule, and is told of its win
-    abbrev Wins : Type 0
+    abbrev pub Wins : Type 0
     Wins = (w : ValueView T) × (a : Act T) × Valid s.home me.1 a × IsKept enterable limits first (stepped s new id w a)
         × WonTells limits call me s.word (w, hold_after me.1 a)
 
@@ -208,7 +208,7 @@ module _ {T : Type 0} {enterable : Bool} {first : T} (limits : Bounds) (s : Stat
     wins_as (WriteReleased ∷ ReadAcquired ∷ []) reply ne m = writer_to_reader reply m
     wins_as _ reply ne m = absurd m.goes
 
-    wins : MayCall call me.0.held → (old : ℕ) (reply : Reply) → s.word ≡ old →
+    pub wins : MayCall call me.0.held → (old : ℕ) (reply : Reply) → s.word ≡ old →
         Changes limits (word_at limits old) call (word_at limits new) reply → Wins
     wins may old reply hit changes =
         let m : Moves limits (events_after limits r.log) call (word_at limits old) (word_at limits new) reply =

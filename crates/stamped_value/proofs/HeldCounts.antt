@@ -8,7 +8,8 @@ use Rattle.stamp_core.specs.LockEvent.LockEvent.{WriteAcquired, WriteReleased, R
 use Rattle.stamp_core.specs.Decoded.{after_events}
 use Rattle.stamp_core.specs.declared.reply.Reply.{Reply}
 use Rattle.stamped_value.specs.declared.view.Held.{Held}
-use Rattle.stamped_value.specs.inner.Held.{is_reading, is_writing}
+use Rattle.stamped_value.specs.Held.{is_writing}
+use Rattle.stamped_value.specs.inner.Held.{is_reading}
 use Rattle.stamped_value.proofs.Going.{Goes, held_after}
 use Rattle.stamped_value.proofs.Counted.{count_by-set}
 use mathlib.Core.Option.{some}

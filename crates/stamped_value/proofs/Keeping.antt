@@ -28,8 +28,8 @@ use Rattle.stamp_threads.proofs.LockLogs.{legal_longer, events_longer, represent
 use Rattle.stamped_value.specs.declared.view.ValueView.{ValueView}
 use Rattle.stamped_value.specs.declared.view.Held.{Held}
 use Rattle.stamped_value.specs.declared.view.Held.TheVariants.{Free}
-use Rattle.stamped_value.specs.Held.{MatchesAt}
-use Rattle.stamped_value.specs.inner.Held.{is_reading, is_writing}
+use Rattle.stamped_value.specs.Held.{MatchesAt, is_writing}
+use Rattle.stamped_value.specs.inner.Held.{is_reading}
 use Rattle.stamped_value.specs.Values.{HasValues}
 use Rattle.stamped_value.specs.inner.VersionRule.{IsKept, Fits, HomeIs}
 use Rattle.stamped_value.proofs.Counted.{count_by-append, two_counted}

@@ -16,6 +16,7 @@ pub mod Ending
 pub mod Homes
 pub mod Keeping
 pub mod Exchanging
+pub mod Taking
 pub mod Outcomes
 pub mod Tokens
 pub mod Releasing

@@ -103,12 +103,14 @@ module _ {T : Type 0} {enterable : Bool} {first : T} (limits : Bounds) (s : Stat
     loads : Sees (after_load limits call after_finding r.log)
     loads = by_transition (transition_after limits r.log call) refl
 
--- the seat of a load, of which the state is one that a step finds
-pub load_leaves : {T : Type 0} {enterable : Bool} {first : T} (limits : Bounds) (s : State T (ValueView T))
+-- the seat of a load, of which the state is one that a step finds; and the values that it knows then
+pub load_sees : {T : Type 0} {enterable : Bool} {first : T} (limits : Bounds) (s : State T (ValueView T))
     (r : IsKept enterable limits first s) (id : ℕ) (me : Seen T) → get_elem? s.views id ≡ some me.0 → (call : Call) →
     IsTrue (is_lock_call call) →
-    (w : ValueView T) × IsKept enterable limits first (stepped s s.word id w stays) × LoadTells limits call me s.word (w, me.1)
-load_leaves limits s r id me at call lock =
+    (w : ValueView T) × IsKept enterable limits first (stepped s s.word id w stays)
+    × LoadTells limits call me s.word (w, me.1)
+    × (w.values ≡ r.values)
+load_sees limits s r id me at call lock =
     let own = r.fits id me.0 at in
     let t = loads limits s r id me.0 at call lock in (
       seeing limits s r id me.0 at (after_load limits call (finding me.0.pass s.word) r.log),
@@ -129,7 +131,15 @@ load_leaves limits s r id me at call lock =
         matches = own.matches;
         same = (refl, refl);
       },
+      refl,
     )
+
+pub load_leaves : {T : Type 0} {enterable : Bool} {first : T} (limits : Bounds) (s : State T (ValueView T))
+    (r : IsKept enterable limits first s) (id : ℕ) (me : Seen T) → get_elem? s.views id ≡ some me.0 → (call : Call) →
+    IsTrue (is_lock_call call) →
+    (w : ValueView T) × IsKept enterable limits first (stepped s s.word id w stays)
+    × LoadTells limits call me s.word (w, me.1)
+load_leaves limits s r id me at call lock = let t = load_sees limits s r id me at call lock in (t.0, t.1, t.2)
 
 pub learns_load : {T : Type 0} {enterable : Bool} {first : T} (limits : Bounds) (call : Call) (id : ℕ) (me : Seen T) →
     IsTrue (is_lock_call call) → Learns (IsKept enterable limits first) id me (LoadTells limits call me)

@@ -13,7 +13,8 @@ use Rattle.stamp_threads.proofs.ListElements.{at_end}
 use Rattle.stamp_threads.proofs.NewComers.{comes, new_part}
 use Rattle.stamped_value.specs.declared.view.ValueView.{ValueView}
 use Rattle.stamped_value.specs.declared.view.Held.TheVariants.{Free}
-use Rattle.stamped_value.specs.inner.Held.{is_reading, is_writing}
+use Rattle.stamped_value.specs.Held.{is_writing}
+use Rattle.stamped_value.specs.inner.Held.{is_reading}
 use Rattle.stamped_value.specs.inner.VersionRule.{IsKept, Fits, EnterTells, passes_of}
 use Rattle.stamped_value.proofs.Counted.{count_by-one}
 

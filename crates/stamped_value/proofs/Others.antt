@@ -9,8 +9,8 @@ use Rattle.stamp_core.specs.Decoded.{after_events}
 use Rattle.stamp_core.specs.declared.reply.Reply.{Reply}
 use Rattle.stamped_value.specs.declared.view.Held.{Held}
 use Rattle.stamped_value.specs.declared.view.Held.TheVariants.{Free, Reading, Writing}
-use Rattle.stamped_value.specs.Held.{MatchesAt}
-use Rattle.stamped_value.specs.inner.Held.{is_reading, is_writing}
+use Rattle.stamped_value.specs.Held.{MatchesAt, is_writing}
+use Rattle.stamped_value.specs.inner.Held.{is_reading}
 use Rattle.stamped_value.proofs.Going.{Goes}
 
 pub others_match : (limits : Bounds) (c : Counts) → CountsAreWithin limits c → (h : Held)

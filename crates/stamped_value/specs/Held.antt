@@ -1,5 +1,5 @@
 -- The mode that a seat of a guarded value holds.
-use Rattle.std.specs.Prelude.{◌≡◌, ◌<◌, ℕ, List}
+use Rattle.std.specs.Prelude.{◌≡◌, ◌<◌, ℕ, Bool, true, false, List}
 use Rattle.lent_table.specs.Table.{Hold, none, reads, writes}
 use Rattle.stamp_core.specs.Limits.{Bounds, units}
 use Rattle.stamp_core.specs.LockEvent.{LockEvent, Counts, counts}
@@ -29,3 +29,9 @@ abbrev pub stamp_held : Held → ℕ
 stamp_held Free = 0
 stamp_held (Reading s) = s
 stamp_held (Writing s) = s
+
+-- whether it is write mode
+abbrev pub is_writing : Held → Bool
+is_writing Free = false
+is_writing (Reading s) = false
+is_writing (Writing s) = true

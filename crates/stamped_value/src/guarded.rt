@@ -6,24 +6,26 @@ ghost use Rattle.stamp_core.specs.Word.{IsAdmitted, word_at};
 ghost use Rattle.stamp_core.specs.Decision.{Decides};
 ghost use Rattle.stamp_core.specs.CountedDecision.{decision};
 ghost use Rattle.stamp_core.specs.LockDecision.{decision_as, reply_as};
+ghost use Rattle.stamp_core.specs.declared.call.Call.TheVariants.{UnlockRead};
+ghost use Rattle.stamp_core.specs.declared.reply.Reply.TheVariants.{Done};
 ghost use Rattle.stamp_machines.specs.declared.machine.Turn.TheVariants as Turn;
 ghost use Rattle.stamp_threads.specs.LockPass.{HasEntered};
 ghost use Rattle.stamp_threads.specs.MayReply.{MayReply};
 ghost use Rattle.stamp_threads.specs.GoesAsMachine.{GoesAsMachine};
-ghost use Rattle.stamped_value.specs.Ends.{EndsWithLast, EndsWithWriter};
+ghost use Rattle.stamped_value.specs.Ends.{EndsAs};
 ghost use Rattle.stamped_value.specs.inner.Deciding.{IsToDecide, IsUnderWay};
 ghost use Rattle.stamped_value.specs.inner.Held.{MayCall};
 ghost use Rattle.stamped_value.specs.Stands.{Stands};
 ghost use Rattle.stamped_value.specs.ValueMade.{Seen, ValueMade};
 ghost use Rattle.stamped_value.specs.Values.{HasValues, Opens};
-ghost use Rattle.stamped_value.specs.declared.view.Held.TheVariants.{Free};
+ghost use Rattle.stamped_value.specs.declared.view.Held.TheVariants.{Free, Reading};
 
 use crate::first::First;
 use crate::handle::ValueHandle;
 use crate::rule::{ValueKey, VersionRule};
-use crate::steps::{self, ValueSeat, exchange, load, rest};
+use crate::steps::{self, ValueSeat, exchange, load, rest, take_reader};
 use crate::view::ValueView;
-use lent_table::Table;
+use lent_table::{Ended, Table};
 use stamp_core::{Call, Layout, Limits, LockDecision, LockReply, Word, decide_lock};
 use stamp_threads::{Patience, anew};
 use std::alloc::Global;
@@ -128,6 +130,22 @@ impl<T> Guarded<T> {
         }
     }
 
+    /// Releases the read mode that the seat holds (`unlockRead`), by one step on the word.
+    #[inline(always)]
+    pub(crate) fn release_read(&self, seat: &mut ValueSeat<T>, stamp: u64)
+        requires table { seat.old.table_id ≡ self.now.table }
+        requires held { seat.old.me.0.held ≡ Reading stamp }
+        requires stands { Stands self.now.limits seat.old.me }
+        ensures in_range { AreInRange self.now.limits }
+        ensures table { seat.new.table_id ≡ self.now.table }
+        ensures stands { Stands self.now.limits seat.new.me }
+        ensures made { ValueMade self.now.limits (UnlockRead stamp) Done seat.old.me seat.new.me }
+        ensures machine { GoesAsMachine self.now.limits (UnlockRead stamp) seat.old.me.0.pass seat.new.me.0.pass
+            (Turn.Done Done) }
+    {
+        take_reader::<T, Brand>(&self.table.shared, seat, stamp);
+    }
+
     /// Goes on with the call, made anew. It is a function of its own, built in, so that the call is put into
     /// memory only where it isn't made at once.
     #[inline(always)]
@@ -206,17 +224,18 @@ impl<T> Guarded<T> {
         ValueHandle { value: self, seat }
     }
 
-    /// The value, once all handles and guards are gone; an error where a writer is left.
-    pub(crate) fn into_inner(self) -> Result<T, T>
-        ensures ok { IfOk result (λ x. EndsWithLast self.limits self.first x) }
-        ensures err { IfErr result (λ _. EndsWithWriter self.limits self.first) }
+    /// The value, once all handles and guards are gone, and that its table ended; an error where a
+    /// writer is left.
+    pub(crate) fn close(self) -> (Result<T, T>, Ended<ValueView<T>>)
+        ensures ends { EndsAs self.limits self.first result.0 result.1.views }
+        ensures table { result.1.table_id ≡ self.table }
     {
         let Guarded { table, limits } = self;
-        let (word, value) = table.close();
+        let (word, value, ended) = table.close();
         if limits.word(word).is_writing() {
-            Err(value)
+            (Err(value), ended)
         } else {
-            Ok(value)
+            (Ok(value), ended)
         }
     }
 }

@@ -95,18 +95,17 @@ impl<'a, T, R: Wait> ReadGuard<'a, T, R> {
         self.stamp
     }
 
-    /// Releases read mode (`unlockRead`). It waits for nobody, and tries again where another thread
-    /// came between.
+    /// Releases read mode (`unlockRead`), by one step on the word, which waits for nobody.
     pub fn release(self) -> ValueHandle<'a, T>
         ensures { Calls (UnlockRead (stamp_held self.entry.me.0.held)) Done self.entry result }
     {
         let ReadGuard {
-            rt,
+            rt: _,
             value,
             mut seat,
             stamp,
         } = self;
-        let _ = value.call(rt, &mut seat, Call::UnlockRead(stamp));
+        value.release_read(&mut seat, stamp);
         ValueHandle { value, seat }
     }
 

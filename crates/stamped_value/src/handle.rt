@@ -93,6 +93,7 @@ impl<'a, T> ValueHandle<'a, T> {
     }
 
     /// Acquires read mode, and waits while there is a writer or no room (`readLock`).
+    #[inline(always)]
     pub fn read<R: Wait>(self, rt: &'a R) -> ReadGuard<'a, T, R>
         ensures { Calls ReadLock (Stamp (stamp_held result.me.0.held)) self.entry result }
     {

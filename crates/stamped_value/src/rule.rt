@@ -118,6 +118,17 @@ impl<T, C: CallStep> Play<T, ValueView<T>> for ExchangeStep<C> {
     ghost then = { ExchangeTells C.limits C.call };
 }
 
+/// One taken from the word, by which a reader's release is made.
+pub struct TakeStep<C> {
+    of: PhantomData<C>,
+}
+
+impl<T, C: CallStep> Play<T, ValueView<T>> for TakeStep<C> {
+    ghost use Rattle.stamped_value.specs.inner.VersionRule.{TakenTells};
+
+    ghost then = { λ _. TakenTells C.limits C.call };
+}
+
 /// A load that makes a seat.
 pub struct EnterStep<C> {
     of: PhantomData<C>,

@@ -1,13 +1,16 @@
 //! A value that keeps to a rule of the user's.
-ghost use Rattle.std.specs.Prelude.{◌≡◌, ◌⊎◌, IfOk, IfErr};
+ghost use Rattle.std.specs.Prelude.{◌≡◌, IfOk, IfErr};
+ghost use types.Logic.{sem};
 ghost use Rattle.stamp_threads.specs.LockPass.{HasEntered};
-ghost use Rattle.stamped_value.specs.Ends.{EndsWithLast, EndsWithWriter};
+ghost use Rattle.stamped_value.specs.Ends.{EndsWith, table_ended};
 ghost use Rattle.stamped_value.specs.Values.{HasValues, Opens};
 ghost use Rattle.stamped_value.specs.declared.view.Held.TheVariants.{Free};
 
 use crate::kept::{Kept, ValueRule};
 use crate::ruled_handle::RuledHandle;
 use crate::value::StampedValue;
+use crate::view::ValueView;
+use lent_table::Ended;
 use stamp_core::Limits;
 use std::alloc::Global;
 use std::marker::Model;
@@ -70,11 +73,24 @@ impl<T, K: ValueRule<T>> RuledValue<T, K> {
     /// guard to leak; but no contract says so.
     pub fn into_inner(self) -> T
         ensures rule { K.holds result }
-        ensures ends { EndsWithLast self.limits self.first result ⊎ EndsWithWriter self.limits self.first }
+        ensures ends { (views : _) × EndsWith self.limits self.first result views }
+        ensures* ended { sem 𝓛 (table_ended T.row self.table (EndsWith self.limits self.first result)) }
+    {
+        let (value, ended) = self.close();
+        ended.tell();
+        value
+    }
+
+    // The same, and that the table ended.
+    fn close(self) -> (T, Ended<ValueView<Kept<T, K>>>)
+        ensures rule { K.holds result.0 }
+        ensures ends { EndsWith self.limits self.first result.0 result.1.views }
+        ensures table { result.1.table_id ≡ self.table }
     {
         let RuledValue { inner } = self;
-        match inner.into_inner() {
-            Ok(kept) | Err(kept) => kept.into_value(),
+        let (result, ended) = inner.close();
+        match result {
+            Ok(kept) | Err(kept) => (kept.into_value(), ended),
         }
     }
 }

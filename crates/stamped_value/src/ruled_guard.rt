@@ -69,8 +69,7 @@ impl<'a, T, K: ValueRule<T>, R: Wait> RuledReadGuard<'a, T, K, R> {
         self.inner.stamp()
     }
 
-    /// Releases read mode (`unlockRead`). It waits for nobody, and tries again where another thread
-    /// came between.
+    /// Releases read mode (`unlockRead`), by one step on the word, which waits for nobody.
     pub fn release(self) -> RuledHandle<'a, T, K>
         ensures { Calls (UnlockRead (stamp_held self.entry.me.0.held)) Done self.entry result }
     {

@@ -35,7 +35,7 @@ impl<T> Guarded<T> {
             unreachable!()
         };
         let answer = f(seat.value_ref(&self.table.shared));
-        let _ = self.call(rt, seat, Call::UnlockRead(stamp));
+        self.release_read(seat, stamp);
         (answer, stamp)
     }
 

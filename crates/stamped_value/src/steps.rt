@@ -4,16 +4,18 @@ ghost use Rattle.stamp_core.specs.Call.{is_lock_call};
 ghost use Rattle.stamp_core.specs.Limits.{AreInRange};
 ghost use Rattle.stamp_core.specs.Word.{word_at};
 ghost use Rattle.stamp_core.specs.Decision.{Changes};
+ghost use Rattle.stamp_core.specs.declared.call.Call.TheVariants.{UnlockRead};
 ghost use Rattle.stamp_core.specs.declared.reply.Reply.{Reply};
 ghost use Rattle.lent_table.specs.Table.{step};
 ghost use Rattle.stamped_value.specs.Held.{HasHold};
 ghost use Rattle.stamped_value.specs.inner.Held.{MayCall};
-ghost use Rattle.stamped_value.specs.inner.VersionRule.{LoadTells, ExchangeTells, EnterTells, MeetTells, FollowTells};
-ghost use Rattle.stamped_value.specs.declared.view.Held.TheVariants.{Free};
+ghost use Rattle.stamped_value.specs.inner.VersionRule.{LoadTells, ExchangeTells, TakenTells};
+ghost use Rattle.stamped_value.specs.inner.VersionRule.{EnterTells, MeetTells, FollowTells};
+ghost use Rattle.stamped_value.specs.declared.view.Held.TheVariants.{Free, Reading};
 
 use crate::rule::{
     BesideStep, CallStep, EnterStep, ExchangeStep, FollowStep, LoadStep, MeetStep, OpenStep,
-    ValueKey, VersionRule,
+    TakeStep, ValueKey, VersionRule,
 };
 use crate::view::ValueView;
 use lent_table::{Seat, Shared};
@@ -64,6 +66,27 @@ pub fn exchange<T, C: CallStep>(
     // The call stands in the contract alone.
     let _ = call;
     table.compare_exchange::<ExchangeStep<C>>(seat, old, new)
+}
+
+/// Releases read mode by taking one from the word, whatever that is, and tells the word that it found. While
+/// there is the reader, its release takes one from each word; so it is the call's load and exchange in one.
+#[inline(always)]
+pub fn take_reader<T, C: CallStep>(
+    table: &ValueTable<T>,
+    seat: &mut ValueSeat<T>,
+    stamp: u64,
+) -> u64
+    requires step { (C.limits ≡ table.now.key.limits) × (C.call ≡ UnlockRead stamp) }
+    requires in_range { AreInRange table.now.key.limits }
+    requires table { seat.old.table_id ≡ table.now.table_id }
+    requires held { seat.old.me.0.held ≡ Reading stamp }
+    requires hold { HasHold seat.old.me.0.held seat.old.me.0.values seat.old.me.1 }
+    ensures table { seat.new.table_id ≡ table.now.table_id }
+    ensures taken { TakenTells table.now.key.limits (UnlockRead stamp) seat.old.me result seat.new.me }
+{
+    // The stamp stands in the contract alone.
+    let _ = stamp;
+    table.fetch_sub::<TakeStep<C>>(seat, 1)
 }
 
 /// A new seat, made by a load: its pass has the next root.

@@ -1,12 +1,15 @@
 //! A value behind a stamped lock.
 ghost use Rattle.std.specs.Prelude.{◌≡◌, IfOk, IfErr};
+ghost use types.Logic.{sem};
 ghost use Rattle.stamp_threads.specs.LockPass.{HasEntered};
-ghost use Rattle.stamped_value.specs.Ends.{EndsWithLast, EndsWithWriter};
+ghost use Rattle.stamped_value.specs.Ends.{EndsAs, table_ended};
 ghost use Rattle.stamped_value.specs.Values.{HasValues, Opens};
 ghost use Rattle.stamped_value.specs.declared.view.Held.TheVariants.{Free};
 
 use crate::guarded::Guarded;
 use crate::handle::ValueHandle;
+use crate::view::ValueView;
+use lent_table::Ended;
 use stamp_core::Limits;
 use std::alloc::Global;
 use std::marker::Model;
@@ -69,10 +72,20 @@ impl<T> StampedValue<T> {
     /// leaked, as by `mem::forget`: it has the value as that writer left it, of which nothing is known.
     /// That takes the place of poison in std's lock. A leaked reader's guard is no error.
     pub fn into_inner(self) -> Result<T, T>
-        ensures ok { IfOk result (λ x. EndsWithLast self.limits self.first x) }
-        ensures err { IfErr result (λ _. EndsWithWriter self.limits self.first) }
+        ensures ends { (views : _) × EndsAs self.limits self.first result views }
+        ensures* ended { sem 𝓛 (table_ended T.row self.table (EndsAs self.limits self.first result)) }
+    {
+        let (value, ended) = self.close();
+        ended.tell();
+        value
+    }
+
+    // The same, and that the table ended.
+    pub(crate) fn close(self) -> (Result<T, T>, Ended<ValueView<T>>)
+        ensures ends { EndsAs self.limits self.first result.0 result.1.views }
+        ensures table { result.1.table_id ≡ self.table }
     {
         let StampedValue { guarded } = self;
-        guarded.into_inner()
+        guarded.close()
     }
 }

@@ -92,7 +92,7 @@ impl<T> Guarded<T> {
         if holds {
             return Some(stamp);
         }
-        let _ = self.call(rt, seat, Call::UnlockRead(stamp));
+        self.release_read(seat, stamp);
         None
     }
 
@@ -117,7 +117,7 @@ impl<T> Guarded<T> {
         if writing != 0 {
             return Some(writing);
         }
-        let _ = self.call(rt, seat, Call::UnlockRead(reading));
+        self.release_read(seat, reading);
         None
     }
 

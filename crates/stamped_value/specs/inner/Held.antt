@@ -30,8 +30,3 @@ abbrev pub is_reading : Held → Bool
 is_reading Free = false
 is_reading (Reading s) = true
 is_reading (Writing s) = false
-
-abbrev pub is_writing : Held → Bool
-is_writing Free = false
-is_writing (Reading s) = false
-is_writing (Writing s) = true

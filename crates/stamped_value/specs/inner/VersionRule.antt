@@ -17,8 +17,8 @@ use Rattle.stamp_threads.specs.LockPass.{LockPassView, HasEntered}
 use Rattle.stamped_value.specs.declared.view.ValueView.{ValueView}
 use Rattle.stamped_value.specs.declared.view.Held.TheVariants.{Free}
 use Rattle.stamped_value.specs.Values.{HasValues, Opens, IsLastOf}
-use Rattle.stamped_value.specs.Held.{Matches}
-use Rattle.stamped_value.specs.inner.Held.{is_reading, is_writing}
+use Rattle.stamped_value.specs.Held.{Matches, is_writing}
+use Rattle.stamped_value.specs.inner.Held.{is_reading}
 use Rattle.stamped_value.specs.ValueMade.{Seen, DoesBy}
 
 module _ {T : Type 0} where
@@ -73,6 +73,11 @@ module _ {T : Type 0} where
   abbrev pub ExchangeTells : Bounds → Call → Step → Seen T → ℕ → Seen T → Type 0
   ExchangeTells limits call st v found w =
       MatchBool (found == st.old) (WonTells limits call v found w) (LoadTells limits call v found w)
+
+  -- a load and an exchange of the call at once: the exchange finds the word that the load found
+  abbrev pub TakenTells : Bounds → Call → Seen T → ℕ → Seen T → Type 0
+  TakenTells limits call v found w =
+      (between : Seen T) × LoadTells limits call v found between × WonTells limits call between found w
 
   -- a seat that was made by a load, where this is the first value
   pub record EnterTells (limits : Bounds) (first : Option T) (w : Seen T) : Type 0 where

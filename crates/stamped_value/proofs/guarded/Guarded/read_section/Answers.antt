@@ -17,16 +17,16 @@ value_ref-requires g c =
       ap (λ (h : Hold _). is_some (value_of h)) r.1,
     )
 
-pub call-requires-2-clause-may : goal.call-requires-2-clause-may
-call-requires-2-clause-may g c =
+pub release_read-requires-clause-held : goal.release_read-requires-clause-held
+release_read-requires-clause-held g c =
     has_read _ c.call.ensures.in_range _ _ _ _ (ap reply_as c.in-Stamp.is) c.call.ensures.made
 
 pub returns-clause-seated : goal.returns-clause-seated
 returns-clause-seated g c =
     let held = has_read _ c.call.ensures.in_range _ _ _ _ (ap reply_as c.in-Stamp.is) c.call.ensures.made in record {
-      table = c.call-2.ensures.table;
-      stands = c.call-2.ensures.stands;
-      holds = (released_read _ c.call-2.ensures.in_range _ _ _ _ held c.call-2.ensures.made).1;
+      table = c.release_read.ensures.table;
+      stands = c.release_read.ensures.stands;
+      holds = (released_read _ c.release_read.ensures.in_range _ _ _ _ held c.release_read.ensures.made).1;
     }
 
 pub returns-clause-section : goal.returns-clause-section
@@ -35,7 +35,7 @@ returns-clause-section g c =
     let held = has_read _ c.call.ensures.in_range _ _ _ _ is c.call.ensures.made in
     let r = reads_last _ _ c.call.ensures.stands _ held in
     let has = shown_read _ _ _ r.1 c.value_ref.ensures in
-    let released = released_read _ c.call-2.ensures.in_range _ _ _ _ held c.call-2.ensures.made in (
+    let released = released_read _ c.release_read.ensures.in_range _ _ _ _ held c.release_read.ensures.made in (
       record {
         stamp = c.in-Stamp.stamp;
         reader = token c.args.self.now c.call.new.seat.me;
@@ -46,7 +46,7 @@ returns-clause-section g c =
           last = is_last _ _ c.call.ensures.stands _ held _ has;
           read = (c.value_ref.result, c.f-answer.ensures, refl);
         };
-        released = calls_by _ _ _ _ _ c.call-2.ensures.made c.call-2.ensures.machine _ released.0;
+        released = calls_by _ _ _ _ _ c.release_read.ensures.made c.release_read.ensures.machine _ released.0;
       },
       refl,
       still_of_stamp _ _ _ _ _ released.2

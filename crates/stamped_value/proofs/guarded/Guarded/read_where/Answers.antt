@@ -36,8 +36,8 @@ returns-then-holds-clause-yes g c =
       },
     )
 
-pub call-requires-2-clause-may : goal.call-requires-2-clause-may
-call-requires-2-clause-may g c =
+pub release_read-requires-clause-held : goal.release_read-requires-clause-held
+release_read-requires-clause-held g c =
     has_read _ c.call.ensures.in_range _ _ _ _ (ap reply_as c.in-Stamp.is) c.call.ensures.made
 
 pub returns-clause-no : goal.returns-clause-no
@@ -46,8 +46,8 @@ returns-clause-no g c none =
     let held = has_read _ c.call.ensures.in_range _ _ _ _ is c.call.ensures.made in
     let r = reads_last _ _ c.call.ensures.stands _ held in
     let has = shown_read _ _ _ r.1 c.value_ref.ensures in
-    let released = released_read _ c.call-2.ensures.in_range _ _ _ _ held c.call-2.ensures.made in (
-      record { table = c.call-2.ensures.table; stands = c.call-2.ensures.stands; holds = released.1 },
+    let released = released_read _ c.release_read.ensures.in_range _ _ _ _ held c.release_read.ensures.made in (
+      record { table = c.release_read.ensures.table; stands = c.release_read.ensures.stands; holds = released.1 },
       record {
         stamp = c.in-Stamp.stamp;
         reader = token c.args.self.now c.call.new.seat.me;
@@ -62,6 +62,6 @@ returns-clause-no g c none =
             says = record { met = rw c.if-holds.false at c.test-holds.ensures };
           };
         };
-        released = calls_by _ _ _ _ _ c.call-2.ensures.made c.call-2.ensures.machine _ released.0;
+        released = calls_by _ _ _ _ _ c.release_read.ensures.made c.release_read.ensures.machine _ released.0;
       },
     )

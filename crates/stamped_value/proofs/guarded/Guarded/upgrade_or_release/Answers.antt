@@ -17,8 +17,8 @@ returns-then-writing-ne0-clause-upgraded g c =
       now.1,
     )
 
-pub call-requires-2-clause-may : goal.call-requires-2-clause-may
-call-requires-2-clause-may g c =
+pub release_read-requires-clause-held : goal.release_read-requires-clause-held
+release_read-requires-clause-held g c =
     let is = ap reply_as c.in-Stamp.is in
     let now = (upgraded _ c.call.ensures.in_range _ _ _ _ is _ c.requires.seated.holds c.call.ensures.made).1
     c.if-writing-ne0.false in now.0 ∙ c.requires.seated.holds
@@ -28,12 +28,12 @@ returns-clause-released g c none =
     let is = ap reply_as c.in-Stamp.is in
     let now = (upgraded _ c.call.ensures.in_range _ _ _ _ is _ c.requires.seated.holds c.call.ensures.made).1
     c.if-writing-ne0.false in
-    let released = released_read _ c.call-2.ensures.in_range _ _ _ _ (now.0 ∙ c.requires.seated.holds)
-    c.call-2.ensures.made in (
-      record { table = c.call-2.ensures.table; stands = c.call-2.ensures.stands; holds = released.1 },
+    let released = released_read _ c.release_read.ensures.in_range _ _ _ _ (now.0 ∙ c.requires.seated.holds)
+    c.release_read.ensures.made in (
+      record { table = c.release_read.ensures.table; stands = c.release_read.ensures.stands; holds = released.1 },
       record {
         refused = token c.args.self.now c.call.new.seat.me;
         asked = calls_by _ _ _ _ _ c.call.ensures.made c.call.ensures.machine _ (is ∙ ap Stamp c.if-writing-ne0.false);
-        released = calls_by _ _ _ _ _ c.call-2.ensures.made c.call-2.ensures.machine _ released.0;
+        released = calls_by _ _ _ _ _ c.release_read.ensures.made c.release_read.ensures.machine _ released.0;
       },
     )

@@ -4,11 +4,12 @@ use Rattle.stamped_value.proofs.guards.ReadGuard.release.Goals as goal
 
 pub invariant_of-result : goal.invariant_of-result
 invariant_of-result g c = record {
-  table = c.call.ensures.table;
-  stands = c.call.ensures.stands;
-  holds = (released_read _ c.call.ensures.in_range _ _ _ _ c.self.invariant.holds c.call.ensures.made).1;
+  table = c.release_read.ensures.table;
+  stands = c.release_read.ensures.stands;
+  holds = (released_read _ c.release_read.ensures.in_range _ _ _ _ c.self.invariant.holds
+      c.release_read.ensures.made).1;
 }
 
 pub returns : goal.returns
-returns g c = rw (← c.self.view_is) (releases_read _ c.call.ensures.in_range _ _ _ _ c.self.invariant.holds
-    c.call.ensures.made c.call.ensures.machine)
+returns g c = rw (← c.self.view_is) (releases_read _ c.release_read.ensures.in_range _ _ _ _ c.self.invariant.holds
+    c.release_read.ensures.made c.release_read.ensures.machine)
