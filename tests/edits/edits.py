@@ -171,7 +171,9 @@ class Edit:
             raise Failed("a twin has a text for each that is changed")
         edited = self.edited(bool(by))
         self.by, self.functions = by, sorted(by or edited)
-        self.is_alone = bool(by) or len(edited) > 1
+        # Whether it is tried with the bodies of all that is called, and whether in a copy of its own.
+        self.is_whole = bool(by) or len(edited) > 1
+        self.is_alone = self.is_whole and not (len(self.functions) == 1 and self.lies_in(self.functions[0]))
 
     def lines(self, path):
         """The keys and values of its lines. A space behind a key is no part of the value."""
@@ -213,6 +215,12 @@ class Edit:
         if not functions:
             raise Failed("it changes neither a body nor a constant")
         return functions
+
+    def lies_in(self, function):
+        """Whether all that it changes lies in the body of this function."""
+        bodies = lambda file: [it[:2] for it in bodies_of(file, text_of(f"{self.folder}/{file}")) if it[2] == function]
+        within = lambda file, at, end: any(begin <= at and end <= closed for begin, closed in bodies(file))
+        return all(within(file, at, at + len(old)) for file, at, old, _ in self.pairs)
 
     def applied(self, file, text, texts):
         """The text of a file with these texts in place of the old ones."""

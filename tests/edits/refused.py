@@ -9,10 +9,13 @@ lock, a judge or a picture must not have, and those that a page names; the other
 
 The head of edits.py says what an edit is. A function is proved from the contracts of those that it calls, so edits of
 several functions are tried in one copy of the crate, and of all other functions no more is left in it than their
-contracts: the prover says of an edited function which of its own goals aren't proved. Edits of one function are tried
-one after another. Where it says only that a function calls one which isn't proved, the edit is tried once more with the
-bodies and proofs of all that the function calls. An edit that changes the bodies of several functions is tried alone,
-and so is one with a line `by:`.
+contracts: the prover says of an edited function which of its own goals aren't proved. Edits of one function are tried in
+several copies, each under a name of its own, which one process reads as libraries beside a crate without text: so what
+is below is loaded once, and no lines to start proofs with are made.
+
+Where the prover says only that a function calls one which isn't proved, the edit is tried once more with the bodies and
+proofs of all that the function calls. So is at once an edit with a line `by:`, in one copy with others where it changes
+that function alone, and else in a copy of its own, as is an edit that changes the bodies of several functions.
 
 Before that, the same functions are tried without an edit, in the same form, and what was proved is begun with: one that
 isn't proved then, for its own sake, fails the crate. With --proved that is left out, for crates that a gate has just
@@ -28,8 +31,9 @@ the goals that aren't proved are only that a number fits, an index is within or 
 doesn't cover the form of the new body; where a proof by hand only lacks names that the edit took away; and where its
 twin isn't proved, so that the right body in this form is refused, too. Change a value then, and keep the form and the
 names. Where only the invariant of a loop isn't proved, which is a part of the present proof, or only what a call
-requires, the line says so, and where the edit owes a twin. Twins are tried as edits are, in rounds of their own. Where
-something is wrong with one of a round, each half is tried, and so on, until each that can't be is told by its name.
+requires, the line says so, and where the edit owes a twin. Twins are tried as edits are, beside them; one that isn't
+proved there is tried once more beside twins alone. Where something is wrong with one of those that a process tries, each
+half is tried, and so on, until each that can't be is told by its name.
 
 The libraries are those of FOLDER, each in a folder of its crate's name, and else those in crates/*/out. Where they
 can't be used together, or one in crates/*/out is older than its crate's text, that is one failure, and nothing is
@@ -38,6 +42,7 @@ and goes to the file FILE. No edit at all fails."""
 import argparse
 import concurrent.futures
 import copy
+import functools
 import os
 import re
 import shutil
@@ -50,8 +55,12 @@ import time
 from edits import FOLDER, FUNCTION, TOP, Edit, Failed, body_at, function_at, place_of, text_of
 
 PARTS = ("src", "specs", "proofs")
-# So many edits of a crate one process tries at most: those of larger crates are the end of the gate.
-MOST = 24
+# So many edits of a crate one process tries at most, and so many copies: those of larger crates are the end of the gate.
+MOST, COPIES = 36, 4
+# The crate without text, beside which a process reads copies of another as libraries.
+ROOT = "wrong_bodies"
+# Where a type is declared.
+TYPE = re.compile(r"^ *(?:pub(?:\([a-z]+\))? )?(?:struct|enum) (\w+)", re.M)
 STATED = re.compile(r"^fn (\S+): (.*)$", re.M)
 # What the prover says of libraries that were built of different texts.
 UNUSABLE = re.compile(r"^.*error\[unusable-built-library\].*$", re.M)
@@ -70,9 +79,10 @@ GOAL = re.compile(r"`([^`]+)`")
 SAFETY = re.compile(r"overflow_|nonzero_|bounds-|slice_bounds-|offset_bounds-|(?:prove-)?unreachable-requires")
 # Goals of the present proof, and of what a call requires, which tell less than those of the contract.
 LOOP, REQUIRES = re.compile(r"-(?:init|preserved|smaller)\b"), re.compile(r"-requires\b")
+PROVED = "NOT REFUSED"
 LESS = ("", ", only by the invariant of a loop", ", only by what a call requires")
 # What the prover notes of a goal that isn't proved, and the line that `check` makes of it, with the function.
-NOTED = re.compile(r"^note: (src/[^:]+):(\d+):\d+: it is not proved .*\(`([^`]+)`\)(?:;.*)?$", re.M)
+NOTED = re.compile(r"^note: (?:\./)?(src/[^:]+):(\d+):\d+: it is not proved .*\(`([^`]+)`\)(?:;.*)?$", re.M)
 NOTED_OF = re.compile(r"^noted (.+): (\S+)$", re.M)
 # What is wrong with the answer of a goal.
 ANSWER = re.compile(r": error: `([^`]+)`: ")
@@ -131,8 +141,8 @@ class Crate:
             libraries.append(f"{it}={place(it)}/{it}.rlib" if it in uses else f"{it}={rlibs}/{it}.rlib")
         self.below, self.is_by_hand = {it: f"{place(it)}/{it}.rlib" for it in sorted(below)}, not built
         folders = [rlibs, *sorted(place(it) for it in below)]
-        root = "src/main.rt" if os.path.isfile(f"{self.folder}/src/main.rt") else "src/lib.rt"
-        self.words = [f"{kit}/bin/rattle", "check", "--crate-name", name, root, "--links", f"{name}=", "--jobs", "1"]
+        self.root = "src/main.rt" if os.path.isfile(f"{self.folder}/src/main.rt") else "src/lib.rt"
+        self.words = [f"{kit}/bin/rattle", "check", "--crate-name", ROOT, f"{ROOT}/src/lib.rt", "--jobs", "1"]
         self.words += [word for it in libraries for word in ("--extern", it)]
         self.words += [word for it in folders for word in ("-L", f"dependency={it}")]
         self.words += ["--antt-project", f"{kit}/rattle/logic/antt-project.json", "--logic-built", f"{kit}/logic_built"]
@@ -175,33 +185,85 @@ class Crate:
             with open(f"{copy}/{file}", "w") as it:
                 it.write(text)
 
-    def check(self, room, kept, edits, functions, is_bare=False):
-        """What the prover says of these functions, with the edits, over what was kept; if it is bare, with the contracts
-        of all others alone, and else with the bodies and proofs of those that they call."""
-        with tempfile.TemporaryDirectory(dir=room) as copy:
-            for part in PARTS:
-                if os.path.isdir(f"{self.folder}/{part}"):
-                    shutil.copytree(f"{self.folder}/{part}", f"{copy}/{part}")
-            for file, at, old, new in sorted((it for edit in edits for it in edit.pairs), reverse=True):
-                with open(f"{copy}/{file}") as it:
-                    text = it.read()
-                with open(f"{copy}/{file}", "w") as it:
-                    it.write(text[:at] + new + text[at + len(old) :])
-            if is_bare:
-                self.take_others(copy, functions)
-            only = [word for function in sorted(functions) for word in ("--only", function)]
-            with self.gate.free:
-                ran = subprocess.run(
-                    [*self.words, "--incremental", kept, *only], cwd=copy, stdin=subprocess.DEVNULL,
-                    stdout=subprocess.PIPE, stderr=subprocess.STDOUT, text=True, errors="replace")
-            noted = [f"noted {named_at(copy, file, int(line))}: {goal}" for file, line, goal in NOTED.findall(ran.stdout)]
-        if found := UNUSABLE.search(ran.stdout):
-            raise Unusable(found[0])
-        return "\n".join([ran.stdout, *noted])
+    @functools.cached_property
+    def paths(self):
+        """The path of each function below the crate, by the end of it that an edit names. Two have none, if both end so."""
+        texts = {file: text_of(f"{self.folder}/{file}") for file in self.sources()}
+        homes, paths = {}, {}
+        for file, text in texts.items():
+            for found in TYPE.finditer(text):
+                homes.setdefault(found[1], []).append(file)
+        for file, text in texts.items():
+            for function in (function_at(file, text[: it.end()]) for it in FUNCTION.finditer(text)):
+                # A method stands below its type, wherever its impl does.
+                home = homes.get(re.split("::|[+]", function)[0], []) if "::" in function else []
+                place = place_of(home[0] if len(home) == 1 else file, function)
+                paths.setdefault(function, set()).add(place.replace("/", "::"))
+        return {function: min(found) for function, found in paths.items() if len(found) == 1}
 
-    def tried(self, room, kept, edits, is_bare=False):
-        """What the prover says of the functions of these edits."""
-        return self.check(room, kept, edits, {function for edit in edits for function in edit.functions}, is_bare)
+    def lay(self, copy, name, edits, functions, is_bare):
+        """Lays out a copy of the crate with these edits, by this name: if it is bare, with the contracts alone of all
+        functions but these."""
+        for part in PARTS:
+            if os.path.isdir(f"{self.folder}/{part}"):
+                shutil.copytree(f"{self.folder}/{part}", f"{copy}/{part}")
+        for file, at, old, new in sorted((it for edit in edits for it in edit.pairs), reverse=True):
+            text = text_of(f"{copy}/{file}")
+            with open(f"{copy}/{file}", "w") as it:
+                it.write(text[:at] + new + text[at + len(old) :])
+        if is_bare:
+            self.take_others(copy, functions)
+        for path in (f"{at}/{it}" for at, _, names in os.walk(copy) for it in names if name != self.name):
+            text = text_of(path)
+            with open(path, "w") as it:
+                it.write(re.sub(rf"(?<=\bRattle\.){self.name}\b|(?<![\w:]){self.name}(?=::)", name, text))
+
+    def check(self, room, kept, copies):
+        """What the prover says of each copy of the crate, over what was kept. A copy is given by its edits, the functions
+        that are asked for, and whether it is bare: with the contracts of all others alone, and not with the bodies and
+        proofs of those that they call."""
+        names = [self.name, *(f"{self.name}_{number}" for number in range(2, len(copies) + 1))]
+        words = [*self.words, "--incremental", kept]
+        with tempfile.TemporaryDirectory(dir=room) as folder:
+            for name, copy in zip(names, copies):
+                self.lay(f"{folder}/{name}", name, *copy)
+                words += ["--lib", f"{name}={name}/{self.root}"]
+                words += [word for it in sorted(copy[1]) for word in ("--only", f"{name}::{self.paths.get(it, it)}")]
+            os.makedirs(f"{folder}/{ROOT}/src")
+            with open(f"{folder}/{ROOT}/src/lib.rt", "w") as it:
+                it.write("//! A crate without text.\n")
+            with self.gate.free:
+                said = subprocess.run(words, cwd=folder, stdin=subprocess.DEVNULL, stdout=subprocess.PIPE,
+                                      stderr=subprocess.STDOUT, text=True, errors="replace").stdout
+            if found := UNUSABLE.search(said):
+                raise Unusable(found[0])
+            return [with_noted(f"{folder}/{name}", said_of(said, name, names)) for name in names]
+
+
+def said_of(said, name, names):
+    """What the prover says of a copy of a crate, and of none of these, as it says it of the crate alone. The first copy
+    has the crate's own name."""
+    begins = re.compile(rf"(?:\./|fn |note: |note: `search` has not tried the goals of `)?({'|'.join(names)})(?:/|::)")
+    lines, owner = [], None
+    for line in said.split("\n"):
+        if not line.startswith(" "):
+            found = begins.match(line)
+            owner = found[1] if found else None
+        if owner in (None, name):
+            lines.append(line)
+    text = re.sub(rf"(?<![\w/.])(?:\./)?{name}/(?=src/|specs/|proofs/)", "./", "\n".join(lines))
+    return re.sub(rf"\b{name}\b", names[0], text)
+
+
+def with_noted(copy, said):
+    """What the prover says of a copy, and for each goal that it notes a line with the function that it stands in."""
+    noted = [f"noted {named_at(copy, file, int(line))}: {goal}" for file, line, goal in NOTED.findall(said)]
+    return "\n".join([said, *noted])
+
+
+def copy_of(edits, is_bare):
+    """A copy of the crate with these edits, of which their functions are asked for."""
+    return edits, {function for edit in edits for function in edit.functions}, is_bare
 
 
 def named_at(folder, file, line):
@@ -267,16 +329,6 @@ def goals_left(function, folder, said):
     return [] if lacks else [goal for of, goal in NOTED_OF.findall(said) if function.endswith(f"::{of}")]
 
 
-def round_of(edits, calls):
-    """An edit for each function, but for those that are known to call another of these functions."""
-    functions = {edit.functions[0] for edit in edits}
-    taken = {}
-    for edit in edits:
-        if not functions & calls.get(edit.functions[0], set()):
-            taken.setdefault(edit.functions[0], edit)
-    return [*taken.values()]
-
-
 def named(function, stated):
     """The function's whole name, as the prover prints it."""
     found = [it for it in stated if it.endswith(f"::{function}")]
@@ -311,7 +363,7 @@ def judged_alone(crate, edit, said):
     return {edit.name: verdict_on(whys + faults_in("proofs/", said), stated[unproved[0]], said)}
 
 
-def judged(crate, edits, said, calls, is_bare):
+def judged(crate, edits, said, is_bare):
     """What came of the edits of a round that were judged. The others' functions call some that aren't proved."""
     stated = stated_by(said)
     edited = {named(edit.functions[0], stated): edit for edit in edits}
@@ -332,9 +384,6 @@ def judged(crate, edits, said, calls, is_bare):
             told[edit.name] = verdict_on(whys, stated[min(own)], said)
         elif edit.is_twin and is_bare and all(stated[it].startswith(UNPROVED_CALLS) and it not in waiting for it in own):
             told[edit.name] = f"NOT REFUSED: {function} is proved with it, but for the bodies of those that it calls"
-        else:
-            owners = {owner_of(other) for it in own for other in below[it]}
-            calls[edit.functions[0]] = {edited[it].functions[0] for it in owners & {*edited}} or {edit.functions[0]}
     return told
 
 
@@ -342,7 +391,7 @@ def try_without_edits(crate, room, kept, functions, is_bare):
     """Tries functions as they are: no edit shows anything of one that isn't proved then."""
     if not functions:
         return
-    said = crate.check(room, kept, [], functions, is_bare)
+    said = crate.check(room, kept, [([], functions, is_bare)])[0]
     stated = stated_by(said)
     for function in map(lambda it: named(it, stated), sorted(functions)):
         own = [it for it, word in stated.items() if owner_of(it) == function and not word.startswith("proved")]
@@ -381,12 +430,24 @@ def rounds_of(edits):
     return rounds
 
 
+def each_of(edits):
+    """A round for each of the edits."""
+    return [[it] for it in edits]
+
+
+def shares_of(rounds):
+    """The rounds that each process tries, in a copy of the crate each."""
+    size = sum(map(len, rounds)) / max(1, len(rounds))
+    count = -(-len(rounds) // max(1, min(COPIES, int(MOST // max(1, size)))))
+    return [rounds[at::count] for at in range(count)]
+
+
 def begin(crate, edits, kept):
     """Tries the functions of these edits as they are, and keeps what was proved for the rounds to begin with."""
-    alone = {function for it in edits if it.is_alone for function in it.functions}
+    whole = {function for it in edits if it.is_whole for function in it.functions}
     with tempfile.TemporaryDirectory() as room:
-        try_without_edits(crate, room, kept, {it.functions[0] for it in edits if not it.is_alone}, is_bare=True)
-        try_without_edits(crate, room, kept, alone, is_bare=False)
+        try_without_edits(crate, room, kept, {it.functions[0] for it in edits if not it.is_whole}, is_bare=True)
+        try_without_edits(crate, room, kept, whole, is_bare=False)
     return {}
 
 
@@ -397,48 +458,59 @@ def apart(begun_with, trying, crate, *edits):
         return trying(f"{room}/kept", crate, *edits)
 
 
-def try_round(kept, crate, edits):
-    """Tries the edits of a round, over the contracts of all other functions, and gives what came of those judged. Where
-    something is wrong with one, each half of the round is tried."""
+def try_copies(kept, crate, rounds, is_bare):
+    """Tries each of these rounds in a copy of the crate, in one process, and gives what came of those judged, and what is
+    wrong with the others."""
+    told, wrong = {}, {}
     with tempfile.TemporaryDirectory() as room:
+        said = crate.check(room, kept, [copy_of(now, is_bare) for now in rounds])
+    for now, text in zip(rounds, said):
         try:
-            return judged(crate, edits, crate.tried(room, kept, edits, is_bare=True), {}, is_bare=True)
+            told |= judged_alone(crate, now[0], text) if now[0].is_alone else judged(crate, now, text, is_bare)
         except Failed as fault:
-            if len(edits) == 1:
-                return {edits[0].name: f"FAILED: {fault}"}
-    half = len(edits) // 2
-    return try_round(kept, crate, edits[:half]) | try_round(kept, crate, edits[half:])
+            wrong |= {it.name: f"FAILED: {fault}" for it in now}
+    return told, wrong
 
 
-def try_together(room, kept, crate, edits, calls):
-    """Tries edits with the bodies and proofs of all that their functions call, and gives what came of those judged.
-    Where something is wrong with one, each is tried for itself."""
-    try:
-        return judged(crate, edits, crate.tried(room, kept, edits), calls, is_bare=False)
-    except Failed as fault:
-        if len(edits) == 1:
-            return {edits[0].name: f"FAILED: {fault}"}
-    return {name: what for it in edits for name, what in try_together(room, kept, crate, [it], calls).items()}
+def try_share(kept, crate, rounds, is_bare):
+    """Tries these rounds, and gives what came of the edits judged. Where something is wrong with one of a round, each
+    half of all such is tried."""
+    told, wrong = try_copies(kept, crate, rounds, is_bare) if rounds else ({}, {})
+    edits = [it for now in rounds for it in now]
+    if len(edits) < 2:
+        return told | wrong
+    left, divided = [it for it in edits if it.name in wrong], rounds_of if is_bare else each_of
+    for half in (left[: len(left) // 2], left[len(left) // 2 :]):
+        told |= try_share(kept, crate, divided(half), is_bare)
+    return told
 
 
-def try_whole(kept, crate, several, alone):
-    """Tries edits with the bodies and proofs of all that their functions call, and gives what came of each."""
-    lines, calls = {}, {}
-    with tempfile.TemporaryDirectory() as room:
-        while several:
-            now = round_of(several, calls)
-            told = try_together(room, kept, crate, now, calls) if now else {}
-            if not told:
-                # Each calls another of them by way of a function that isn't edited.
-                alone, several = alone + several, []
-            lines |= told
-            several = [it for it in several if it.name not in told]
-        for edit in alone:
-            try:
-                lines |= judged_alone(crate, edit, crate.tried(room, kept, [edit]))
-            except Failed as fault:
-                lines[edit.name] = f"FAILED: {fault}"
-    return lines
+def try_bare(kept, crate, rounds):
+    """Tries rounds over the contracts of all other functions, and gives what came of the edits judged. A twin that isn't
+    proved beside edits is tried beside twins alone."""
+    told = try_share(kept, crate, rounds, is_bare=True)
+    again = [it for now in rounds for it in now if it.is_twin and not told.get(it.name, PROVED).startswith(PROVED)]
+    return told | try_share(kept, crate, rounds_of(again), is_bare=True)
+
+
+def in_own(edit):
+    """The edit, to be tried in a copy of its own, where what isn't proved is so for its sake."""
+    own = copy.copy(edit)
+    own.is_alone = True
+    return own
+
+
+def try_whole(kept, crate, edits):
+    """Tries edits with the bodies and proofs of all that their functions call, and gives what came of each. What isn't
+    clear beside others is tried in a copy of its own."""
+    rounds = rounds_of([it for it in edits if not it.is_alone]) + each_of(it for it in edits if it.is_alone)
+    told, _ = try_copies(kept, crate, rounds, is_bare=False)
+    told = {name: what for name, what in told.items() if what.startswith(("refused", PROVED))}
+    left = [in_own(it) if it.is_whole else it for it in edits if it.name not in told]
+    told |= try_share(kept, crate, each_of(left), is_bare=False)
+    # Each of the last ones calls itself, or one that isn't proved for its sake.
+    last = [in_own(it) for it in left if it.name not in told]
+    return told | try_share(kept, crate, each_of(last), is_bare=False)
 
 
 def read(crate, names):
@@ -488,16 +560,17 @@ def lines_of(pool, crate, names, options, kept):
         except Failed as fault:
             return [(crate.name, f"FAILED: {fault}")]
     tried = edits + [twin_of(it) for it in edits if it.twins]
-    several, alone = [it for it in tried if not it.is_alone], [it for it in tried if it.is_alone]
-    # Twins have rounds of their own: there all functions are proved, so that none calls one that isn't.
-    rounds = rounds_of([it for it in several if it in edits]) + rounds_of([it for it in several if it not in edits])
+    bare, whole = [it for it in tried if not it.is_whole], [it for it in tried if it.is_whole]
+    shares = shares_of(rounds_of(bare))
     # The others begin with what the first leaves there.
-    gather(*[pool.submit(try_round, kept, crate, now) for now in rounds[:1]])
-    gather(*[pool.submit(apart, kept, try_round, crate, now) for now in rounds[1:]],
-           *[pool.submit(apart, kept, try_whole, crate, [], [edit]) for edit in alone])
-    gather(pool.submit(try_whole, kept, crate, [it for it in several if it.name not in lines], []))
+    gather(*[pool.submit(try_bare, kept, crate, now) for now in shares[:1]])
+    gather(*[pool.submit(apart, kept, try_bare, crate, now) for now in shares[1:]],
+           *[pool.submit(apart, kept, try_whole, crate, whole) for _ in whole[:1]])
+    left = [it for it in bare if it.name not in lines]
+    gather(*[pool.submit(try_whole, kept, crate, left) for _ in left[:1]])
     seconds, twins = round(time.monotonic() - begun), len(tried) - len(edits)
-    print(f"{crate.name}: {len(edits)} edits and {twins} twins tried, in {len(rounds)} rounds and {seconds} seconds", flush=True)
+    rounds = f"{sum(map(len, shares))} rounds of {len(shares)} processes and {seconds} seconds"
+    print(f"{crate.name}: {len(edits)} edits and {twins} twins tried, in {rounds}", flush=True)
     return sorted((f"{crate.name}/{name}", what) for name, what in with_twins(lines, edits).items())
 
 
