@@ -17,6 +17,8 @@ REPLIES = {
     "IsRelease": {"Done", "Mismatch"},
     "IsCount": {"Count"},
 }
+# The call that a method makes, by its contract or its body.
+MADE = re.compile(r"(?:Call::|\bMade \(?)(\w+)")
 OF_RECORD = {"Get": {"Content"}, "Put": {"Done"}, "PutIf": {"Yes", "No"}}
 
 
@@ -99,13 +101,13 @@ def faults_of_calls(rows):
         told += names
         for maker in names:
             doc, _, body = known.get(maker, ("", "", ""))
-            if f"Call::{variant}" not in re.findall(r"Call::\w+", body):
+            if variant not in MADE.findall(body):
                 yield f"{variant}: no method {maker} makes this call"
             if not maker.endswith("_once") and f"(`{named_in(java)[0]}`)" not in doc:
                 yield f"{variant}: the doc of {maker} has another name of Java's"
         if variant not in OF_RECORD and not names:
             yield f"{variant}: no method is named"
-    makers = [name for name, (_, _, body) in known.items() if "Call::" in body]
+    makers = [name for name, (_, _, body) in known.items() if MADE.search(body)]
     yield from (f"the method {name} has no place in the table" for name in makers if name not in told)
 
 

@@ -150,7 +150,7 @@ BAD = [
     "--most 18446744073709551616", "--most +1", "--most", "--more 1", "--help --judge", "--judge --judge",
     "--judge --told --judge", "--judge --most -1", "--judge --most", "--most --judge 1", "--most 1 --most 1",
     "--judge --told --most 1 --told", "--judge --told --small --most 1 --told", "--most 1 --judge --most 1",
-    "--judge 1",
+    "--judge 1", "1", "1 --judge", "--small 1 --told", "-",
 ]
 
 

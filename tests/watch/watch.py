@@ -11,6 +11,7 @@ nine in ten, behind many events, too; of no other stream is one written. Without
 it is told why. Progress is told each 2^24 events. Broken streams are told at their event. A stream may come in pieces
 of any length, the program ends once something is found, and long streams take no more memory than short ones."""
 import contextlib
+import itertools
 import json
 import os
 import random
@@ -197,6 +198,19 @@ def try_late(watch):
     return len(LATE)
 
 
+# A word that begins as an option and is none, an option without its word or with one that it doesn't take, an option
+# that comes twice, and two files.
+BAD = [
+    "--other", "-", "-a", "--progress=1", "--help --help", "--progress --help", "--help run.events",
+    "--most", "--progress --ahead", "run.events --witness",
+    "--most +1", "--most 18446744073709551616", "--most --progress", "--ahead 4294967297", "--ahead run.events",
+    "--witness -a", "--witness --progress", "--witness --help",
+    "--progress --progress", "--progress run.events --progress", "--most 9 --most 9", "--most 9 --ahead 9 --most 8",
+    "--ahead 9 --progress --ahead 9", "--witness a --most 9 --witness b",
+    "run.events more", "run.events --progress run.events", "run.events --most 9 more --ahead 9",
+]
+
+
 def try_options(watch):
     late = header() + event(2) + event(4, 1) + event(STAMP, 1, 256) + event(STAMP, 0, 384)
     for ahead in ("64", "0"):
@@ -207,11 +221,9 @@ def try_options(watch):
     within = either + event(STAMP, 0, 258) + event(STAMP, 1, 258)
     must_be("--most", judged(watch, within, "--ahead", "99", "--most", "1"),
             ("undecided 3", "stamped_watch: no order explains the run; from which event on is undecided"))
-    for words in (["--most"], ["--ahead", "4294967297"], ["run.events", "more"], ["--progress", "--help"],
-                  ["--most", "9", "--progress"], ["--witness"], ["--witness", "-a"],
-                  ["--witness", "a", "--most", "9", "--witness", "b"]):
-        made = run([watch, *words], late)
-        must_be("options", (made.returncode, made.stdout, made.stderr), (2, b"", b"stamped_watch: bad command line\n"))
+    for words in BAD:
+        made = run([watch, *words.split()], late)
+        must_be(words, (made.returncode, made.stdout, made.stderr), (2, b"", b"stamped_watch: bad command line\n"))
     told = run([watch, "--help"])
     must_be("--help", (told.returncode, told.stdout[:14], told.stderr), (0, b"stamped_watch ", b""))
 
@@ -273,7 +285,7 @@ def must_have_witness(watch, explain, path, told, stream, *words):
 
 
 def try_forms(watch, explain, path):
-    """A witness is written whatever is asked for besides."""
+    """A witness is written whatever is asked for besides, in whatever order."""
     stream, told = SHORT[0]
     run_events = path + ".events"
     with open(run_events, "wb") as file:
@@ -281,6 +293,12 @@ def try_forms(watch, explain, path):
     for first, is_named in FORMS:
         given = (b"", *first, "--witness", path, run_events) if is_named else (stream, *first, "--witness", path)
         must_have_witness(watch, explain, path, told, *given)
+    parts = ["--progress"], ["--most", "99"], ["--ahead", "99"], ["--witness", path], [run_events]
+    for ordered in itertools.permutations(parts):
+        must_have_witness(watch, explain, path, told, b"", *itertools.chain(*ordered))
+    # None where the options are bad.
+    made = run([watch, "--witness", path, "--progress", "--most"], stream)
+    must_be("bad options", (made.returncode, os.path.exists(path)), (2, False))
 
 
 def try_without_witness(watch, path):

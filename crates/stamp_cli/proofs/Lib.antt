@@ -7,3 +7,5 @@ pub mod HandedOn
 pub mod MadeSoFar
 pub mod RunLines
 pub mod Migrating
+pub mod Parts
+pub mod Readings

@@ -5,6 +5,8 @@ pub mod Source
 pub mod Sink
 pub mod Serving
 pub mod Order
+pub mod Options
+pub mod Given
 pub mod Refusal
 pub mod FaultText
 pub mod StampText

@@ -1,7 +1,8 @@
-//! Laws of the program's answers. Each function does nothing; its contract is the law, over the
+//! Laws of the program's answers, and of command lines. Each function does nothing; its contract is the law, over the
 //! definitions alone.
 
 ghost use Rattle.stamp_cli.specs.Laws.{OneAnswer, RunLinesAreAccepted, AcceptedMigrates, MigrationKeepsLines};
+ghost use Rattle.stamp_cli.specs.Options.{OneReading};
 
 /// A command has one answer to what it reads. So a line is written, and an input refused, exactly
 /// where the answer is so.
@@ -27,4 +28,11 @@ pub fn accepted_migrates()
 /// input. It answers that line, with its line feed, in no other way.
 pub fn migration_keeps_lines()
     ensures { MigrationKeepsLines }
+{}
+
+/// Arguments are read in one way, or in none. What they give are options, each with the word behind it if it takes
+/// one, and maybe a file, none of them twice, whose words are the arguments in their order. Where they are so, that is
+/// what they give.
+pub fn one_reading()
+    ensures { OneReading }
 {}

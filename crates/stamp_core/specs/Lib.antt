@@ -5,6 +5,7 @@ pub mod IsWellFormed
 pub mod Stamp
 pub mod Word
 pub mod Call
+pub mod LockCall
 pub mod Transition
 pub mod Decision
 pub mod Decoded

@@ -140,10 +140,6 @@ impl Word {
         requires { IsState (word_in layout bits) }
         ensures { result ≡ word_in layout bits }
     {
-        // No word is below the first version. With this a compiler knows that no stamp made of one is 0.
-        if bits < layout.version_unit() {
-            unreachable!()
-        }
         Word { layout, bits }
     }
 

@@ -1,7 +1,7 @@
 pub mod ItemLengths
 pub mod EachItem
 pub mod NoJson
-pub mod SmallCalls
+pub mod LockCalls
 pub mod RepliesSoFar
 pub mod ReplayedParts
 pub mod ReplayAnswers

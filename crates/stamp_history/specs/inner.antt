@@ -1,3 +1,2 @@
-pub mod SmallCall
 pub mod Replay
 pub mod ReplayAnswer

@@ -4,7 +4,7 @@ ghost use Rattle.std.specs.Prelude.{◌≡◌};
 ghost use Rattle.serde_json.specs.View.{view};
 ghost use Rattle.stamp_history.specs.HistoryCall as spec;
 
-use crate::lock_calls::small_call;
+use crate::lock_calls::lock_call;
 use crate::script_calls::script_call_of;
 use serde_json::Value;
 use stamp_core::Call;
@@ -18,7 +18,7 @@ fn as_call(call: ScriptCall) -> Option<Call>
         ScriptCall::Get => Some(Call::Get),
         ScriptCall::Put(words) => Some(Call::Put(words)),
         ScriptCall::PutIf(expected, words) => Some(Call::PutIf(expected, words)),
-        of_lock => Some(small_call(of_lock)?.call()),
+        of_lock => Some(lock_call(of_lock)?.as_call()),
     }
 }
 

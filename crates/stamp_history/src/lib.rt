@@ -25,7 +25,6 @@ mod run_writing;
 mod script_calls;
 mod script_fields;
 mod script_reading;
-mod small_call;
 mod text_kind;
 mod words_value;
 

@@ -1,31 +1,30 @@
 //! The answer to the text of a replay, without its calls and replies as lists.
 
 ghost use Rattle.std.specs.Prelude.{◌≡◌, ◌<◌, length, map, IfErr};
+ghost use Rattle.stamp_core.specs.LockCall.{call_as};
 ghost use Rattle.stamp_history.specs.ReplayAnswer.{AnswersReplayText};
 ghost use Rattle.stamp_history.specs.inner.ReplayAnswer.{RepliesTo};
-ghost use Rattle.stamp_history.specs.inner.SmallCall.{core_call};
 
 use crate::answer_error::AnswerError;
 use crate::json_text::{push_comma, push_reply, push_text};
 use crate::read_error::ReadError;
-use crate::replay_reading::read_small_calls;
+use crate::replay_reading::read_lock_calls;
 use crate::replay_writing::push_word;
-use crate::small_call::SmallCall;
-use stamp_core::{Limits, Word, transition};
+use stamp_core::{Limits, LockCall, Word, transition};
 use std::alloc::Global;
 
 /// Takes the calls one after the other, and appends the list of their replies.
 fn push_replies_to(
     text: &mut Vec<u8>,
     limits: Limits,
-    calls: &[SmallCall],
+    calls: &[LockCall],
 ) -> Result<Word, AnswerError>
-    ensures { RepliesTo limits (map core_call calls.now) text.old.items text.new.items result }
+    ensures { RepliesTo limits (map call_as calls.now) text.old.items text.new.items result }
 {
     push_text(text, "[")?;
     let mut word = Word::opening_in(limits.layout());
-    for (index, small) in calls.iter().enumerate() {
-        let Some((next, reply)) = transition(limits, word, small.call()) else {
+    for (index, call) in calls.iter().enumerate() {
+        let Some((next, reply)) = transition(limits, word, call.as_call()) else {
             return Err(AnswerError::Waits(index as u64));
         };
         push_comma(text, index)?;
@@ -46,7 +45,7 @@ pub fn replay_text(alloc: Global, bytes: &[u8]) -> Result<Vec<u8>, AnswerError>
     ensures memory { IfErr result (λ e. e ≡ AnswerError.Refused ReadError.Memory
         → 0 < length bytes.now) }
 {
-    let (limits, calls) = read_small_calls(alloc, bytes)?;
+    let (limits, calls) = read_lock_calls(alloc, bytes)?;
     let mut text = Vec::new(alloc);
     push_text(&mut text, "{\"replies\":")?;
     let word = push_replies_to(&mut text, limits, &calls)?;

@@ -3,18 +3,19 @@
 ghost use Rattle.std.specs.Prelude.{◌≡◌};
 ghost use Rattle.std.specs.Result.{result_map_both};
 ghost use Rattle.serde_json.specs.View.{view, items_view};
-ghost use Rattle.stamp_history.specs.inner.SmallCall.{core_call, core_calls};
+ghost use Rattle.stamp_core.specs.LockCall.{call_as};
 ghost use Rattle.stamp_history.specs.Gives.{Gives};
 ghost use Rattle.stamp_history.specs.JsonReading.{each};
 ghost use Rattle.stamp_history.specs.ReplayFields as field;
+ghost use Rattle.stamp_history.specs.inner.Replay.{calls_as};
 
 use crate::field::Field;
 use crate::json_values::{has_keys, list_under};
 use crate::lock_calls::lock_call_of;
 use crate::read_error::ReadError;
-use crate::small_call::SmallCall;
 use crate::text_kind::TextKind;
 use serde_json::Value;
+use stamp_core::LockCall;
 use std::alloc::Global;
 
 /// The most calls of a replay.
@@ -45,14 +46,14 @@ fn listed_calls(value: &Value) -> Result<&[Value], ReadError>
     }
 }
 
-fn call_at(index: u64, value: &Value) -> Result<SmallCall, ReadError>
-    ensures { result_map_both core_call (λ e. e) result ≡ field.call_at index (view value.now) }
+fn call_at(index: u64, value: &Value) -> Result<LockCall, ReadError>
+    ensures { result_map_both call_as (λ e. e) result ≡ field.call_at index (view value.now) }
 {
     lock_call_of(value).ok_or(TextKind::Replay.mistake(Field::Call(index)))
 }
 
-fn calls_in(alloc: Global, list: &[Value]) -> Result<Vec<SmallCall>, ReadError>
-    ensures { Gives ReadError.Memory core_calls result
+fn calls_in(alloc: Global, list: &[Value]) -> Result<Vec<LockCall>, ReadError>
+    ensures { Gives ReadError.Memory calls_as result
         (each field.call_at 0 (items_view list.now)) }
 {
     let mut calls = Vec::with_capacity(alloc, list.len())?;
@@ -62,10 +63,10 @@ fn calls_in(alloc: Global, list: &[Value]) -> Result<Vec<SmallCall>, ReadError>
     Ok(calls)
 }
 
-/// The calls under the key `calls`, in little room.
+/// The calls under the key `calls`.
 #[tactic(auto, unfolding(crate::specs::ReplayFields::calls))]
-pub(crate) fn read_calls(alloc: Global, value: &Value) -> Result<Vec<SmallCall>, ReadError>
-    ensures { Gives ReadError.Memory core_calls result (field.calls (view value.now)) }
+pub(crate) fn read_calls(alloc: Global, value: &Value) -> Result<Vec<LockCall>, ReadError>
+    ensures { Gives ReadError.Memory calls_as result (field.calls (view value.now)) }
 {
     calls_in(alloc, listed_calls(value)?)
 }

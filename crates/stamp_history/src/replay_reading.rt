@@ -3,27 +3,26 @@
 ghost use Rattle.std.specs.Prelude.{◌≡◌, ◌<◌, IsTrue, IfOk, IfErr, length, map};
 ghost use Rattle.std.specs.List.{All};
 ghost use Rattle.stamp_core.specs.Call.{is_lock_call};
+ghost use Rattle.stamp_core.specs.LockCall.{call_as};
 ghost use Rattle.stamp_history.specs.Gives.{Gives};
 ghost use Rattle.stamp_history.specs.Replay.{replay_of, replay_view};
-ghost use Rattle.stamp_history.specs.inner.Replay.{small_view};
-ghost use Rattle.stamp_history.specs.inner.SmallCall.{core_call};
+ghost use Rattle.stamp_history.specs.inner.Replay.{replay_as};
 
 use crate::json_values::json;
 use crate::limit_fields::read_limits;
 use crate::read_error::ReadError;
 use crate::replay_fields::{check_top, read_calls};
-use crate::small_call::SmallCall;
 use crate::text_kind::TextKind;
-use stamp_core::{Call, Limits};
+use stamp_core::{Call, Limits, LockCall};
 use std::alloc::{AllocError, Global};
 
-/// The limits and the small calls of a replay.
+/// The limits and the calls of a replay.
 #[tactic(auto, unfolding(crate::specs::Replay::replay_of, crate::specs::Replay::replay_in))]
-pub(crate) fn read_small_calls(
+pub(crate) fn read_lock_calls(
     alloc: Global,
     bytes: &[u8],
-) -> Result<(Limits, Vec<SmallCall>), ReadError>
-    ensures replay { Gives ReadError.Memory small_view result (replay_of bytes.now) }
+) -> Result<(Limits, Vec<LockCall>), ReadError>
+    ensures replay { Gives ReadError.Memory replay_as result (replay_of bytes.now) }
     ensures some { IfOk result (λ _. 0 < length bytes.now) }
     ensures memory { IfErr result (λ e. e ≡ ReadError.Memory → 0 < length bytes.now) }
 {
@@ -34,13 +33,13 @@ pub(crate) fn read_small_calls(
     Ok((limits, calls))
 }
 
-fn calls_of(alloc: Global, small: &[SmallCall]) -> Result<Vec<Call>, AllocError>
-    ensures calls { IfOk result (λ calls. calls.items ≡ map core_call small.now) }
+fn calls_of(alloc: Global, lock_calls: &[LockCall]) -> Result<Vec<Call>, AllocError>
+    ensures calls { IfOk result (λ calls. calls.items ≡ map call_as lock_calls.now) }
     ensures lock_call { IfOk result (λ calls. All (λ call. IsTrue (is_lock_call call)) calls.items) }
 {
-    let mut calls = Vec::with_capacity(alloc, small.len())?;
-    for call in small {
-        calls.push(call.call())?;
+    let mut calls = Vec::with_capacity(alloc, lock_calls.len())?;
+    for call in lock_calls {
+        calls.push(call.as_call())?;
     }
     Ok(calls)
 }
@@ -55,6 +54,6 @@ pub fn read_replay(alloc: Global, bytes: &[u8]) -> Result<(Limits, Vec<Call>), R
     ensures lock_call { IfOk result (λ read. All (λ call. IsTrue (is_lock_call call)) read.1.items) }
     ensures memory { IfErr result (λ e. e ≡ ReadError.Memory → 0 < length bytes.now) }
 {
-    let (limits, small) = read_small_calls(alloc, bytes)?;
-    Ok((limits, calls_of(alloc, &small)?))
+    let (limits, lock_calls) = read_lock_calls(alloc, bytes)?;
+    Ok((limits, calls_of(alloc, &lock_calls)?))
 }

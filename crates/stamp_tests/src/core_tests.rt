@@ -1,9 +1,9 @@
 use crate::fixtures::limits;
 use stamp_core::{
-    Call, CoreError, Decision, Entry, Layout, Limits, LockDecision, LockReply, Record, ReplayError,
-    Reply, StampKind, Word, Words, decide, decide_lock, is_lock_stamp, is_lock_stamp_in,
-    is_optimistic_stamp, is_optimistic_stamp_in, is_read_stamp, is_read_stamp_in, is_write_stamp,
-    is_write_stamp_in, replay, respell, stamp_kind, stamp_kind_in, transition,
+    Call, CoreError, Decision, Entry, Layout, Limits, LockCall, LockDecision, LockReply, Record,
+    ReplayError, Reply, StampKind, Word, Words, decide, decide_lock, is_lock_stamp,
+    is_lock_stamp_in, is_optimistic_stamp, is_optimistic_stamp_in, is_read_stamp, is_read_stamp_in,
+    is_write_stamp, is_write_stamp_in, replay, respell, stamp_kind, stamp_kind_in, transition,
 };
 use std::alloc::{AllocError, Global};
 use std::test::Fail;
@@ -423,4 +423,12 @@ fn record_calls_are_told_from_lock_calls(rt: HostRuntime) {
         assert!(rt; call.suits(1));
         assert!(rt; call.suits(0) == is_lock_call);
     }
+}
+
+#[test]
+fn a_lock_call_is_its_call_in_few_bytes(rt: HostRuntime) {
+    let own = LockCall::of(&Call::ToRead(256));
+    assert!(rt; own == Some(LockCall::ToRead(256)));
+    assert!(rt; LockCall::ToRead(256).as_call() == Call::ToRead(256));
+    assert!(rt; LockCall::of(&Call::Get) == None);
 }

@@ -16,6 +16,7 @@ pub mod Found
 pub mod CallSteps
 pub mod GoingAsMachine
 pub mod Replying
+pub mod OptimisticStamps
 pub mod TwoAccesses
 pub mod RecordWords
 pub mod RecordLogs

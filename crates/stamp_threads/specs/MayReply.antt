@@ -1,5 +1,5 @@
 -- Which kind of reply each call of the lock has.
-use Rattle.std.specs.Prelude.{◌≡◌, ◌<◌, ℕ}
+use Rattle.std.specs.Prelude.{◌≡◌, ◌<◌, ℕ, Option, Some, None}
 use Rattle.stamp_core.specs.declared.call.Call.{Call}
 use Rattle.stamp_core.specs.declared.call.Call.TheVariants.{ReadLock, Validate}
 use Rattle.stamp_core.specs.declared.call.Call.TheVariants.{UnlockWrite, UnlockRead, Unlock}
@@ -7,6 +7,11 @@ use Rattle.stamp_core.specs.declared.call.Call.TheVariants.{TryUnlockWrite, TryU
 use Rattle.stamp_core.specs.declared.call.Call.TheVariants.{IsWriteLocked, IsReadLocked, ReadCount}
 use Rattle.stamp_core.specs.declared.reply.Reply.{Reply}
 use Rattle.stamp_core.specs.declared.reply.Reply.TheVariants.{Stamp, Yes, No, Done, Mismatch, Count}
+
+-- 0 is no stamp
+abbrev pub stamp_or_zero : Option ℕ → ℕ
+stamp_or_zero None = 0
+stamp_or_zero (Some s) = s
 
 abbrev pub IsStampReply : Reply → Type 0
 IsStampReply reply = (s : ℕ) × (reply ≡ Stamp s)

@@ -1,17 +1,19 @@
 //! The lock that threads share.
-ghost use Rattle.std.specs.Prelude.{◌≡◌, IfOk, IfErr, OnOk, IsTrue, true, false};
+ghost use Rattle.std.specs.Prelude.{◌≡◌, ◌<◌, ◌∷◌, [], ℕ, IfOk, IfErr, IfSome, OnOk, IsTrue, true, false};
 ghost use Rattle.stamp_core.specs.Call.{is_lock_call};
 ghost use Rattle.stamp_core.specs.Word.{IsAdmitted, word_at};
 ghost use Rattle.stamp_core.specs.Decision.{Decides};
 ghost use Rattle.stamp_core.specs.CountedDecision.{decision};
 ghost use Rattle.stamp_core.specs.LockDecision.{decision_as, reply_as};
+ghost use Rattle.stamp_core.specs.declared.call.Call.TheVariants.{Optimistic};
+ghost use Rattle.stamp_core.specs.declared.reply.Reply.TheVariants.{Stamp};
 ghost use Rattle.stamp_machines.specs.declared.machine.Turn.TheVariants as Turn;
-ghost use Rattle.stamp_threads.specs.PassView.{after_split, split_off};
+ghost use Rattle.stamp_threads.specs.PassView.{HasFound, after_split, split_off};
 ghost use Rattle.stamp_threads.specs.LockPass.{HasEntered, IsConsistentWith, IsNew, LockPassView, first_of};
 ghost use Rattle.stamp_threads.specs.inner.LockPass.{IsAtSeat};
 ghost use Rattle.stamp_threads.specs.Made.{Made, AccessesOnceOrTwice, try_form};
 ghost use Rattle.stamp_threads.specs.inner.Made.{MayWait};
-ghost use Rattle.stamp_threads.specs.MayReply.{MayReply};
+ghost use Rattle.stamp_threads.specs.MayReply.{MayReply, stamp_or_zero};
 ghost use Rattle.stamp_threads.specs.LostExchange.{LostExchange};
 ghost use Rattle.stamp_threads.specs.GoesAsMachine.{GoesAsMachine, turn_once};
 ghost use Rattle.stamp_threads.specs.inner.GoesAsMachine.{IsToDecide};
@@ -106,6 +108,7 @@ pub struct RunningLock {
 
 impl Model for RunningLock {
     ghost use Rattle.std.specs.Prelude.{◌≡◌};
+    ghost use Rattle.stamp_core.specs.Limits.{AreInRange};
     ghost use Rattle.stamp_threads.specs.LockPass.{LockView};
 
     ghost Value = { LockView };
@@ -117,7 +120,7 @@ impl Model for RunningLock {
     } };
 
     ghost invariant = { λ l. (l.table.shared.key.limits ≡ l.limits)
-        × (l.table.shared.table_id.words ≡ 1) × (l.table.shared.table_id.slots ≡ 0) };
+        × (l.table.shared.table_id.words ≡ 1) × (l.table.shared.table_id.slots ≡ 0) × AreInRange l.limits };
 }
 
 impl RunningLock {
@@ -237,6 +240,31 @@ impl RunningLock {
                 }
             }
             LockDecision::Wait => unreachable!(),
+        }
+    }
+
+    /// As `once_in` with `Call::Optimistic`: the stamp, or None while there is a writer. Where there is none the
+    /// stamp isn't tested for 0. One load.
+    #[inline(always)]
+    pub fn optimistic_in<L: KnownLayout>(&self, pass: &mut Pass) -> Option<u64>
+        requires layout { L.seen self.now.limits.layout ≡ self.now.limits.layout }
+        requires table { pass.old.table ≡ self.now.table }
+        ensures table { pass.new.table ≡ self.now.table }
+        ensures made { Made self.now.limits Optimistic (Stamp (stamp_or_zero result)) pass.old.view pass.new.view }
+        ensures some { IfSome result (λ stamp. 0 < stamp) }
+        ensures once { (word : ℕ) × HasFound pass.old.view (word ∷ []) pass.new.view }
+        ensures machine { GoesAsMachine self.now.limits Optimistic pass.old.view pass.new.view
+            (Turn.Done (Stamp (stamp_or_zero result))) }
+    {
+        let call = Call::Optimistic;
+        let word = load::<Brand>(&self.table.shared, &mut pass.seat, &call);
+        let LockDecision::Answer(LockReply::Stamp(stamp)) = self.decide::<L>(&call, word) else {
+            unreachable!()
+        };
+        if self.limits.seen::<L>().word(word).is_writing() {
+            None
+        } else {
+            Some(stamp)
         }
     }
 

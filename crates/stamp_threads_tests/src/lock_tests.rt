@@ -2,7 +2,7 @@
 ghost use Rattle.std.specs.Prelude.{◌≡◌, IfOk, IsTrue};
 ghost use Rattle.stamp_core.specs.Call.{is_lock_call};
 
-use stamp_core::{Call, Layout, Limits, Reply};
+use stamp_core::{Call, EitherLayout, Layout, Limits, Reply};
 use stamp_threads::{Pass, RunningLock};
 use std::alloc::Global;
 use std::test::Fail;
@@ -89,5 +89,35 @@ fn each_other_call_and_those_that_get_zero(rt: HostRuntime) -> Result<(), Fail> 
     assert!(rt; answers(&lock, &mut pass, Call::TryUnlockWrite, Reply::No));
     assert!(rt; answers(&lock, &mut pass, Call::UnlockWrite(384), Reply::Mismatch));
     assert!(rt; lock.close(pass) == 512);
+    Ok(())
+}
+
+/// Whether an optimistic stamp is the first of these in a new lock of the layout, none beside a writer, who has the second,
+/// and the third once the writer has left.
+fn is_optimistic_between_writers(
+    alloc: Global,
+    layout: Layout,
+    stamps: [u64; 3],
+) -> Result<bool, Fail> {
+    let [first, written, next] = stamps;
+    let (lock, mut pass) = made(alloc, layout, 1)?;
+    let pass = &mut pass;
+    Ok(
+        lock.optimistic_in::<EitherLayout>(pass) == Some(first)
+            && answers(&lock, pass, Call::TryWrite, Reply::Stamp(written))
+            && lock.optimistic_in::<EitherLayout>(pass) == None
+            && answers(&lock, pass, Call::TryUnlockWrite, Reply::Yes)
+            && lock.optimistic_in::<EitherLayout>(pass) == Some(next),
+    )
+}
+
+#[test]
+fn an_optimistic_stamp_is_had_where_there_is_no_writer(rt: HostRuntime) -> Result<(), Fail> {
+    for (layout, stamps) in [
+        (Layout::One, [256, 384, 512]),
+        (Layout::Two, [131_072, 196_608, 262_144]),
+    ] {
+        assert!(rt; is_optimistic_between_writers(rt.alloc(), layout, stamps)?);
+    }
     Ok(())
 }

@@ -18,13 +18,14 @@ use Rattle.stamp_explain.specs.Explained.{Effect, IsEffectOf, history_of, indice
 use Rattle.stamp_explain.specs.Search.{Runs, LockAlone}
 use Rattle.stamp_explain.proofs.Lists.{none_in_empty, contains_cases, contains_first, contains_rest}
 use Rattle.stamp_explain.proofs.Completing.{same_entry}
-use Rattle.stamp_watch.specs.declared.event.Event.{Event}
-use Rattle.stamp_watch.specs.declared.event.Event.TheVariants.{Begins, Returns, Withdraws}
+use Rattle.stamp_runs.specs.declared.event.Event.{Event}
+use Rattle.stamp_runs.specs.declared.event.Event.TheVariants.{Begins, Returns, Withdraws}
+use Rattle.stamp_runs.specs.Run.{all_idle}
+use Rattle.stamp_runs.specs.LockRun.{AreExplained}
+use Rattle.stamp_runs.proofs.Lanes.{idle_or_asks, idle_or_gets}
 use Rattle.stamp_watch.specs.AsObserved.{ending_of, entries_from}
 use Rattle.stamp_watch.specs.Form.{is_busy_then, AreInFormFrom, AreInForm}
-use Rattle.stamp_watch.specs.Run.{AreExplained, all_idle}
 use Rattle.stamp_watch.specs.WatchLaws.{ExplainedAsObserved}
-use Rattle.stamp_watch.proofs.Surviving.{idle_or_asks, idle_or_gets}
 use Rattle.stamp_watch.proofs.Numbered.{IsEntryOf, entry_tells, in_with_entry, contains_at, own_firsts}
 use Rattle.stamp_watch.proofs.Remaining.{IsAhead, ahead_at_first}
 use Rattle.stamp_watch.proofs.Remaining.IsAhead.{of_later}
@@ -119,7 +120,7 @@ run_explained limits entries events are way = record {
     found : IsPlanned limits entries events 0 [] all_idle (λ (lane : ℕ). 0)
     found = planned limits entries events 0 [] all_idle (λ (lane : ℕ). 0)
         (λ lane call asks. absurd (idle_or_asks refl asks))
-        (λ e is. are.inside e (ahead_at_first all_idle (λ (lane : ℕ). 0) events e (λ lane. refl) is)) way
+        (λ e is. are.inside e (ahead_at_first all_idle (λ (lane : ℕ). 0) events e (λ lane. refl) is)) way.way
 
     has : (e : Observation) → HasReturned e → Contains (entries_from 0 events) e ⊎ IsLate (length events) e →
         Contains (entries_of found.order) e

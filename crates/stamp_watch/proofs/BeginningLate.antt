@@ -10,19 +10,21 @@ use Rattle.stamp_core.specs.Transition.{transition}
 use Rattle.stamp_core.specs.History.{appended_by}
 use Rattle.stamp_core.specs.declared.call.Call.{Call}
 use Rattle.stamp_core.specs.declared.reply.Reply.{Reply}
-use Rattle.stamp_watch.specs.declared.event.Event.{Event}
-use Rattle.stamp_watch.specs.declared.event.Event.TheVariants.{Begins, Returns, Withdraws}
-use Rattle.stamp_watch.specs.Run.{LockStep, Sets, Survives, Lanes}
-use Rattle.stamp_watch.specs.Run.Phase.{Idle, Asks, Gets}
-use Rattle.stamp_watch.specs.Run.Survives.{at_end, takes_effect, begins, returns, withdraws}
-use Rattle.stamp_watch.specs.Ahead.{EndsNever, Spares, Tells}
-use Rattle.stamp_watch.specs.Ahead.Spares.{spares_beginning, spares_return, spares_withdrawal}
-use Rattle.stamp_watch.specs.WatchLaws.{BeginsLate, BeginsSooner}
-use Rattle.stamp_watch.proofs.Surviving.{idle_or_asks, idle_or_gets, asks_or_gets, one_call, set_of, sets_of}
-use Rattle.stamp_watch.proofs.Surviving.{sets_swapped, begins_first, gotten_is_told, tells_past_beginning}
-use Rattle.stamp_watch.proofs.Surviving.{tells_return, tells_past_withdrawal, never_past_beginning, never_past_return}
-use Rattle.stamp_watch.proofs.Surviving.{never_past_withdrawal}
-use Rattle.stamp_watch.proofs.StandingFor.{no_empty, first_same, rest_same}
+use Rattle.stamp_runs.specs.declared.event.Event.{Event}
+use Rattle.stamp_runs.specs.declared.event.Event.TheVariants.{Begins, Returns}
+use Rattle.stamp_runs.specs.Object.{LockStep}
+use Rattle.stamp_runs.specs.Run.{EndsBy, Lanes, Leads, Phase, Sets, Survives, EndsNever}
+use Rattle.stamp_runs.specs.Run.Leads.{leads_nowhere, by_effect, by_event}
+use Rattle.stamp_runs.specs.Run.Phase.{Idle, Asks, Gets}
+use Rattle.stamp_runs.proofs.Lanes.{stays_beside, asks_or_gets, idle_or_asks, one_call, one_reply, set_of, sets_alike}
+use Rattle.stamp_runs.proofs.Lanes.{sets_of}
+use Rattle.stamp_runs.proofs.Sets.{leads_survive}
+use Rattle.stamp_watch.proofs.Ways.{gotten_is_told, InTwo, asks_still, beside, comes_next, cut, ends_behind}
+use Rattle.stamp_watch.proofs.Ways.{gets_still}
+use Rattle.stamp_watch.proofs.Ways.{other_first, others_spared, sets_back, spared_while_open, survives_on, was_idle}
+use Rattle.stamp_watch.specs.Ahead.{IsSpared}
+use Rattle.stamp_watch.specs.WatchLaws.{BeginsAtOnce, BeginsLate, BeginsSooner}
+use Rattle.stamp_watch.proofs.Surviving.{begins_first}
 
 pub writes-append : (xs ys : List LockEvent) → write_count (xs ++ ys) ≡ write_count xs + write_count ys
 writes-append xs ys = sum_by-append (λ (x : LockEvent). cond (is_write_acquired x) 1 0) xs ys
@@ -37,195 +39,91 @@ version_stays limits s next call reply step =
       ap (λ (events : List LockEvent). write_count events) step.appends,
     )
 
--- what goes on after some events only from an older version does so before them
-pub older : (limits : Bounds) (version : ℕ) (between rest events : List Event) (s : List LockEvent) (lanes : Lanes) →
-    ((v : List LockEvent) (there : Lanes) → Survives limits rest v there → write_count v < version) →
-    events ≡ between ++ rest → Survives limits events s lanes → write_count s < version
-older limits version [] rest events s lanes old same way =
-    old s lanes (subst (λ (es : List Event). Survives limits es s lanes) same way)
-older limits version (e ∷ between) rest events s lanes old same at_end = absurd (no_empty same)
-older limits version (e ∷ between) rest events s lanes old same (takes_effect {next = next} {after = after} u c r asks
-    step sets way) =
-    let later = older limits version (e ∷ between) rest events next after old same way in
-    let stays = version_stays limits s next c r step in
-    omega (arith, later, stays)
-older limits version (e ∷ between) rest events s lanes old same (begins {events = more} {after = after} u c idle sets
-    way) = older limits version between rest more s after old (rest_same same) way
-older limits version (e ∷ between) rest events s lanes old same (returns {events = more} {after = after} u r gets sets
-    way) = older limits version between rest more s after old (rest_same same) way
-older limits version (e ∷ between) rest events s lanes old same (withdraws {events = more} {after = after} u c asks
-    sets way) = older limits version between rest more s after old (rest_same same) way
+pub versions_stay : {limits : Bounds} {events : List Event} {s t : List LockEvent} {a b : Lanes} →
+    Leads (LockStep limits) events s a t b → write_count s ≤ write_count t
+versions_stay leads_nowhere = omega arith
+versions_stay {limits} {s = s} (by_effect {next = next} u call reply asks step sets rest) =
+    omega (arith, version_stays limits s next call reply step, versions_stay rest)
+versions_stay (by_event event happens rest) = versions_stay rest
 
-late : (limits : Bounds) (t : ℕ) (call : Call) (reply : Reply) (version : ℕ) (between rest events : List Event)
-    (s : List LockEvent) (lanes begun : Lanes) → events ≡ between ++ rest → lanes t ≡ Idle →
-    Sets lanes begun t (Asks call) → Tells t reply events → EndsNever t between →
-    ((u v : List LockEvent) → LockStep limits u call reply v → version ≤ write_count v) →
-    ((v : List LockEvent) (there : Lanes) → Survives limits rest v there → write_count v < version) →
-    Survives limits events s begun → Survives limits (between ++ Begins t call ∷ rest) s lanes
-late limits t call reply version [] rest events s lanes begun same idle sets tells never new old way =
-    begins t call idle sets (subst (λ (es : List Event). Survives limits es s begun) same way)
-late limits t call reply version (e ∷ between) rest events s lanes begun same idle sets tells never new old at_end =
-    absurd (no_empty same)
-late limits t call reply version (e ∷ between) rest events s lanes begun same idle sets tells never new old
-    (takes_effect {next = next} {after = after} u c r asks step sets_u way) = by (cases_eq u t)
-    (λ apart. late limits t call reply version (e ∷ between) rest events next (set_of lanes u (Gets r)) after same
-    ((sets_of lanes u (Gets r)).others t (λ e. apart (sym e)) ∙ idle)
-    (sets_swapped lanes begun (set_of lanes u (Gets r)) after t u (Asks call) (Gets r) (λ e. apart (sym e)) sets
-    (sets_of lanes u (Gets r)) sets_u) tells never new old way)
+-- what goes on after some events only from an older version does so before them
+pub older : (limits : Bounds) (version : ℕ) (between rest : List Event) (s : List LockEvent) (lanes : Lanes) →
+    ((v : List LockEvent) (there : Lanes) → Survives (LockStep limits) rest v there → write_count v < version) →
+    Survives (LockStep limits) (between ++ rest) s lanes → write_count s < version
+older limits version between rest s lanes old way =
+    let two = cut between rest way.way in
+    let low = old two.state two.lanes (leads_survive (LockStep limits) two.behind) in
+    let stays = versions_stay two.before in omega (arith, low, stays)
+
+-- a call that takes effect on a way with this reply tells no older version than there is behind it
+took_newer : {limits : Bounds} {events : List Event} {s t : List LockEvent} {a b : Lanes} (lane : ℕ) (call : Call)
+    (reply : Reply) (version : ℕ) →
+    ((u v : List LockEvent) → LockStep limits u call reply v → version ≤ write_count v) → IsSpared events lane →
+    a lane ≡ Asks call → b lane ≡ Gets reply → Leads (LockStep limits) events s a t b → version ≤ write_count t
+took_newer lane call reply version new spared asks gets leads_nowhere = absurd (asks_or_gets asks gets)
+took_newer {limits} {s = s} {t} {a} lane call reply version new spared asks gets
+    (by_effect {next = next} {after = after} u c r asks_u step sets rest) = by (cases_eq u lane)
+    (λ apart. took_newer lane call reply version new spared (sets.others lane (λ e. apart (sym e)) ∙ asks) gets rest)
   where
-    by : (u ≡ t) ⊎ (u ≢ t) →
-        (u ≢ t → Survives limits ((e ∷ between) ++ Begins t call ∷ rest) next (set_of lanes u (Gets r))) →
-        Survives limits ((e ∷ between) ++ Begins t call ∷ rest) s lanes
-    by (inr apart) more = takes_effect u c r (sym (sets.others u apart) ∙ asks) step (sets_of lanes u (Gets r))
-        (more apart)
-    by (inl is) more = absurd (omega (arith, before, after_it))
+    by : (u ≡ lane) ⊎ (u ≢ lane) → (u ≢ lane → version ≤ write_count t) → version ≤ write_count t
+    by (inr apart) later = later apart
+    by (inl same) later = omega (
+      arith,
+      new s next (subst (λ (x : Reply). LockStep limits s call x next) told
+          (subst (λ (x : Call). LockStep limits s x r next)
+          (one_call (subst (λ (v : ℕ). a v ≡ Asks c) same asks_u) asks) step)),
+      versions_stay rest,
+    )
       where
         told : r ≡ reply
-        told = gotten_is_told limits t r reply events next after
-            (subst (λ (w : ℕ). after w ≡ Gets r) is sets_u.here) tells way
-
-        its : c ≡ call
-        its = one_call (subst (λ (w : ℕ). begun w ≡ Asks c) is asks) sets.here
-
-        before : write_count next < version
-        before = older limits version (e ∷ between) rest events next after old same way
-
-        after_it : version ≤ write_count next
-        after_it = new s next (subst (λ (x : Reply). LockStep limits s call x next) told
-            (subst (λ (x : Call). LockStep limits s x r next) its step))
-late limits t call reply version (e ∷ between) rest events s lanes begun same idle sets tells never new old
-    (begins {events = more} {after = after} u c idle_u sets_u way) =
-    subst (λ (x : Event). Survives limits (x ∷ between ++ Begins t call ∷ rest) s lanes) (first_same same)
-    (begins u c (sym (sets.others u apart) ∙ idle_u) (sets_of lanes u (Asks c))
-    (late limits t call reply version between rest more s (set_of lanes u (Asks c)) after (rest_same same)
-    ((sets_of lanes u (Asks c)).others t (λ e. apart (sym e)) ∙ idle)
-    (sets_swapped lanes begun (set_of lanes u (Asks c)) after t u (Asks call) (Asks c) (λ e. apart (sym e)) sets
-    (sets_of lanes u (Asks c)) sets_u) (tells_past_beginning tells)
-    (never_past_beginning (subst (λ (x : Event). EndsNever t (x ∷ between)) (sym (first_same same)) never)) new old
-    way))
-  where
-    apart : u ≢ t
-    apart is = idle_or_asks (subst (λ (w : ℕ). begun w ≡ Idle) is idle_u) sets.here
-late limits t call reply version (e ∷ between) rest events s lanes begun same idle sets tells never new old
-    (returns {events = more} {after = after} u r gets sets_u way) =
-    subst (λ (x : Event). Survives limits (x ∷ between ++ Begins t call ∷ rest) s lanes) (first_same same)
-    (returns u r (sym (sets.others u apart) ∙ gets) (sets_of lanes u Idle)
-    (late limits t call reply version between rest more s (set_of lanes u Idle) after (rest_same same)
-    ((sets_of lanes u Idle).others t (λ e. apart (sym e)) ∙ idle)
-    (sets_swapped lanes begun (set_of lanes u Idle) after t u (Asks call) Idle (λ e. apart (sym e)) sets
-    (sets_of lanes u Idle) sets_u) (told (tells_return tells))
-    (never_past_return (subst (λ (x : Event). EndsNever t (x ∷ between)) (sym (first_same same)) never)).1 new old
-    way))
-  where
-    apart : u ≢ t
-    apart is = asks_or_gets sets.here (subst (λ (w : ℕ). begun w ≡ Gets r) is gets)
-
-    told : ((u ≡ t) × (r ≡ reply)) ⊎ ((u ≢ t) × Tells t reply more) → Tells t reply more
-    told (inl here) = absurd (apart here.0)
-    told (inr later_on) = later_on.1
-late limits t call reply version (e ∷ between) rest events s lanes begun same idle sets tells never new old
-    (withdraws {events = more} {after = after} u c asks sets_u way) =
-    subst (λ (x : Event). Survives limits (x ∷ between ++ Begins t call ∷ rest) s lanes) (first_same same)
-    (withdraws u c (sym (sets.others u apart) ∙ asks) (sets_of lanes u Idle)
-    (late limits t call reply version between rest more s (set_of lanes u Idle) after (rest_same same)
-    ((sets_of lanes u Idle).others t (λ e. apart (sym e)) ∙ idle)
-    (sets_swapped lanes begun (set_of lanes u Idle) after t u (Asks call) Idle (λ e. apart (sym e)) sets
-    (sets_of lanes u Idle) sets_u) (tells_past_withdrawal tells).1 both.1 new old way))
-  where
-    both : (u ≢ t) × EndsNever t between
-    both = never_past_withdrawal (subst (λ (x : Event). EndsNever t (x ∷ between)) (sym (first_same same)) never)
-
-    apart : u ≢ t
-    apart = both.0
+        told = one_reply (gets_still lane r spared (subst (λ (v : ℕ). after v ≡ Gets r) same sets.here) rest) gets
+took_newer {a = a} lane call reply version new spared asks gets
+    (by_event {events = events} {after = after} event happens rest) =
+    took_newer lane call reply version new (others_spared lane event events spared)
+    (stays_beside a after event lane (other_first lane event events spared) happens ∙ asks) gets rest
 
 pub begins_late : BeginsLate
 begins_late limits t call reply version between rest s lanes begun idle sets tells never new old way =
-    late limits t call reply version between rest (between ++ rest) s lanes begun refl idle sets tells never new old
-    way
-
-pub past_beginning_spared : {t u : ℕ} {call : Call} {events : List Event} → Spares t (Begins u call ∷ events) →
-    (u ≢ t) × Spares t events
-past_beginning_spared (spares_beginning u call apart spares) = (apart, spares)
-
-pub past_return_spared : {t u : ℕ} {answer : Reply} {events : List Event} → Spares t (Returns u answer ∷ events) →
-    (u ≢ t) × Spares t events
-past_return_spared (spares_return u answer apart spares) = (apart, spares)
-
-pub past_withdrawal_spared : {t u : ℕ} {events : List Event} → Spares t (Withdraws u ∷ events) →
-    (u ≢ t) × Spares t events
-past_withdrawal_spared (spares_withdrawal u apart spares) = (apart, spares)
-
--- the lane is idle, and the call may begin at once
-record Sooner (limits : Bounds) (t : ℕ) (call : Call) (events : List Event) (s : List LockEvent) (lanes : Lanes) :
-    Type 0 where
-  idle : lanes t ≡ Idle
-  way : (begun : Lanes) → Sets lanes begun t (Asks call) → Survives limits events s begun
-
-sooner : (limits : Bounds) (t : ℕ) (call : Call) (between rest events : List Event) (s : List LockEvent)
-    (lanes : Lanes) → events ≡ between ++ Begins t call ∷ rest → Spares t between →
-    Survives limits events s lanes → Sooner limits t call (between ++ rest) s lanes
-sooner limits t call [] rest events s lanes same spares way =
-    let first = begins_first limits t call rest s lanes
-    (subst (λ (es : List Event). Survives limits es s lanes) same way) in
-    record { idle = first.idle; way = first.survives }
-sooner limits t call (e ∷ between) rest events s lanes same spares at_end = absurd (no_empty same)
-sooner limits t call (e ∷ between) rest events s lanes same spares (takes_effect {next = next} {after = after} u c r
-    asks step sets way) = by (sooner limits t call (e ∷ between) rest events next after same spares way)
+    by (cut between rest way.way)
   where
-    by : Sooner limits t call ((e ∷ between) ++ rest) next after → Sooner limits t call ((e ∷ between) ++ rest) s lanes
-    by later = record {
-      idle = sym (sets.others t (λ is. apart (sym is))) ∙ later.idle;
-      way = λ begun now. takes_effect u c r (now.others u apart ∙ asks) step
-          (sets_swapped lanes after begun (set_of after t (Asks call)) u t (Gets r) (Asks call) apart sets now
-          (sets_of after t (Asks call))) (later.way (set_of after t (Asks call)) (sets_of after t (Asks call)));
-    }
+    by : InTwo (LockStep limits) between rest s begun way.state way.last →
+        Survives (LockStep limits) (between ++ Begins t call ∷ rest) s lanes
+    by two = survives_on (subst (λ (a : Lanes).
+        Leads (LockStep limits) between s a two.state (set_of two.lanes t Idle))
+        (sets_alike begun (set_of begun t Idle) lanes t Idle (sets_of begun t Idle) (sets_back sets idle))
+        (beside t Idle spared (λ c r asks gets. late c r asks gets) two.before))
+        (comes_next (Begins t call) ((sets_of two.lanes t Idle).here, sets_back (sets_of two.lanes t Idle) asks)
+        (leads_survive (LockStep limits) two.behind))
       where
-        apart : u ≢ t
-        apart is = idle_or_gets (subst (λ (w : ℕ). after w ≡ Idle) (sym is) later.idle) sets.here
-sooner limits t call (e ∷ between) rest events s lanes same spares (begins {events = more} {after = after} u c idle_u
-    sets way) = by (sooner limits t call between rest more s after (rest_same same) both.1 way)
-  where
-    both : (u ≢ t) × Spares t between
-    both = past_beginning_spared (subst (λ (x : Event). Spares t (x ∷ between)) (sym (first_same same)) spares)
+        spared : IsSpared between t
+        spared = spared_while_open t (λ is. idle_or_asks is sets.here) never two.before
 
-    by : Sooner limits t call (between ++ rest) s after → Sooner limits t call ((e ∷ between) ++ rest) s lanes
-    by later = record {
-      idle = sym (sets.others t (λ is. both.0 (sym is))) ∙ later.idle;
-      way = λ begun now. subst (λ (x : Event). Survives limits (x ∷ between ++ rest) s begun) (first_same same)
-          (begins u c (now.others u both.0 ∙ idle_u) (sets_swapped lanes after begun (set_of after t (Asks call)) u t
-          (Asks c) (Asks call) both.0 sets now (sets_of after t (Asks call))) (later.way (set_of after t (Asks call))
-          (sets_of after t (Asks call))));
-    }
-sooner limits t call (e ∷ between) rest events s lanes same spares (returns {events = more} {after = after} u r gets
-    sets way) = by (sooner limits t call between rest more s after (rest_same same) both.1 way)
-  where
-    both : (u ≢ t) × Spares t between
-    both = past_return_spared (subst (λ (x : Event). Spares t (x ∷ between)) (sym (first_same same)) spares)
+        low : write_count two.state < version
+        low = old two.state two.lanes (leads_survive (LockStep limits) two.behind)
 
-    by : Sooner limits t call (between ++ rest) s after → Sooner limits t call ((e ∷ between) ++ rest) s lanes
-    by later = record {
-      idle = sym (sets.others t (λ is. both.0 (sym is))) ∙ later.idle;
-      way = λ begun now. subst (λ (x : Event). Survives limits (x ∷ between ++ rest) s begun) (first_same same)
-          (returns u r (now.others u both.0 ∙ gets) (sets_swapped lanes after begun (set_of after t (Asks call)) u t
-          Idle (Asks call) both.0 sets now (sets_of after t (Asks call))) (later.way (set_of after t (Asks call))
-          (sets_of after t (Asks call))));
-    }
-sooner limits t call (e ∷ between) rest events s lanes same spares (withdraws {events = more} {after = after} u c asks
-    sets way) = by (sooner limits t call between rest more s after (rest_same same) both.1 way)
-  where
-    both : (u ≢ t) × Spares t between
-    both = past_withdrawal_spared (subst (λ (x : Event). Spares t (x ∷ between)) (sym (first_same same)) spares)
+        late : (c : Call) (r : Reply) → begun t ≡ Asks c → two.lanes t ≡ Gets r → ⊥
+        late c r asks gets =
+            let told : r ≡ reply = gotten_is_told t r reply gets
+            (ends_behind between rest never refl tells) two.behind in
+            let newer : version ≤ write_count two.state = took_newer t call reply version new spared sets.here
+            (gets ∙ ap Gets told) two.before in omega (arith, low, newer)
 
-    by : Sooner limits t call (between ++ rest) s after → Sooner limits t call ((e ∷ between) ++ rest) s lanes
-    by later = record {
-      idle = sym (sets.others t (λ is. both.0 (sym is))) ∙ later.idle;
-      way = λ begun now. subst (λ (x : Event). Survives limits (x ∷ between ++ rest) s begun) (first_same same)
-          (withdraws u c (now.others u both.0 ∙ asks) (sets_swapped lanes after begun (set_of after t (Asks call)) u t
-          Idle (Asks call) both.0 sets now (sets_of after t (Asks call))) (later.way (set_of after t (Asks call))
-          (sets_of after t (Asks call))));
-    }
+        asks : two.lanes t ≡ Asks call
+        asks = asks_still t call spared sets.here (λ r gets. late call r sets.here gets) two.before
 
+-- A call may begin sooner: the lane is idle before events that are of others
 pub begins_sooner : BeginsSooner
-begins_sooner limits t call between rest s lanes begun sets spares way =
-    let found = sooner limits t call between rest (between ++ Begins t call ∷ rest) s lanes refl spares way in
-    found.way begun sets
+begins_sooner limits t call between rest s lanes begun sets spared way =
+    by (cut between (Begins t call ∷ rest) way.way)
+  where
+    by : InTwo (LockStep limits) between (Begins t call ∷ rest) s lanes way.state way.last →
+        Survives (LockStep limits) (between ++ rest) s begun
+    by two = sooner (begins_first limits t call rest two.state two.lanes (leads_survive (LockStep limits) two.behind))
+      where
+        sooner : BeginsAtOnce limits t call rest two.state two.lanes →
+            Survives (LockStep limits) (between ++ rest) s begun
+        sooner first = subst (Survives (LockStep limits) (between ++ rest) s)
+            (sets_alike lanes (set_of lanes t (Asks call)) begun t (Asks call) (sets_of lanes t (Asks call)) sets)
+            (survives_on (beside t (Asks call) spared
+            (λ c r asks gets. idle_or_asks (was_idle t spared first.idle two.before) asks) two.before)
+            (first.survives (set_of two.lanes t (Asks call)) (sets_of two.lanes t (Asks call))))

@@ -10,26 +10,21 @@ use Rattle.std.proofs.Math.Seq.{drop-append_seam, take-append_seam, take-append-
 use Rattle.stamp_core.specs.LockEvent.{LockEvent}
 use Rattle.stamp_core.specs.Limits.{Bounds}
 use Rattle.stamp_core.specs.declared.call.Call.{Call}
-use Rattle.stamp_watch.specs.declared.event.Event.{Event}
-use Rattle.stamp_watch.specs.declared.event.Event.TheVariants.{Begins, Returns, Withdraws}
-use Rattle.stamp_watch.specs.Ahead.{Spares, lane_of}
-use Rattle.stamp_watch.specs.Ahead.Spares.{spares_all, spares_beginning, spares_return, spares_withdrawal}
+use Rattle.stamp_runs.specs.declared.event.Event.{Event}
+use Rattle.stamp_runs.specs.declared.event.Event.TheVariants.{Begins, Returns, Withdraws}
+use Rattle.stamp_runs.specs.Run.{lane_of, Lanes, Survives, all_idle}
+use Rattle.stamp_runs.specs.Object.{LockStep}
+use Rattle.stamp_runs.specs.LockRun.{AreExplained}
+use Rattle.stamp_runs.specs.Run.Phase.{Idle, Asks}
+use Rattle.stamp_runs.proofs.Lanes.{set_of, sets_of}
+use Rattle.stamp_watch.specs.Ahead.{IsSpared}
 use Rattle.stamp_watch.specs.Form.{is_busy_then, is_busy_after, AreInForm, AreInFormFrom, MayCome}
 use Rattle.stamp_watch.specs.Late.{BeginsLater, BeginsOneLater, LaterExplainsNoMore}
 use Rattle.stamp_watch.specs.Late.BeginsLater.{as_it_is, then_later}
-use Rattle.stamp_watch.specs.Run.{AreExplained, Lanes, Survives, all_idle}
-use Rattle.stamp_watch.specs.Run.Phase.{Idle, Asks}
 use Rattle.stamp_watch.specs.Verdict.{AreOfLock, IsOfLock}
-use Rattle.stamp_watch.specs.Run.Survives.{at_end, begins}
 use Rattle.stamp_watch.proofs.BeginningLate.{begins_sooner}
-use Rattle.stamp_watch.proofs.Form.{past_free}
-use Rattle.stamp_watch.proofs.Surviving.{set_of, sets_of}
-
--- an event of another lane leaves a lane busy or free
-pub busy_other : (lane : ℕ) (busy : Bool) (e : Event) → lane_of e ≢ lane → is_busy_then lane busy e ≡ busy
-busy_other lane busy (Begins u call) apart = ap (λ (b : Bool). b || busy) (ne_eqb u lane apart)
-busy_other lane busy (Returns u reply) apart = ap (λ (b : Bool). not b && busy) (ne_eqb u lane apart)
-busy_other lane busy (Withdraws u) apart = ap (λ (b : Bool). not b && busy) (ne_eqb u lane apart)
+use Rattle.stamp_watch.proofs.Ways.{at_end, comes_next, spared_one}
+use Rattle.stamp_watch.proofs.Form.{busy_other, past_free}
 
 busy_swapped : (lane : ℕ) (busy : Bool) (d e : Event) → lane_of d ≢ lane_of e →
     is_busy_then lane (is_busy_then lane busy d) e ≡ is_busy_then lane (is_busy_then lane busy e) d
@@ -83,22 +78,18 @@ free_before busy [] lane call rest form = form.0.0
 free_before busy (x ∷ past) lane call rest form =
     free_before (λ (u : ℕ). is_busy_then u (busy u) x) past lane call rest form.1
 
-spares_one : (lane : ℕ) (e : Event) → lane_of e ≢ lane → Spares lane (e ∷ [])
-spares_one lane (Begins u call) apart = spares_beginning u call apart spares_all
-spares_one lane (Returns u reply) apart = spares_return u reply apart spares_all
-spares_one lane (Withdraws u) apart = spares_withdrawal u apart spares_all
-
 module _ (limits : Bounds) (lane : ℕ) (call : Call) (next : Event) (rest : List Event) (apart : lane_of next ≢ lane)
   where
     -- the call may begin before the event, also where the events end at a place
     begins_before : (j : ℕ) (s : List LockEvent) (lanes : Lanes) → lanes lane ≡ Idle →
-        Survives limits (take j (next ∷ Begins lane call ∷ rest)) s lanes →
-        Survives limits (take j (Begins lane call ∷ next ∷ rest)) s lanes
+        Survives (LockStep limits) (take j (next ∷ Begins lane call ∷ rest)) s lanes →
+        Survives (LockStep limits) (take j (Begins lane call ∷ next ∷ rest)) s lanes
     begins_before zero s lanes idle way = way
-    begins_before (suc zero) s lanes idle way = begins lane call idle (sets_of lanes lane (Asks call)) at_end
-    begins_before (suc (suc j)) s lanes idle way = begins lane call idle (sets_of lanes lane (Asks call))
+    begins_before (suc zero) s lanes idle way = comes_next (Begins lane call)
+        (idle, sets_of lanes lane (Asks call)) at_end
+    begins_before (suc (suc j)) s lanes idle way = comes_next (Begins lane call) (idle, sets_of lanes lane (Asks call))
         (begins_sooner limits lane call (next ∷ []) (take j rest) s lanes (set_of lanes lane (Asks call))
-        (sets_of lanes lane (Asks call)) (spares_one lane next apart) way)
+        (sets_of lanes lane (Asks call)) (spared_one lane next apart) way)
 
     cut_before : (past : List Event) (k : ℕ) → is_busy_after past lane ≡ false →
         AreExplained limits (take k (past ++ next ∷ Begins lane call ∷ rest)) →
@@ -112,8 +103,8 @@ module _ (limits : Bounds) (lane : ℕ) (call : Call) (next : Event) (rest : Lis
             sym (take-append-le k past (Begins lane call ∷ next ∷ rest) (omega (arith, less)))) way
         by (inr more) = subst (AreExplained limits) (sym (cut (Begins lane call ∷ next ∷ rest)))
             (past_free limits lane (take (k - length past) (next ∷ Begins lane call ∷ rest))
-            (take (k - length past) (Begins lane call ∷ next ∷ rest)) (begins_before (k - length past)) past
-            (past ++ take (k - length past) (next ∷ Begins lane call ∷ rest)) [] all_idle false refl refl free
+            (take (k - length past) (Begins lane call ∷ next ∷ rest)) (begins_before (k - length past)) past []
+            all_idle false refl free
             (subst (AreExplained limits) (cut (next ∷ Begins lane call ∷ rest)) way))
           where
             sum_is : length past + (k - length past) ≡ k

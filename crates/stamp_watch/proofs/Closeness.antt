@@ -7,29 +7,28 @@ use Rattle.std.specs.List.{All, AllPairs}
 use Rattle.std.proofs.lemmas.Bool.{cases_eq, cases_lt, false≢true}
 use Rattle.std.proofs.lemmas.List.{drop-append-le, drop_all, length-append, length-drop, length-map, length_push}
 use Rattle.std.proofs.lemmas.List.{take_all, take-append-le}
-use Rattle.std.proofs.lemmas.List.Elements.{All-cons, All-head, All-map, All-nil, All-tail}
-use Rattle.std.proofs.Math.Seq.{take-append-add}
+use Rattle.std.proofs.lemmas.List.Elements.{All-cons, All-head, All-map, All-nil, All-tail, All-take}
+use Rattle.std.proofs.Math.Seq.{take-append-add, take-append_seam}
 use Rattle.stamp_core.specs.Limits.{Bounds}
 use Rattle.stamp_core.specs.declared.call.Call.{Call}
 use Rattle.stamp_explain.proofs.Lists.{pairs_map}
 use Rattle.stamp_explain.proofs.Threads.{few_threads}
-use Rattle.stamp_watch.specs.Ahead.{EndsNever, IsSpared, lane_of}
-use Rattle.stamp_watch.specs.Ahead.EndsNever.{never_more, not_beginning, not_returning, not_withdrawing}
+use Rattle.stamp_runs.specs.Run.{IsEndOf, lane_of, EndsNever}
+use Rattle.stamp_runs.specs.declared.event.Event.{Event}
+use Rattle.stamp_runs.specs.declared.event.Event.TheVariants.{Begins, Returns, Withdraws}
+use Rattle.stamp_watch.specs.Ahead.{IsSpared}
 use Rattle.stamp_watch.specs.Course.{IsRest}
-use Rattle.stamp_watch.specs.declared.event.Event.{Event}
-use Rattle.stamp_watch.specs.declared.event.Event.TheVariants.{Begins, Returns, Withdraws}
 use Rattle.stamp_watch.specs.declared.verdict.Verdict.{Verdict}
 use Rattle.stamp_watch.specs.declared.verdict.Verdict.TheVariants as verdict
 use Rattle.stamp_watch.specs.declared.verdict.Why.TheVariants as cause
-use Rattle.stamp_watch.specs.Delay.{AreAside, AreNear, EndsNear, IsBeginning, IsEndOf}
+use Rattle.stamp_watch.specs.Delay.{AreAside, AreNear, EndsNear, IsBeginning}
 use Rattle.stamp_watch.specs.Form.{AreInForm, AreInFormFrom, MayCome, is_busy_then}
 use Rattle.stamp_watch.specs.Judging.{IsFound}
 use Rattle.stamp_watch.specs.SoFar.{BeginWithOpenCall}
 use Rattle.stamp_watch.specs.Verdict.{IsOpenFor}
 use Rattle.stamp_watch.specs.inner.Delay.{IsToBeAside}
-use Rattle.stamp_watch.proofs.BeginningLater.{busy_other}
-use Rattle.stamp_watch.proofs.StandingFor.{first_same, no_empty, rest_same}
-use Rattle.stamp_watch.proofs.Surviving.{never_past_beginning, never_past_return, never_past_withdrawal}
+use Rattle.stamp_watch.proofs.Form.{busy_other}
+use Rattle.stamp_watch.proofs.Ways.{first_same, never_later, no_empty, not_end, rest_same}
 
 -- each call that is aside is in a lane of its own
 pub few_aside : (aside waiting : List Event) → AreAside aside waiting → length aside ≤ 64
@@ -46,35 +45,20 @@ few_aside aside waiting is =
 
 -- where a call doesn't end among events it doesn't among the first of them
 never_first : (lane : ℕ) (xs ys : List Event) → EndsNever lane (xs ++ ys) → EndsNever lane xs
-never_first lane [] ys never = never_more
-never_first lane (Begins u call ∷ xs) ys never =
-    not_beginning u call (never_first lane xs ys (never_past_beginning never))
-never_first lane (Returns u reply ∷ xs) ys never =
-    not_returning u reply (never_past_return never).0 (never_first lane xs ys (never_past_return never).1)
-never_first lane (Withdraws u ∷ xs) ys never =
-    not_withdrawing u (never_past_withdrawal never).0 (never_first lane xs ys (never_past_withdrawal never).1)
-
-never_behind : (lane : ℕ) (e : Event) (xs : List Event) → EndsNever lane (e ∷ xs) → EndsNever lane xs
-never_behind lane (Begins u call) xs never = never_past_beginning never
-never_behind lane (Returns u reply) xs never = (never_past_return never).1
-never_behind lane (Withdraws u) xs never = (never_past_withdrawal never).1
-
-no_end_first : (lane : ℕ) (e : Event) (xs : List Event) → IsEndOf lane e → EndsNever lane (e ∷ xs) → ⊥
-no_end_first lane (Begins u call) xs ends never = ends
-no_end_first lane (Returns u reply) xs ends never = (never_past_return never).0 ends
-no_end_first lane (Withdraws u) xs ends never = (never_past_withdrawal never).0 ends
+never_first lane xs ys never = subst (EndsNever lane) (take-append_seam xs ys)
+    (All-take (λ (e : Event). ¬ IsEndOf lane e) (length xs) (xs ++ ys) never)
 
 no_end : (lane : ℕ) (xs : List Event) (e : Event) (ys : List Event) → IsEndOf lane e →
     EndsNever lane (xs ++ e ∷ ys) → ⊥
-no_end lane [] e ys ends never = no_end_first lane e ys ends never
-no_end lane (x ∷ xs) e ys ends never = no_end lane xs e ys ends (never_behind lane x (xs ++ e ∷ ys) never)
+no_end lane [] e ys ends never = not_end lane e ys never ends
+no_end lane (x ∷ xs) e ys ends never = no_end lane xs e ys ends (never_later lane x (xs ++ e ∷ ys) never)
 
 no_end_within : (lane n : ℕ) (xs : List Event) (e : Event) (ys : List Event) → length xs < n → IsEndOf lane e →
     EndsNever lane (take n (xs ++ e ∷ ys)) → ⊥
 no_end_within lane zero xs e ys less ends never = absurd (omega (arith, less))
-no_end_within lane (suc n) [] e ys less ends never = no_end_first lane e (take n ys) ends never
+no_end_within lane (suc n) [] e ys less ends never = not_end lane e (take n ys) never ends
 no_end_within lane (suc n) (x ∷ xs) e ys less ends never = no_end_within lane n xs e ys (omega (arith, less)) ends
-    (never_behind lane x (take n (xs ++ e ∷ ys)) never)
+    (never_later lane x (take n (xs ++ e ∷ ys)) never)
 
 -- in a lane that has an open call no call begins
 ends_where_busy : (busy : ℕ → Bool) (lane : ℕ) (e : Event) → busy lane ≡ true → lane_of e ≡ lane → MayCome busy e →

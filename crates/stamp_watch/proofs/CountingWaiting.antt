@@ -9,9 +9,10 @@ use Rattle.std.proofs.lemmas.List.{get_or-set_same, get_or-set_other, length-set
 use Rattle.std.proofs.lemmas.List.Elements.{All-cons, All-head, All-nil, All-push, All-tail}
 use Rattle.std.proofs.lemmas.List.Sums.{sum_by-append, sum_by-cons}
 use Rattle.stamp_core.specs.declared.call.Call.{Call}
-use Rattle.stamp_watch.specs.Ahead.{IsSpared, lane_of}
-use Rattle.stamp_watch.specs.declared.event.Event.{Event}
-use Rattle.stamp_watch.specs.declared.event.Event.TheVariants.{Begins}
+use Rattle.stamp_runs.specs.Run.{lane_of}
+use Rattle.stamp_runs.specs.declared.event.Event.{Event}
+use Rattle.stamp_runs.specs.declared.event.Event.TheVariants.{Begins}
+use Rattle.stamp_watch.specs.Ahead.{IsSpared}
 use Rattle.stamp_watch.specs.declared.waiting.Waiting.{Waiting}
 use Rattle.stamp_watch.specs.Waiting.{IsCounted, count_of}
 use Rattle.stamp_watch.specs.inner.Delay.{IsAloneInFront, IsToBeAside}

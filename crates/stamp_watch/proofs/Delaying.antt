@@ -8,15 +8,16 @@ use Rattle.std.proofs.lemmas.List.Edits.{length-remove}
 use Rattle.std.proofs.lemmas.List.Elements.{All-nil}
 use Rattle.std.proofs.Math.Seq.{drop-append_seam}
 use Rattle.stamp_core.specs.Limits.{AreInRange, Bounds}
+use Rattle.stamp_runs.specs.Run.{lane_of}
+use Rattle.stamp_runs.specs.declared.event.Event.{Event}
+use Rattle.stamp_runs.specs.declared.event.Event.TheVariants.{Begins, Returns, Withdraws}
 use Rattle.stamp_watch.specs.Issued.{LosesNothing}
-use Rattle.stamp_watch.specs.Ahead.{IsSpared, lane_of}
+use Rattle.stamp_watch.specs.Ahead.{IsSpared}
 use Rattle.stamp_watch.specs.declared.delay.Delay.{Delay}
-use Rattle.stamp_watch.specs.declared.event.Event.{Event}
-use Rattle.stamp_watch.specs.declared.event.Event.TheVariants.{Begins, Returns, Withdraws}
 use Rattle.stamp_watch.specs.declared.online.Judge.{Judge}
 use Rattle.stamp_watch.specs.declared.verdict.Verdict.{Verdict}
-use Rattle.stamp_watch.specs.Delay.{IsBeginning, IsDelayed, IsHandedOn, IsShown}
-use Rattle.stamp_watch.specs.Delay.{AreLate, AreNear, HasEndedLate, HasEndedSo, IsPending, IsShownIfAny, reach_of}
+use Rattle.stamp_watch.specs.Delay.{IsBeginning, IsDelayed, IsHandedOn, IsShown, AreLate, AreNear, HasEndedLate}
+use Rattle.stamp_watch.specs.Delay.{HasEndedSo, IsPending, IsShownIfAny, reach_of}
 use Rattle.stamp_watch.specs.Judge.{HasRoomForOne, IsGiven, IsJudge, IsJudgeOfSome}
 use Rattle.stamp_watch.specs.Late.{IsLongCall}
 use Rattle.stamp_watch.specs.Late.LongCallsBeginLater.{as_they_are}
@@ -29,8 +30,7 @@ use Rattle.stamp_watch.proofs.Closeness.{few_aside, near_aside, near_first, near
 use Rattle.stamp_watch.proofs.Forming.{form_first, next_of_lock}
 use Rattle.stamp_watch.proofs.GoingOn.{judge_stays, run_long, way_of}
 use Rattle.stamp_watch.proofs.HandingOn.{first_or, given_length, begins_so, handed_aside, handed_passes, handed_waits}
-use Rattle.stamp_watch.proofs.HandingOn.{passed_length}
-use Rattle.stamp_watch.proofs.HandingOn.{spared_so, x_spared}
+use Rattle.stamp_watch.proofs.HandingOn.{passed_length, spared_so, x_spared}
 use Rattle.stamp_watch.proofs.Reading.{take_read}
 use Rattle.stamp_watch.proofs.Unshown.{ended_here, ended_long, ended_then, last_wait, late_aside, late_begins}
 use Rattle.stamp_watch.proofs.Unshown.{late_first_of, late_passes, late_waits}

@@ -13,7 +13,7 @@ use Rattle.stamp_core.specs.declared.call.Call.{Call}
 use Rattle.stamp_core.specs.declared.layout.Layout.{Layout}
 use Rattle.stamp_core.specs.declared.layout.Layout.TheVariants.{One, Two}
 use Rattle.stamp_core.specs.declared.reply.Reply.TheVariants.{Done, Mismatch}
-use Rattle.stamp_watch.specs.Run.{DoSame}
+use Rattle.stamp_runs.specs.LockRun.{DoSame}
 use Rattle.stamp_watch.specs.inner.Alike.{IsReadOf, ReleasesRead}
 use Rattle.stamp_watch.specs.inner.Alike.ReleasesRead.{by_unlock_read, by_unlock}
 

@@ -15,18 +15,19 @@ use Rattle.std.proofs.Math.Seq.{drop-append_seam, take-append-add}
 use Rattle.stamp_core.specs.Limits.{Bounds}
 use Rattle.stamp_core.specs.declared.call.Call.{Call}
 use Rattle.stamp_core.specs.declared.reply.Reply.{Reply}
-use Rattle.stamp_watch.specs.Ahead.{IsSpared, lane_of}
+use Rattle.stamp_runs.specs.Run.{lane_of}
+use Rattle.stamp_runs.specs.declared.event.Event.{Event}
+use Rattle.stamp_runs.specs.declared.event.Event.TheVariants.{Begins, Returns, Withdraws}
+use Rattle.stamp_watch.specs.Ahead.{IsSpared}
 use Rattle.stamp_watch.specs.declared.course.Course.{Course}
 use Rattle.stamp_watch.specs.declared.delay.Delay.{Delay}
 use Rattle.stamp_watch.specs.declared.ended_call.EndedCall.{EndedCall}
-use Rattle.stamp_watch.specs.declared.event.Event.{Event}
-use Rattle.stamp_watch.specs.declared.event.Event.TheVariants.{Begins, Returns, Withdraws}
 use Rattle.stamp_watch.specs.EndedCall.{IsEndedAt, begun_in, begun_then, end_in, ended, ended_at, ended_by, ended_from}
 use Rattle.stamp_watch.specs.Form.{MayCome, is_busy_after, is_busy_then}
 use Rattle.stamp_watch.specs.Possible.{IsKept}
 use Rattle.stamp_watch.specs.PossibleLate.{AreSameUntil, KeepsDelayed}
 use Rattle.stamp_watch.specs.Verdict.{AreOfLock}
-use Rattle.stamp_watch.proofs.BeginningLater.{busy_other}
+use Rattle.stamp_watch.proofs.Form.{busy_other}
 use Rattle.stamp_watch.proofs.Forming.{next_comes}
 use Rattle.stamp_watch.proofs.Reading.{around}
 

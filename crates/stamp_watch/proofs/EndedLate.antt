@@ -4,9 +4,9 @@ use Rattle.std.proofs.Common.{inl, inr}
 use Rattle.std.specs.Prelude.{⊤, MatchOption}
 use Rattle.std.proofs.lemmas.Option.{IfSome_then}
 use Rattle.stamp_core.specs.Limits.{Bounds}
+use Rattle.stamp_runs.specs.declared.event.Event.{Event}
 use Rattle.stamp_watch.specs.declared.delay.Delay.{Delay}
 use Rattle.stamp_watch.specs.declared.ended_call.EndedCall.{EndedCall}
-use Rattle.stamp_watch.specs.declared.event.Event.{Event}
 use Rattle.stamp_watch.specs.declared.late_verdict.LateVerdict.{LateVerdict}
 use Rattle.stamp_watch.specs.declared.late_verdict.LateVerdict.TheVariants as finding
 use Rattle.stamp_watch.specs.declared.verdict.Verdict.{Verdict}

@@ -8,17 +8,17 @@ use Rattle.stamp_core.specs.LockDecision.{reply_as}
 use Rattle.stamp_core.specs.declared.lock_decision.LockReply.{LockReply}
 use Rattle.stamp_core.specs.declared.call.Call.{Call}
 use Rattle.stamp_core.specs.declared.reply.Reply.{Reply}
-use Rattle.stamp_watch.specs.declared.event.Event.{Event}
-use Rattle.stamp_watch.specs.declared.event.Event.TheVariants as event
+use Rattle.stamp_runs.specs.declared.event.Event.{Event}
+use Rattle.stamp_runs.specs.declared.event.Event.TheVariants as event
 use Rattle.stamp_watch.specs.declared.ending.Ending.{Ending}
 use Rattle.stamp_watch.specs.declared.ending.Ending.TheVariants.{Returns, Withdraws, Never}
 use Rattle.stamp_watch.specs.AsObserved.{ending_of}
-use Rattle.stamp_watch.specs.AsObserved.Ending.{EndsBy}
+use Rattle.stamp_watch.specs.AsObserved.Ending.{EndsReturned}
 use Rattle.stamp_watch.specs.Verdict.{IsOfLock, is_lock_reply}
 use Rattle.stamp_watch.specs.Foretold.{ends_as}
 use Rattle.stamp_watch.specs.inner.Judging.{IsEndBy}
 use Rattle.stamp_watch.proofs.Reading.{drop_read}
-use Rattle.stamp_watch.proofs.Numbered.{return_ends, return_spares, withdrawal_ends, withdrawal_spares}
+use Rattle.stamp_watch.proofs.Numbered.{ending_spares, return_ends, withdrawal_ends}
 
 pub beginning_spares : (e : Event) (lane n other : ℕ) (call : Call) → e ≡ event.Begins other call →
     IsEndBy e lane n None
@@ -28,14 +28,15 @@ beginning_spares e lane n other call is =
 pub other_return_spares : (e : Event) (lane n other : ℕ) (reply : Reply) → e ≡ event.Returns other reply →
     other ≢ lane → IsEndBy e lane n None
 other_return_spares e lane n other reply is apart =
-    subst (λ (x : Event). IsEndBy x lane n None) (sym is) (λ events. return_spares lane other n reply events apart)
+    subst (λ (x : Event). IsEndBy x lane n None) (sym is) (λ events. ending_spares lane n
+    (event.Returns other reply) events apart)
 
 pub own_return_ends : (e : Event) (lane n other : ℕ) (reply : Reply) (told : LockReply) →
     e ≡ event.Returns other reply → other ≡ lane → reply_as told ≡ reply → IsEndBy e lane n (Some (Returns told n))
 own_return_ends e lane n other reply told is same told_is =
     subst (λ (x : Event). IsEndBy x lane n (Some (Returns told n))) (sym is)
     (λ events. return_ends lane other n reply events same ∙
-    ap (λ (r : Reply). EndsBy (record { last = n; reply = r })) (sym told_is))
+    ap (λ (r : Reply). EndsReturned (record { last = n; reply = r })) (sym told_is))
 
 pub own_withdrawal_ends : (e : Event) (lane n other : ℕ) → e ≡ event.Withdraws other → other ≡ lane →
     IsEndBy e lane n (Some Withdraws)
@@ -45,7 +46,7 @@ own_withdrawal_ends e lane n other is same = subst (λ (x : Event). IsEndBy x la
 pub other_withdrawal_spares : (e : Event) (lane n other : ℕ) → e ≡ event.Withdraws other → other ≢ lane →
     IsEndBy e lane n None
 other_withdrawal_spares e lane n other is apart = subst (λ (x : Event). IsEndBy x lane n None) (sym is)
-    (λ events. withdrawal_spares lane other n events apart)
+    (λ events. ending_spares lane n (event.Withdraws other) events apart)
 
 pub no_other_reply : (e : Event) (other : ℕ) (reply : Reply) → IsOfLock e → e ≡ event.Returns other reply →
     is_lock_reply reply ≡ false → ⊥

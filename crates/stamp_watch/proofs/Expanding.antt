@@ -16,24 +16,24 @@ use Rattle.stamp_core.specs.LockDecision.{reply_as}
 use Rattle.stamp_core.specs.declared.call.Call.{Call}
 use Rattle.stamp_core.specs.declared.reply.Reply.{Reply}
 use Rattle.stamp_core.specs.declared.lock_decision.LockReply.{LockReply}
-use Rattle.stamp_watch.specs.declared.event.Event.{Event}
-use Rattle.stamp_watch.specs.declared.event.Event.TheVariants as event
+use Rattle.stamp_runs.specs.declared.event.Event.{Event}
+use Rattle.stamp_runs.specs.declared.event.Event.TheVariants as event
+use Rattle.stamp_runs.specs.LockRun.{DoSame}
+use Rattle.stamp_runs.specs.Run.Phase.{Asks, Gets}
+use Rattle.stamp_runs.specs.Run.{EndsBy, ReturnsSooner, EndsNever}
+use Rattle.stamp_runs.proofs.Lanes.{set_of, sets_of}
 use Rattle.stamp_watch.specs.declared.ending.Ending.{Ending}
 use Rattle.stamp_watch.specs.declared.ending.Ending.TheVariants.{Returns, Withdraws, Never}
 use Rattle.stamp_watch.specs.declared.open_call.OpenCall.{OpenCall}
 use Rattle.stamp_watch.specs.declared.position.Position.{Position}
-use Rattle.stamp_watch.specs.LockCall.{call_as}
-use Rattle.stamp_watch.specs.Run.{DoSame}
-use Rattle.stamp_watch.specs.Run.Phase.{Asks, Gets}
-use Rattle.stamp_watch.specs.Ahead.{EndsNever, Tells, ReturnsSooner}
+use Rattle.stamp_core.specs.LockCall.{call_as}
 use Rattle.stamp_watch.specs.Foretold.{open_at, EndsSo, HasEachOpen, MayGet, ComesAsTold}
 use Rattle.stamp_watch.specs.Watch.{MayGoOn, OneGoesOn}
 use Rattle.stamp_watch.specs.inner.Effect.{EffectGoesOn, Follows, GivesWay, GoesBefore, IsAfterEffect, IsFree, IsAhead}
 use Rattle.stamp_watch.specs.inner.Effect.{AreEndless}
 use Rattle.stamp_watch.specs.inner.Lanes.{SetsBit}
 use Rattle.stamp_watch.specs.inner.Layer.{Includes, Adds, IsTried, Expands}
-use Rattle.stamp_watch.proofs.Surviving.{same_step, set_of, sets_of, sooner_alike_first}
-use Rattle.stamp_watch.proofs.Endless.{endless_alike_first}
+use Rattle.stamp_watch.proofs.Surviving.{same_step, sooner_alike_first, endless_alike_first}
 use Rattle.stamp_watch.proofs.Tables.{one_open, open_at_within}
 use Rattle.stamp_watch.proofs.Standing.{asks_at, AsksIn, asks_in}
 use Rattle.stamp_watch.proofs.Needed.{SomeEffect, some_effect, gets_told}
@@ -244,8 +244,9 @@ module _ (limits : Bounds) (table : List (Option OpenCall)) (p : Position) where
               (gets_told limits lane way.begun.ends effect.reply events effect.next effect.after effect.sets.here
               (told.ends lane way.begun way.is_open) effect.survives)
 
-          tells : Tells way.first_lane effect.reply events
-          tells = subst (λ (r : Reply). Tells way.first_lane r events) (ahead.same ∙ replied)
+          tells : EndsBy way.first_lane (event.Returns way.first_lane effect.reply) events
+          tells = subst (λ (r : Reply). EndsBy way.first_lane (event.Returns way.first_lane r) events)
+              (ahead.same ∙ replied)
               (subst (λ (e : Ending). EndsSo way.first_lane e events) ahead.first_is
               (told.ends way.first_lane way.first way.is_first))
 

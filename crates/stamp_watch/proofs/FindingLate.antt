@@ -7,9 +7,10 @@ use Rattle.std.proofs.lemmas.Bool.{cases_lt}
 use Rattle.std.proofs.lemmas.List.{length-append, length_push, take-append-le, take-take, take_all}
 use Rattle.std.proofs.Math.Seq.{take-append_seam, take-length}
 use Rattle.stamp_core.specs.Limits.{Bounds}
+use Rattle.stamp_runs.specs.declared.event.Event.{Event}
+use Rattle.stamp_runs.specs.declared.event.Event.TheVariants.{Withdraws}
+use Rattle.stamp_runs.specs.LockRun.{AreExplained}
 use Rattle.stamp_watch.specs.Course.{IsRest}
-use Rattle.stamp_watch.specs.declared.event.Event.{Event}
-use Rattle.stamp_watch.specs.declared.event.Event.TheVariants.{Withdraws}
 use Rattle.stamp_watch.specs.declared.late_verdict.LateVerdict.{LateVerdict}
 use Rattle.stamp_watch.specs.declared.late_verdict.LateVerdict.TheVariants as finding
 use Rattle.stamp_watch.specs.declared.verdict.Verdict.{Verdict}
@@ -19,7 +20,6 @@ use Rattle.stamp_watch.specs.Delay.{AreLate, IsFirstIfAny, IsHandedOn, IsShown, 
 use Rattle.stamp_watch.specs.Judging.{IsFound}
 use Rattle.stamp_watch.specs.Late.{BeginsLater, HasGivenUp, IsLate, IsLateFound, IsLateInForm, LongCallsBeginLater}
 use Rattle.stamp_watch.specs.Late.{OneIsUnshown, RestsOn, TellsOf}
-use Rattle.stamp_watch.specs.Run.{AreExplained}
 use Rattle.stamp_watch.specs.Verdict.{AreOfLock, AreTooMany, IsOpenFor, IsVerdict}
 use Rattle.stamp_watch.specs.inner.Delay.{IsFindingOf, IsLateRest, IsSettled, IsSettledFor, RestsBefore}
 use Rattle.stamp_watch.proofs.BeginningLater.{later_as_long, later_explains_no_more, later_of_lock}

@@ -13,20 +13,20 @@ use Rattle.stamp_explain.specs.declared.observed.Observation.{Observation}
 use Rattle.stamp_explain.specs.Observed.{IsBefore}
 use Rattle.stamp_explain.specs.Explained.{Effect, IsEffectOf, AreOfTwoEntries, RespectsBefore}
 use Rattle.stamp_explain.proofs.Lists.{none_in_empty, contains_cases, pairs_head, pairs_tail}
-use Rattle.stamp_watch.specs.declared.event.Event.{Event}
-use Rattle.stamp_watch.specs.declared.event.Event.TheVariants.{Begins, Returns, Withdraws}
+use Rattle.stamp_runs.specs.declared.event.Event.{Event}
+use Rattle.stamp_runs.specs.declared.event.Event.TheVariants.{Begins, Returns, Withdraws}
+use Rattle.stamp_runs.specs.Object.{LockStep}
+use Rattle.stamp_runs.specs.Run.{Happens, Lanes, Phase, Sets, Survives}
+use Rattle.stamp_runs.specs.Run.Phase.{Idle, Asks, Gets}
+use Rattle.stamp_runs.proofs.Lanes.{asks_or_gets, one_reply, set_of, sets_of}
 use Rattle.stamp_watch.specs.AsObserved.{Ending, ending_of}
 use Rattle.stamp_watch.specs.Form.{is_busy_then, AreInFormFrom}
-use Rattle.stamp_watch.specs.Run.{Lanes, LockStep, Phase, Sets, Survives}
-use Rattle.stamp_watch.specs.Run.Phase.{Idle, Asks, Gets}
-use Rattle.stamp_watch.specs.Run.Survives.{at_end, takes_effect, begins, returns, withdraws}
-use Rattle.stamp_watch.proofs.Surviving.{asks_or_gets, one_reply, set_of, sets_of}
 use Rattle.stamp_watch.proofs.Numbered.{IsEntryOf, IsReplyOf, entry_tells, entry_replies, one_entry, first_from}
 use Rattle.stamp_watch.proofs.Numbered.{return_ends, withdrawal_ends}
-use Rattle.stamp_watch.proofs.Form.{has_call, busy_begins, busy_returns, busy_withdraws, busy_takes, free_idle}
+use Rattle.stamp_watch.proofs.Form.{has_call, busy_happens, busy_takes, free_idle}
+use Rattle.stamp_watch.proofs.Ways.{at_end, comes_next, takes_effect}
 use Rattle.stamp_watch.proofs.Remaining.{IsAhead, begun_at, takes_there, takes_back, takes_apart, HaveBegun}
-use Rattle.stamp_watch.proofs.Remaining.{have_begun_still, HaveGot, MovesOn, begins_moves, returns_moves}
-use Rattle.stamp_watch.proofs.Remaining.{withdraws_moves}
+use Rattle.stamp_watch.proofs.Remaining.{have_begun_still, HaveGot, MovesOn, begun_then, happens_moves}
 use Rattle.stamp_watch.proofs.Remaining.IsAhead.{of_open, of_later}
 use Rattle.stamp_watch.proofs.Planning.{entries_of, IsLate, IsPlan, same_plan}
 
@@ -45,29 +45,25 @@ PlanAt limits entries lanes begun n events s order =
 abbrev pub GoesAlong : Bounds → List Observation → (ℕ → Bool) → (ℕ → ℕ) → ℕ → List Event → Type 0
 GoesAlong limits entries busy begun n events = (s : List LockEvent) (lanes : Lanes) (order : List Effect) →
     Stands busy lanes begun n events → PlanAt limits entries lanes begun n events s order →
-    Survives limits events s lanes
+    Survives (LockStep limits) events s lanes
 
 -- and so past one event
-stands_past : (busy : ℕ → Bool) (lanes after : Lanes) (begun then_begun : ℕ → ℕ) (n : ℕ) (event : Event)
-    (events : List Event) → MovesOn lanes after begun then_begun n event events →
-    ((other : ℕ) → busy other ≡ has_call (lanes other) →
-    is_busy_then other (busy other) event ≡ has_call (after other)) →
-    Stands busy lanes begun n (event ∷ events) →
-    Stands (λ (other : ℕ). is_busy_then other (busy other) event) after then_begun (n + 1) events
-stands_past busy lanes after begun then_begun n event events moves still stands = record {
-  has = λ other. still other (stands.has other);
-  low = moves.low stands.low;
-  gets = moves.gets_there stands.gets;
-}
-
-plan_past : (limits : Bounds) (entries : List Observation) (lanes after : Lanes) (begun then_begun : ℕ → ℕ) (n : ℕ)
-    (event : Event) (events : List Event) (s : List LockEvent) (order : List Effect) →
-    MovesOn lanes after begun then_begun n event events →
-    PlanAt limits entries lanes begun n (event ∷ events) s order →
-    PlanAt limits entries after then_begun (n + 1) events s order
-plan_past limits entries lanes after begun then_begun n event events s order moves plan = same_plan limits entries
-    (IsAhead lanes begun n (event ∷ events)) (IsAhead after then_begun (n + 1) events) (n + length (event ∷ events))
-    (n + 1 + length events) s order (omega arith) moves.there moves.back plan
+goes_past : (limits : Bounds) (entries : List Observation) (busy : ℕ → Bool) (begun : ℕ → ℕ) (n : ℕ) (event : Event)
+    (events : List Event) → GoesAlong limits entries (λ (other : ℕ). is_busy_then other (busy other) event)
+    (begun_then begun n event) (n + 1) events → (s : List LockEvent) (lanes after : Lanes) (order : List Effect) →
+    Happens event lanes after → Stands busy lanes begun n (event ∷ events) →
+    PlanAt limits entries lanes begun n (event ∷ events) s order → Survives (LockStep limits) (event ∷ events) s lanes
+goes_past limits entries busy begun n event events go s lanes after order happens stands plan =
+    comes_next event happens (go s after order (record {
+      has = λ other. busy_happens lanes after other event (busy other) happens (stands.has other);
+      low = moves.low stands.low;
+      gets = moves.gets_there stands.gets;
+    }) (same_plan limits entries (IsAhead lanes begun n (event ∷ events))
+    (IsAhead after (begun_then begun n event) (n + 1) events) (n + length (event ∷ events)) (n + 1 + length events) s
+    order (omega arith) moves.there moves.back plan))
+  where
+    moves : MovesOn lanes after begun (begun_then begun n event) n event events
+    moves = happens_moves lanes after begun n event events happens
 
 abbrev pub AreSingle : List Observation → Type 0
 AreSingle entries = (i j : ℕ) (e : Observation) → slice_get entries i ≡ Some e → slice_get entries j ≡ Some e → i ≡ j
@@ -89,23 +85,14 @@ module _ (limits : Bounds) (entries : List Observation) (single : AreSingle entr
     now_returns : (gotten : Reply) (s : List LockEvent) (lanes : Lanes) (order : List Effect) →
         lanes lane ≡ Gets gotten → Stands busy lanes begun n (Returns lane reply ∷ events) →
         PlanAt limits entries lanes begun n (Returns lane reply ∷ events) s order →
-        Survives limits (Returns lane reply ∷ events) s lanes
-    now_returns gotten s lanes order gets stands plan = returns lane reply is sets
-        (go s (set_of lanes lane Idle) order
-        (stands_past busy lanes (set_of lanes lane Idle) begun begun n (Returns lane reply) events moves
-        (λ other has. busy_returns lanes (set_of lanes lane Idle) lane other reply (busy other) sets has) stands)
-        (plan_past limits entries lanes (set_of lanes lane Idle) begun begun n (Returns lane reply) events s order
-        moves plan))
+        Survives (LockStep limits) (Returns lane reply ∷ events) s lanes
+    now_returns gotten s lanes order gets stands plan = goes_past limits entries busy begun n (Returns lane reply)
+        events
+        go s lanes (set_of lanes lane Idle) order (is, sets_of lanes lane Idle) stands plan
       where
-        sets : Sets lanes (set_of lanes lane Idle) lane Idle
-        sets = sets_of lanes lane Idle
-
         is : lanes lane ≡ Gets reply
         is = gets ∙ ap Gets (sym (subst (λ (x : Ending). IsReplyOf gotten x)
             (return_ends lane lane n reply events refl) (stands.gets lane gotten gets)))
-
-        moves : MovesOn lanes (set_of lanes lane Idle) begun begun n (Returns lane reply) events
-        moves = returns_moves lanes (set_of lanes lane Idle) begun lane n reply events is sets
 
     -- the entry of the awaited call
     awaited : Call → Observation
@@ -242,10 +229,10 @@ module _ (limits : Bounds) (entries : List Observation) (single : AreSingle entr
     pub awaits : (order : List Effect) (s : List LockEvent) (lanes : Lanes) →
         Stands busy lanes begun n (Returns lane reply ∷ events) →
         PlanAt limits entries lanes begun n (Returns lane reply ∷ events) s order →
-        Survives limits (Returns lane reply ∷ events) s lanes
+        Survives (LockStep limits) (Returns lane reply ∷ events) s lanes
     awaits [] s lanes stands plan = by (lanes lane) refl
       where
-        by : (p : Phase) → lanes lane ≡ p → Survives limits (Returns lane reply ∷ events) s lanes
+        by : (p : Phase) → lanes lane ≡ p → Survives (LockStep limits) (Returns lane reply ∷ events) s lanes
         by Idle is = absurd (false≢true (sym (ap has_call is) ∙ sym (stands.has lane) ∙ may))
         by (Gets gotten) is = now_returns gotten s lanes [] is stands plan
         by (Asks call) is = absurd (none_left call s lanes is plan)
@@ -255,8 +242,8 @@ module _ (limits : Bounds) (entries : List Observation) (single : AreSingle entr
         (then_stands s lanes x order stands plan head) (then_plan s lanes x order stands plan head)))
       where
         by : (p : Phase) → lanes lane ≡ p → (IsOpenCall lanes begun n (Returns lane reply ∷ events) x →
-            Survives limits (Returns lane reply ∷ events) s lanes) →
-            Survives limits (Returns lane reply ∷ events) s lanes
+            Survives (LockStep limits) (Returns lane reply ∷ events) s lanes) →
+            Survives (LockStep limits) (Returns lane reply ∷ events) s lanes
         by Idle is more = absurd (false≢true (sym (ap has_call is) ∙ sym (stands.has lane) ∙ may))
         by (Gets gotten) is more = now_returns gotten s lanes (x ∷ order) is stands plan
         by (Asks call) is more = more (first_open call s lanes x order is stands plan)
@@ -278,38 +265,16 @@ pub follows : (limits : Bounds) (entries : List Observation) → AreSingle entri
     GoesAlong limits entries busy begun n events
 follows limits entries single [] busy begun n form s lanes order stands plan = at_end
 follows limits entries single (Begins lane call ∷ events) busy begun n form s lanes order stands plan =
-    begins lane call idle sets (follows limits entries single events
-    (λ (other : ℕ). is_busy_then other (busy other) (Begins lane call)) (begun_at begun lane n) (n + 1) form.1 s
+    goes_past limits entries busy begun n (Begins lane call) events (follows limits entries single events
+    (λ (other : ℕ). is_busy_then other (busy other) (Begins lane call)) (begun_at begun lane n) (n + 1) form.1) s lanes
     (set_of lanes lane (Asks call)) order
-    (stands_past busy lanes (set_of lanes lane (Asks call)) begun (begun_at begun lane n) n (Begins lane call) events
-    moves (λ other has. busy_begins lanes (set_of lanes lane (Asks call)) lane other call (busy other) sets has)
-    stands) (plan_past limits entries lanes (set_of lanes lane (Asks call)) begun (begun_at begun lane n) n
-    (Begins lane call) events s order moves plan))
-  where
-    idle : lanes lane ≡ Idle
-    idle = free_idle (lanes lane) (sym (stands.has lane) ∙ form.0.0)
-
-    sets : Sets lanes (set_of lanes lane (Asks call)) lane (Asks call)
-    sets = sets_of lanes lane (Asks call)
-
-    moves : MovesOn lanes (set_of lanes lane (Asks call)) begun (begun_at begun lane n) n (Begins lane call) events
-    moves = begins_moves lanes (set_of lanes lane (Asks call)) begun lane n call events idle sets
+    (free_idle (lanes lane) (sym (stands.has lane) ∙ form.0.0), sets_of lanes lane (Asks call)) stands plan
 follows limits entries single (Returns lane reply ∷ events) busy begun n form s lanes order stands plan =
-    awaits limits entries single busy begun n lane reply events form.0 (λ t then_lanes rest then_stands then_plan.
-    follows limits entries single events (λ (other : ℕ). is_busy_then other (busy other) (Returns lane reply)) begun
-    (n + 1) form.1 t then_lanes rest then_stands then_plan) order s lanes stands plan
+    awaits limits entries single busy begun n lane reply events form.0 (follows limits entries single events
+    (λ (other : ℕ). is_busy_then other (busy other) (Returns lane reply)) begun (n + 1) form.1) order s lanes stands
+    plan
 follows limits entries single (Withdraws lane ∷ events) busy begun n form s lanes order stands plan =
-    withdraws lane its.0 its.1 sets (follows limits entries single events
-    (λ (other : ℕ). is_busy_then other (busy other) (Withdraws lane)) begun (n + 1) form.1 s (set_of lanes lane Idle)
-    order (stands_past busy lanes (set_of lanes lane Idle) begun begun n (Withdraws lane) events moves
-    (λ other has. busy_withdraws lanes (set_of lanes lane Idle) lane other (busy other) sets has) stands)
-    (plan_past limits entries lanes (set_of lanes lane Idle) begun begun n (Withdraws lane) events s order moves plan))
-  where
-    its : (call : Call) × (lanes lane ≡ Asks call)
-    its = withdrawn_asks busy lanes begun n lane events form.0 stands
-
-    sets : Sets lanes (set_of lanes lane Idle) lane Idle
-    sets = sets_of lanes lane Idle
-
-    moves : MovesOn lanes (set_of lanes lane Idle) begun begun n (Withdraws lane) events
-    moves = withdraws_moves lanes (set_of lanes lane Idle) begun lane n its.0 events its.1 sets
+    let its = withdrawn_asks busy lanes begun n lane events form.0 stands in
+    goes_past limits entries busy begun n (Withdraws lane) events (follows limits entries single events
+    (λ (other : ℕ). is_busy_then other (busy other) (Withdraws lane)) begun (n + 1) form.1) s lanes
+    (set_of lanes lane Idle) order (its.0, its.1, sets_of lanes lane Idle) stands plan

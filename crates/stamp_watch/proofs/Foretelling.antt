@@ -2,42 +2,28 @@
 use Rattle.std.proofs.Common.{ℕ, ◌≡◌, ◌≢◌, ◌⊎◌, ◌≤◌, List, ◌∷◌, Option, Some, None, sym, ◌∙◌, ap, subst}
 use Rattle.std.proofs.Common.{inl, inr, arith}
 use Rattle.std.proofs.lemmas.Bool.{cases_eq}
+use Rattle.std.proofs.lemmas.List.Elements.{All-cons}
 use Rattle.stamp_core.specs.LockDecision.{reply_as}
 use Rattle.stamp_core.specs.declared.lock_decision.LockReply.{LockReply}
 use Rattle.stamp_core.specs.declared.call.Call.{Call}
 use Rattle.stamp_core.specs.declared.reply.Reply.{Reply}
-use Rattle.stamp_watch.specs.declared.event.Event.{Event}
-use Rattle.stamp_watch.specs.declared.event.Event.TheVariants as event
+use Rattle.stamp_runs.specs.declared.event.Event.{Event}
+use Rattle.stamp_runs.specs.declared.event.Event.TheVariants as event
+use Rattle.stamp_runs.specs.Run.{IsEndOf, ReturnsSooner}
+use Rattle.stamp_runs.specs.Run.EndsBy.{ends_next, ends_later}
+use Rattle.stamp_runs.specs.Run.ReturnsSooner.{sooner_next, sooner_later}
 use Rattle.stamp_watch.specs.declared.ending.Ending.{Ending}
 use Rattle.stamp_watch.specs.declared.ending.Ending.TheVariants.{Returns, Withdraws, Never}
 use Rattle.stamp_watch.specs.declared.open_call.OpenCall.{OpenCall}
-use Rattle.stamp_watch.specs.Ahead.{ReturnsSooner}
-use Rattle.stamp_watch.specs.Ahead.Tells.{tells_next, past_beginning, past_return, past_withdrawal}
-use Rattle.stamp_watch.specs.Ahead.IsWithdrawn.{withdrawn_next, withdrawn_past_beginning, withdrawn_past_return}
-use Rattle.stamp_watch.specs.Ahead.IsWithdrawn.{withdrawn_past_withdrawal}
-use Rattle.stamp_watch.specs.Ahead.EndsNever.{not_beginning, not_returning, not_withdrawing}
-use Rattle.stamp_watch.specs.Ahead.ReturnsSooner.{sooner_next, sooner_past_beginning, sooner_past_return}
-use Rattle.stamp_watch.specs.Ahead.ReturnsSooner.{sooner_past_withdrawal}
 use Rattle.stamp_watch.specs.Foretold.{open_at, EndsSo, ReturnsBefore, ComesAsTold}
 use Rattle.stamp_watch.proofs.Tables.{one_open, idle_apart}
 
-ends_past_beginning : (u : ℕ) (ends : Ending) (lane : ℕ) (call : Call) (events : List Event) → EndsSo u ends events →
-    EndsSo u ends (event.Begins lane call ∷ events)
-ends_past_beginning u (Returns told place) lane call events is = past_beginning lane call is
-ends_past_beginning u Withdraws lane call events is = withdrawn_past_beginning lane call is
-ends_past_beginning u Never lane call events is = not_beginning lane call is
-
-ends_past_return : (u : ℕ) (ends : Ending) (lane : ℕ) (reply : Reply) (events : List Event) → lane ≢ u →
-    EndsSo u ends events → EndsSo u ends (event.Returns lane reply ∷ events)
-ends_past_return u (Returns told place) lane reply events apart is = past_return lane reply apart is
-ends_past_return u Withdraws lane reply events apart is = withdrawn_past_return lane reply apart is
-ends_past_return u Never lane reply events apart is = not_returning lane reply apart is
-
-ends_past_withdrawal : (u : ℕ) (ends : Ending) (lane : ℕ) (events : List Event) → lane ≢ u →
-    EndsSo u ends events → EndsSo u ends (event.Withdraws lane ∷ events)
-ends_past_withdrawal u (Returns told place) lane events apart is = past_withdrawal lane apart is
-ends_past_withdrawal u Withdraws lane events apart is = withdrawn_past_withdrawal lane apart is
-ends_past_withdrawal u Never lane events apart is = not_withdrawing lane apart is
+-- a call ends so behind an event that does not end it
+pub ends_beyond : (u : ℕ) (ends : Ending) (event : Event) (events : List Event) → ¬ IsEndOf u event →
+    EndsSo u ends events → EndsSo u ends (event ∷ events)
+ends_beyond u (Returns told place) event events not is = ends_later event not is
+ends_beyond u Withdraws event events not is = ends_later event not is
+ends_beyond u Never event events not is = All-cons (λ (e : Event). ¬ IsEndOf u e) event events not is
 
 -- the tables have the same open calls but for this lane
 pub record Beside (table later : List (Option OpenCall)) (lane : ℕ) : Type 0 where
@@ -47,8 +33,8 @@ pub told_begins : (table later : List (Option OpenCall)) (last lane : ℕ) (call
     open_at table lane ≡ None → Beside table later lane → ComesAsTold later last events →
     ComesAsTold table last (event.Begins lane call ∷ events)
 told_begins table later last lane call events idle beside told = record {
-  ends = λ u o is. ends_past_beginning u o.ends lane call events (told.ends u o (there u o is));
-  sooner = λ u v first other is also before. sooner_past_beginning lane call
+  ends = λ u o is. ends_beyond u o.ends (event.Begins lane call) events (λ none. none) (told.ends u o (there u o is));
+  sooner = λ u v first other is also before. sooner_later (event.Begins lane call) (λ none. none) (λ none. none)
       (told.sooner u v first other (there u first is) (there v other also) before);
   due = λ u o reply place is ends. told.due u o reply place (there u o is) ends;
 }
@@ -81,9 +67,10 @@ told_returns table later last lane o told place reply events is_open ends same d
     ended u b is (inl at) = subst (λ (x : ℕ). EndsSo x b.ends (event.Returns lane reply ∷ events)) (sym at)
         (subst (λ (e : Ending). EndsSo lane e (event.Returns lane reply ∷ events))
         (sym (ap (λ (x : OpenCall). x.ends) (here u b is at) ∙ ends))
-        (subst (λ (r : Reply). EndsSo lane (Returns told place) (event.Returns lane r ∷ events)) same tells_next))
+        (subst (λ (r : Reply). EndsSo lane (Returns told place) (event.Returns lane r ∷ events)) same ends_next))
     ended u b is (inr apart) =
-        ends_past_return u b.ends lane reply events (λ e. apart (sym e)) (comes.ends u b (there u b is apart))
+        ends_beyond u b.ends (event.Returns lane reply) events (λ e. apart (sym e))
+        (comes.ends u b (there u b is apart))
 
     sooner : (u v : ℕ) (first other : OpenCall) → open_at table u ≡ Some first → open_at table v ≡ Some other →
         ReturnsBefore first.ends other.ends → (u ≡ lane) ⊎ (u ≢ lane) → (v ≡ lane) ⊎ (v ≢ lane) →
@@ -98,7 +85,7 @@ told_returns table later last lane o told place reply events is_open ends same d
         let less = before.sooner in
         absurd (omega (arith, low, high, less))
     sooner u v first other is also before (inr apart) (inr beyond) =
-        sooner_past_return lane reply (λ e. apart (sym e)) (λ e. beyond (sym e))
+        sooner_later (event.Returns lane reply) (λ e. apart (sym e)) (λ e. beyond (sym e))
         (comes.sooner u v first other (there u first is apart) (there v other also beyond) before)
 
     still : (u : ℕ) (b : OpenCall) (answer : LockReply) (at : ℕ) → open_at table u ≡ Some b →
@@ -118,7 +105,7 @@ pub told_withdraws : (table later : List (Option OpenCall)) (last lane : ℕ) (o
     ComesAsTold table last (event.Withdraws lane ∷ events)
 told_withdraws table later last lane o events is_open ends beside comes = record {
   ends = λ u b is. ended u b is (cases_eq u lane);
-  sooner = λ u v first other is also before. sooner_past_withdrawal lane
+  sooner = λ u v first other is also before. sooner_later (event.Withdraws lane)
       (λ e. apart_from u first before.reply before.place is before.first_is (sym e))
       (λ e. apart_from v other before.answer before.later also before.other_is (sym e))
       (comes.sooner u v first other
@@ -142,6 +129,6 @@ told_withdraws table later last lane o events is_open ends beside comes = record
         EndsSo u b.ends (event.Withdraws lane ∷ events)
     ended u b is (inl at) = subst (λ (x : ℕ). EndsSo x b.ends (event.Withdraws lane ∷ events)) (sym at)
         (subst (λ (e : Ending). EndsSo lane e (event.Withdraws lane ∷ events))
-        (sym (ap (λ (x : OpenCall). x.ends) (here u b is at) ∙ ends)) withdrawn_next)
+        (sym (ap (λ (x : OpenCall). x.ends) (here u b is at) ∙ ends)) ends_next)
     ended u b is (inr apart) =
-        ends_past_withdrawal u b.ends lane events (λ e. apart (sym e)) (comes.ends u b (there u b is apart))
+        ends_beyond u b.ends (event.Withdraws lane) events (λ e. apart (sym e)) (comes.ends u b (there u b is apart))

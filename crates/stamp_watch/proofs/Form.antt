@@ -1,7 +1,7 @@
 -- Runs in form, and the lanes that have an open call.
 use Rattle.std.proofs.Common.{◌≡◌, ◌≢◌, ◌⊎◌, ℕ, suc, zero, ◌==◌, Bool, true, false, List, [], ◌∷◌, ◌++◌, refl, sym}
 use Rattle.std.proofs.Common.{◌∙◌, ap, subst, inl, inr, eq-eqb, ne_eqb, append-nil, Some}
-use Rattle.std.specs.Prelude.{slice_get, take, not, ◌&&◌, ◌||◌}
+use Rattle.std.specs.Prelude.{slice_get, take, not, ◌&&◌, ◌||◌, if◌then◌else◌}
 use Rattle.std.specs.List.{fold}
 use Rattle.std.proofs.lemmas.Bool.{cases_eq, false≢true}
 use Rattle.std.proofs.lemmas.Option.{none-some, same_Some}
@@ -9,14 +9,16 @@ use Rattle.stamp_core.specs.LockEvent.{LockEvent}
 use Rattle.stamp_core.specs.Limits.{Bounds}
 use Rattle.stamp_core.specs.declared.call.Call.{Call}
 use Rattle.stamp_core.specs.declared.reply.Reply.{Reply}
-use Rattle.stamp_watch.specs.declared.event.Event.{Event}
-use Rattle.stamp_watch.specs.declared.event.Event.TheVariants.{Begins, Returns, Withdraws}
+use Rattle.stamp_runs.specs.declared.event.Event.{Event}
+use Rattle.stamp_runs.specs.declared.event.Event.TheVariants.{Begins, Returns, Withdraws}
+use Rattle.stamp_runs.specs.Object.{LockStep, Object}
+use Rattle.stamp_runs.specs.Run.{Happens, IsEndOf, Lanes, Leads, Phase, Sets, Survives, lane_of}
+use Rattle.stamp_runs.specs.Run.Leads.{leads_nowhere, by_effect, by_event}
+use Rattle.stamp_runs.specs.Run.Phase.{Idle, Asks, Gets}
+use Rattle.stamp_runs.proofs.Lanes.{sets_of}
+use Rattle.stamp_runs.proofs.Sets.{leads_survive}
 use Rattle.stamp_watch.specs.Form.{is_busy_then, MayCome, AreInFormFrom}
-use Rattle.stamp_watch.specs.Run.{Lanes, Phase, Sets, Survives}
-use Rattle.stamp_watch.specs.Run.Phase.{Idle, Asks, Gets}
-use Rattle.stamp_watch.specs.Run.Survives.{at_end, takes_effect, begins, returns, withdraws}
-use Rattle.stamp_watch.proofs.Surviving.{sets_of}
-use Rattle.stamp_watch.proofs.StandingFor.{no_empty, first_same, rest_same}
+use Rattle.stamp_watch.proofs.Ways.{at_end, comes_next, cut, survives_on}
 
 pub form_up_to : (k : ℕ) (busy : ℕ → Bool) (events : List Event) → AreInFormFrom busy events →
     AreInFormFrom busy (take k events)
@@ -41,6 +43,30 @@ form_goes_on busy [] event form may = (may, tt)
 form_goes_on busy (x ∷ past) event form may =
     (form.0, form_goes_on (λ (lane : ℕ). is_busy_then lane (busy lane) x) past event form.1 may)
 
+-- an event of another lane leaves a lane busy or free
+pub busy_other : (lane : ℕ) (busy : Bool) (e : Event) → lane_of e ≢ lane → is_busy_then lane busy e ≡ busy
+busy_other lane busy (Begins u call) apart = ap (λ (b : Bool). b || busy) (ne_eqb u lane apart)
+busy_other lane busy (Returns u reply) apart = ap (λ (b : Bool). not b && busy) (ne_eqb u lane apart)
+busy_other lane busy (Withdraws u) apart = ap (λ (b : Bool). not b && busy) (ne_eqb u lane apart)
+
+-- where a call is open, it is so behind an event that does not end it
+pub still_open : (lane : ℕ) (event : Event) → ¬ IsEndOf lane event → is_busy_then lane true event ≡ true
+still_open lane (Begins u call) not = by (u == lane)
+  where
+    by : (a : Bool) → (a || true) ≡ true
+    by true = refl
+    by false = refl
+still_open lane (Returns u reply) not = busy_other lane true (Returns u reply) not
+still_open lane (Withdraws u) not = busy_other lane true (Withdraws u) not
+
+-- a lane that is busy behind the end of a call was busy, and it was another lane's
+pub past_end : (v lane : ℕ) (busy : Bool) → (not (v == lane) && busy) ≡ true → (busy ≡ true) × (v ≢ lane)
+past_end v lane busy is = by (cases_eq v lane)
+  where
+    by : (v ≡ lane) ⊎ (v ≢ lane) → (busy ≡ true) × (v ≢ lane)
+    by (inl same) = absurd (false≢true (sym (ap (λ (b : Bool). not b && busy) (eq-eqb v lane same)) ∙ is))
+    by (inr apart) = (sym (ap (λ (b : Bool). not b && busy) (ne_eqb v lane apart)) ∙ is, apart)
+
 pub busy_after_one : (lane : ℕ) (busy : Bool) (past : List Event) (event : Event) →
     fold (is_busy_then lane) busy (past ++ event ∷ []) ≡ is_busy_then lane (fold (is_busy_then lane) busy past) event
 busy_after_one lane busy [] event = refl
@@ -52,33 +78,32 @@ has_call (Asks call) = true
 has_call (Gets reply) = true
 
 -- a lane that is busy has a call, and the other way round
-pub busy_begins : (lanes after : Lanes) (u lane : ℕ) (call : Call) (busy : Bool) → Sets lanes after u (Asks call) →
-    busy ≡ has_call (lanes lane) → is_busy_then lane busy (Begins u call) ≡ has_call (after lane)
-busy_begins lanes after u lane call busy sets is = by (cases_eq u lane)
+busy_set : (lanes after : Lanes) (u lane : ℕ) (phase : Phase) (busy : Bool) → Sets lanes after u phase →
+    busy ≡ has_call (lanes lane) → (if u == lane then has_call phase else busy) ≡ has_call (after lane)
+busy_set lanes after u lane phase busy sets is = by (cases_eq u lane)
   where
-    by : (u ≡ lane) ⊎ (u ≢ lane) → ((u == lane) || busy) ≡ has_call (after lane)
-    by (inl same) = ap (λ (b : Bool). b || busy) (eq-eqb u lane same) ∙
-        sym (ap has_call (subst (λ (v : ℕ). after v ≡ Asks call) same sets.here))
-    by (inr apart) = ap (λ (b : Bool). b || busy) (ne_eqb u lane apart) ∙ is ∙
+    by : (u ≡ lane) ⊎ (u ≢ lane) → (if u == lane then has_call phase else busy) ≡ has_call (after lane)
+    by (inl same) = ap (λ (b : Bool). if b then has_call phase else busy) (eq-eqb u lane same) ∙
+        sym (ap has_call (subst (λ (v : ℕ). after v ≡ phase) same sets.here))
+    by (inr apart) = ap (λ (b : Bool). if b then has_call phase else busy) (ne_eqb u lane apart) ∙ is ∙
         sym (ap has_call (sets.others lane (λ same. apart (sym same))))
 
-busy_ends : (lanes after : Lanes) (u lane : ℕ) (busy : Bool) → Sets lanes after u Idle →
-    busy ≡ has_call (lanes lane) → (not (u == lane) && busy) ≡ has_call (after lane)
-busy_ends lanes after u lane busy sets is = by (cases_eq u lane)
-  where
-    by : (u ≡ lane) ⊎ (u ≢ lane) → (not (u == lane) && busy) ≡ has_call (after lane)
-    by (inl same) = ap (λ (b : Bool). not b && busy) (eq-eqb u lane same) ∙
-        sym (ap has_call (subst (λ (v : ℕ). after v ≡ Idle) same sets.here))
-    by (inr apart) = ap (λ (b : Bool). not b && busy) (ne_eqb u lane apart) ∙ is ∙
-        sym (ap has_call (sets.others lane (λ same. apart (sym same))))
+if_or : (a b : Bool) → (a || b) ≡ (if a then true else b)
+if_or true b = refl
+if_or false b = refl
 
-pub busy_returns : (lanes after : Lanes) (u lane : ℕ) (reply : Reply) (busy : Bool) → Sets lanes after u Idle →
-    busy ≡ has_call (lanes lane) → is_busy_then lane busy (Returns u reply) ≡ has_call (after lane)
-busy_returns lanes after u lane reply busy sets is = busy_ends lanes after u lane busy sets is
+if_not : (a b : Bool) → (not a && b) ≡ (if a then false else b)
+if_not true b = refl
+if_not false b = refl
 
-pub busy_withdraws : (lanes after : Lanes) (u lane : ℕ) (busy : Bool) → Sets lanes after u Idle →
-    busy ≡ has_call (lanes lane) → is_busy_then lane busy (Withdraws u) ≡ has_call (after lane)
-busy_withdraws lanes after u lane busy sets is = busy_ends lanes after u lane busy sets is
+pub busy_happens : (lanes after : Lanes) (lane : ℕ) (event : Event) (busy : Bool) → Happens event lanes after →
+    busy ≡ has_call (lanes lane) → is_busy_then lane busy event ≡ has_call (after lane)
+busy_happens lanes after lane (Begins u call) busy happens is =
+    if_or (u == lane) busy ∙ busy_set lanes after u lane (Asks call) busy happens.1 is
+busy_happens lanes after lane (Returns u reply) busy happens is =
+    if_not (u == lane) busy ∙ busy_set lanes after u lane Idle busy happens.1 is
+busy_happens lanes after lane (Withdraws u) busy happens is =
+    if_not (u == lane) busy ∙ busy_set lanes after u lane Idle busy happens.2 is
 
 pub busy_takes : (lanes after : Lanes) (u lane : ℕ) (call : Call) (reply : Reply) (busy : Bool) →
     lanes u ≡ Asks call → Sets lanes after u (Gets reply) → busy ≡ has_call (lanes lane) →
@@ -90,6 +115,14 @@ busy_takes lanes after u lane call reply busy asks sets is = by (cases_eq lane u
         sym (ap (λ (v : ℕ). has_call (after v)) same)
     by (inr apart) = is ∙ sym (ap has_call (sets.others lane apart))
 
+busy_along : {S : Type 0} {O : Object S} {events : List Event} {s t : S} {a b : Lanes} (lane : ℕ) (busy : Bool) →
+    busy ≡ has_call (a lane) → Leads O events s a t b → fold (is_busy_then lane) busy events ≡ has_call (b lane)
+busy_along lane busy has leads_nowhere = has
+busy_along {a = a} lane busy has (by_effect {after = after} u call reply asks step sets rest) =
+    busy_along lane busy (busy_takes a after u lane call reply busy asks sets has) rest
+busy_along {a = a} lane busy has (by_event {after = after} event happens rest) =
+    busy_along lane (is_busy_then lane busy event) (busy_happens a after lane event busy happens has) rest
+
 pub free_idle : (p : Phase) → has_call p ≡ false → p ≡ Idle
 free_idle Idle free = refl
 free_idle (Asks call) free = absurd (false≢true (sym free))
@@ -97,42 +130,19 @@ free_idle (Gets reply) free = absurd (false≢true (sym free))
 
 -- what goes on where a lane is free goes on so behind events that leave it free
 pub past_free : (limits : Bounds) (lane : ℕ) (old new : List Event) → ((s : List LockEvent) (lanes : Lanes) →
-    lanes lane ≡ Idle → Survives limits old s lanes → Survives limits new s lanes) → (past events : List Event)
-    (s : List LockEvent) (lanes : Lanes) (busy : Bool) → events ≡ past ++ old → busy ≡ has_call (lanes lane) →
-    fold (is_busy_then lane) busy past ≡ false → Survives limits events s lanes → Survives limits (past ++ new) s lanes
-past_free limits lane old new goes [] events s lanes busy same has free way =
-    goes s lanes (free_idle (lanes lane) (sym has ∙ free))
-    (subst (λ (es : List Event). Survives limits es s lanes) same way)
-past_free limits lane old new goes (e ∷ past) events s lanes busy same has free at_end = absurd (no_empty same)
-past_free limits lane old new goes (e ∷ past) events s lanes busy same has free (takes_effect {next = next}
-    {after = after} u c r asks step sets way) = takes_effect u c r asks step sets
-    (past_free limits lane old new goes (e ∷ past) events next after busy same
-    (busy_takes lanes after u lane c r busy asks sets has) free way)
-past_free limits lane old new goes (e ∷ past) events s lanes busy same has free (begins {events = more} {after = after}
-    u c idle sets way) = subst (λ (x : Event). Survives limits (x ∷ past ++ new) s lanes) (first_same same)
-    (begins u c idle sets (past_free limits lane old new goes past more s after (is_busy_then lane busy (Begins u c))
-    (rest_same same) (busy_begins lanes after u lane c busy sets has)
-    (subst (λ (x : Event). fold (is_busy_then lane) (is_busy_then lane busy x) past ≡ false) (sym (first_same same))
-    free) way))
-past_free limits lane old new goes (e ∷ past) events s lanes busy same has free (returns {events = more}
-    {after = after} u r gets sets way) = subst (λ (x : Event). Survives limits (x ∷ past ++ new) s lanes)
-    (first_same same)
-    (returns u r gets sets (past_free limits lane old new goes past more s after (is_busy_then lane busy (Returns u r))
-    (rest_same same) (busy_returns lanes after u lane r busy sets has)
-    (subst (λ (x : Event). fold (is_busy_then lane) (is_busy_then lane busy x) past ≡ false) (sym (first_same same))
-    free) way))
-past_free limits lane old new goes (e ∷ past) events s lanes busy same has free (withdraws {events = more}
-    {after = after} u c asks sets way) = subst (λ (x : Event). Survives limits (x ∷ past ++ new) s lanes)
-    (first_same same)
-    (withdraws u c asks sets (past_free limits lane old new goes past more s after
-    (is_busy_then lane busy (Withdraws u)) (rest_same same) (busy_withdraws lanes after u lane busy sets has)
-    (subst (λ (x : Event). fold (is_busy_then lane) (is_busy_then lane busy x) past ≡ false) (sym (first_same same))
-    free) way))
+    lanes lane ≡ Idle → Survives (LockStep limits) old s lanes → Survives (LockStep limits) new s lanes) →
+    (past : List Event) (s : List LockEvent) (lanes : Lanes) (busy : Bool) → busy ≡ has_call (lanes lane) →
+    fold (is_busy_then lane) busy past ≡ false → Survives (LockStep limits) (past ++ old) s lanes →
+    Survives (LockStep limits) (past ++ new) s lanes
+past_free limits lane old new goes past s lanes busy has free way =
+    let two = cut past old way.way in survives_on two.before (goes two.state two.lanes
+    (free_idle (two.lanes lane) (sym (busy_along lane busy has two.before) ∙ free))
+    (leads_survive (LockStep limits) two.behind))
 
 -- a call may begin on each way in a lane that is free
 pub begins_next : (limits : Bounds) (lane : ℕ) (call : Call) (events : List Event) (s : List LockEvent) (lanes : Lanes)
     (busy : Bool) → busy ≡ has_call (lanes lane) → fold (is_busy_then lane) busy events ≡ false →
-    Survives limits events s lanes → Survives limits (events ++ Begins lane call ∷ []) s lanes
+    Survives (LockStep limits) events s lanes → Survives (LockStep limits) (events ++ Begins lane call ∷ []) s lanes
 begins_next limits lane call events s lanes busy has free way = past_free limits lane [] (Begins lane call ∷ [])
-    (λ s lanes idle way. begins lane call idle (sets_of lanes lane (Asks call)) at_end) events events s lanes busy
-    (sym (append-nil events)) has free way
+    (λ s lanes idle way. comes_next (Begins lane call) (idle, sets_of lanes lane (Asks call)) at_end) events s lanes
+    busy has free (subst (λ (es : List Event). Survives (LockStep limits) es s lanes) (sym (append-nil events)) way)

@@ -12,8 +12,8 @@ use Rattle.std.proofs.lemmas.List.Elements.{All-drop, Contains-append_right, Con
 use Rattle.std.proofs.Math.Seq.{drop-append_seam, take-append_seam}
 use Rattle.std.proofs.lemmas.Nat.Bits.{bit_at-zero}
 use Rattle.stamp_core.specs.Call.{is_lock_call}
-use Rattle.stamp_watch.specs.declared.event.Event.{Event}
-use Rattle.stamp_watch.specs.declared.event.Event.TheVariants.{Begins, Returns, Withdraws}
+use Rattle.stamp_runs.specs.declared.event.Event.{Event}
+use Rattle.stamp_runs.specs.declared.event.Event.TheVariants.{Begins, Returns, Withdraws}
 use Rattle.stamp_watch.specs.Form.{is_busy_then, is_busy_after, MayCome, AreInFormFrom}
 use Rattle.stamp_watch.specs.Verdict.{AreOfLock, IsInFormUpTo, IsOfLock, NoMoreAreOfLock, is_lock_reply}
 use Rattle.stamp_watch.specs.Judging.{AreBusyLanes}

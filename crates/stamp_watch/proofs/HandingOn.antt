@@ -12,10 +12,10 @@ use Rattle.std.proofs.lemmas.List.Elements.{All-head, All-tail, All-push, All-ta
 use Rattle.std.proofs.lemmas.List.Quantifiers.{all_pairs_push, all_pairs_remove}
 use Rattle.std.proofs.Math.Seq.{drop-append_seam, drop-cons, take-append_seam, take-length}
 use Rattle.stamp_explain.proofs.Lists.{pairs_left}
-use Rattle.stamp_watch.specs.declared.event.Event.{Event}
-use Rattle.stamp_watch.specs.declared.event.Event.TheVariants.{Begins, Returns, Withdraws}
-use Rattle.stamp_watch.specs.Ahead.{EndsNever, IsSpared, lane_of}
-use Rattle.stamp_watch.specs.Ahead.EndsNever.{never_more, not_beginning, not_returning, not_withdrawing}
+use Rattle.stamp_runs.specs.declared.event.Event.{Event}
+use Rattle.stamp_runs.specs.declared.event.Event.TheVariants.{Begins, Returns, Withdraws}
+use Rattle.stamp_runs.specs.Run.{lane_of, EndsNever}
+use Rattle.stamp_watch.specs.Ahead.{IsSpared}
 use Rattle.stamp_watch.specs.Delay.{IsBeginning, IsFirstIfAny, IsFirstLate, IsHandedOn}
 use Rattle.stamp_watch.specs.Late.{BeginsLater, IsLongCall, LongCallsBeginLater}
 use Rattle.stamp_watch.specs.Verdict.{IsOpenFor}
@@ -24,24 +24,7 @@ use Rattle.stamp_watch.specs.Waiting.{count_of}
 use Rattle.stamp_watch.proofs.BeginningLater.{later_as_long}
 use Rattle.stamp_watch.proofs.LongCalls.{later_of_long, long_here, long_moves_before, long_still, longs_past}
 use Rattle.stamp_watch.proofs.LongCalls.{longs_still, open_still}
-
--- where no event is of the lane, none ends its call
-pub never_of_spared : (lane n : ℕ) (events : List Event) → IsSpared events lane → EndsNever lane (take n events)
-never_of_spared lane zero events spared = never_more
-never_of_spared lane (suc n) [] spared = never_more
-never_of_spared lane (suc n) (Begins u call ∷ events) spared = not_beginning u call
-    (never_of_spared lane n events (All-tail (λ (e : Event). lane_of e ≢ lane) (Begins u call) events spared))
-never_of_spared lane (suc n) (Returns u reply ∷ events) spared = not_returning u reply
-    (All-head (λ (e : Event). lane_of e ≢ lane) (Returns u reply) events spared)
-    (never_of_spared lane n events (All-tail (λ (e : Event). lane_of e ≢ lane) (Returns u reply) events spared))
-never_of_spared lane (suc n) (Withdraws u ∷ events) spared = not_withdrawing u
-    (All-head (λ (e : Event). lane_of e ≢ lane) (Withdraws u) events spared)
-    (never_of_spared lane n events (All-tail (λ (e : Event). lane_of e ≢ lane) (Withdraws u) events spared))
-
--- where no event is of the lane, its call doesn't end
-pub never_among : (lane : ℕ) (events : List Event) → IsSpared events lane → EndsNever lane events
-never_among lane events spared = subst (EndsNever lane) (take-length events)
-    (never_of_spared lane (length events) events spared)
+use Rattle.stamp_watch.proofs.Ways.{never_of_spared}
 
 -- the first late call stays that when the run and what was given go on
 first_still : (ahead : ℕ) (run more given then_given : List Event) (first : ℕ) →

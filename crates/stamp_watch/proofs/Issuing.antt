@@ -11,10 +11,11 @@ use Rattle.stamp_core.specs.Limits.{Bounds, units}
 use Rattle.stamp_core.specs.Stamp.{IsStamp}
 use Rattle.stamp_core.specs.declared.call.Call.{Call}
 use Rattle.stamp_core.specs.declared.reply.Reply.TheVariants.{Stamp}
+use Rattle.stamp_runs.specs.Run.{lane_of}
+use Rattle.stamp_runs.specs.declared.event.Event.{Event}
+use Rattle.stamp_runs.specs.declared.event.Event.TheVariants.{Begins, Returns}
 use Rattle.stamp_watch.specs.Issued.{IssuesOf, IssuesOlder, IssuesStamp, ReturnsOlder}
-use Rattle.stamp_watch.specs.Ahead.{IsSpared, lane_of}
-use Rattle.stamp_watch.specs.declared.event.Event.{Event}
-use Rattle.stamp_watch.specs.declared.event.Event.TheVariants.{Begins, Returns}
+use Rattle.stamp_watch.specs.Ahead.{IsSpared}
 use Rattle.stamp_watch.specs.inner.Delay.{IsFirstOfLaneAt}
 use Rattle.stamp_watch.proofs.TellingVersions.{one_version}
 

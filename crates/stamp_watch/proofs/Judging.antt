@@ -5,6 +5,7 @@ use Rattle.std.proofs.Common.{eq-eqb, ne_eqb}
 use Rattle.std.specs.Prelude.{slice_set, not, ◌&&◌, ◌||◌}
 use Rattle.std.specs.Option.{is_some}
 use Rattle.std.proofs.lemmas.Bool.{cases_eq, false≢true}
+use Rattle.std.proofs.lemmas.List.Elements.{All-nil}
 use Rattle.std.proofs.lemmas.Option.{none-some, same_Some}
 use Rattle.stamp_core.specs.Limits.{Bounds}
 use Rattle.stamp_core.specs.LockDecision.{reply_as}
@@ -12,8 +13,12 @@ use Rattle.stamp_core.specs.declared.lock_decision.LockReply.{LockReply}
 use Rattle.stamp_core.specs.declared.call.Call.{Call}
 use Rattle.stamp_core.specs.declared.reply.Reply.{Reply}
 use Rattle.stamp_explain.specs.declared.observed.Returned.{Returned}
-use Rattle.stamp_watch.specs.declared.event.Event.{Event}
-use Rattle.stamp_watch.specs.declared.event.Event.TheVariants as event
+use Rattle.stamp_runs.specs.declared.event.Event.{Event}
+use Rattle.stamp_runs.specs.declared.event.Event.TheVariants as event
+use Rattle.stamp_runs.specs.Run.{EndsBy, IsEndOf, ReturnsSooner}
+use Rattle.stamp_runs.specs.Run.EndsBy.{ends_next, ends_later}
+use Rattle.stamp_runs.specs.Run.ReturnsSooner.{sooner_next, sooner_later}
+use Rattle.stamp_runs.specs.LockRun.{AreExplained}
 use Rattle.stamp_watch.specs.declared.ending.Ending.{Ending}
 use Rattle.stamp_watch.specs.declared.ending.Ending.TheVariants.{Returns, Withdraws, Never}
 use Rattle.stamp_watch.specs.declared.open_call.OpenCall.{OpenCall}
@@ -21,29 +26,21 @@ use Rattle.stamp_watch.specs.declared.position.Position.{Position}
 use Rattle.stamp_watch.specs.declared.progress.Progress.{Progress}
 use Rattle.stamp_watch.specs.declared.progress.Progress.TheVariants.{Going, Dead, TooMany, Refused}
 use Rattle.stamp_watch.specs.declared.watch.Watch.{Watch}
-use Rattle.stamp_watch.specs.Ahead.{Tells, ReturnsSooner}
-use Rattle.stamp_watch.specs.Ahead.Tells.{tells_next, past_beginning, past_return, past_withdrawal}
-use Rattle.stamp_watch.specs.Ahead.IsWithdrawn.{withdrawn_next, withdrawn_past_beginning, withdrawn_past_return}
-use Rattle.stamp_watch.specs.Ahead.IsWithdrawn.{withdrawn_past_withdrawal}
-use Rattle.stamp_watch.specs.Ahead.EndsNever.{never_more, not_beginning, not_returning, not_withdrawing}
-use Rattle.stamp_watch.specs.Ahead.ReturnsSooner.{sooner_next, sooner_past_beginning, sooner_past_return}
-use Rattle.stamp_watch.specs.Ahead.ReturnsSooner.{sooner_past_withdrawal}
 use Rattle.stamp_watch.specs.AsObserved.{ending_of}
-use Rattle.stamp_watch.specs.AsObserved.Ending.{StaysOpen, EndsBy, EndsWithdrawn}
+use Rattle.stamp_watch.specs.AsObserved.Ending.{StaysOpen, EndsReturned, EndsWithdrawn}
 use Rattle.stamp_watch.specs.Foretold.{open_at, ends_as, EndsSo, HasEachOpen, ComesAsTold}
 use Rattle.stamp_watch.specs.Form.{is_busy_then, is_busy_after, MayCome}
-use Rattle.stamp_watch.specs.Run.{AreExplained}
-use Rattle.stamp_watch.specs.Run.Survives.{at_end}
 use Rattle.stamp_watch.specs.Verdict.{AreOfLock}
-use Rattle.stamp_watch.specs.Watch.{AreKept, IsCopy, IsWatching, IsUntold, IsInForm, IsProgress, IsTaken}
-use Rattle.stamp_watch.specs.Watch.{BeginsTold, ReturnsTold, WithdrawsTold}
+use Rattle.stamp_watch.specs.Watch.{AreKept, IsCopy, IsWatching, IsUntold, IsInForm, IsProgress, IsTaken, BeginsTold}
+use Rattle.stamp_watch.specs.Watch.{ReturnsTold, WithdrawsTold}
 use Rattle.stamp_watch.specs.Judging.{IsFollowed, IsJudging}
 use Rattle.stamp_watch.specs.inner.Judging.{IsEndTold, IsStep}
 use Rattle.stamp_watch.proofs.Form.{busy_after_one}
 use Rattle.stamp_watch.proofs.Forming.{next_comes, next_of_lock}
-use Rattle.stamp_watch.proofs.Numbered.{return_ends, return_spares, withdrawal_ends, withdrawal_spares, one_return}
-use Rattle.stamp_watch.proofs.Numbered.{open_or_ended, withdrawn_or_ended, ended_by_return, ended_past_withdrawal}
-use Rattle.stamp_watch.proofs.Numbered.{ending_last}
+use Rattle.stamp_watch.proofs.Foretelling.{ends_beyond}
+use Rattle.stamp_watch.proofs.Numbered.{end_or_not, ended_by, ending_last, ending_spares, one_return, open_or_ended}
+use Rattle.stamp_watch.proofs.Numbered.{return_ends, withdrawal_ends, withdrawn_or_ended}
+use Rattle.stamp_watch.proofs.Ways.{at_end}
 use Rattle.stamp_watch.proofs.Tables.{open_at_set_here, open_at_set_other}
 
 withdrawn_or_open : EndsWithdrawn ≡ StaysOpen → ⊥
@@ -57,7 +54,7 @@ record IsReturnAt (ends : Ending) (r : Returned) : Type 0 where
   pub same : reply_as told ≡ r.reply
   pub here : place ≡ r.last
 
-returns_at : (ends : Ending) (r : Returned) → ends_as ends ≡ EndsBy r → IsReturnAt ends r
+returns_at : (ends : Ending) (r : Returned) → ends_as ends ≡ EndsReturned r → IsReturnAt ends r
 returns_at (Returns told place) r is = record {
   told = told;
   place = place;
@@ -73,101 +70,59 @@ withdraws_so (Returns told place) is = absurd (withdrawn_or_ended (sym is))
 withdraws_so Withdraws is = refl
 withdraws_so Never is = absurd (withdrawn_or_open (sym is))
 
-ends_past_beginning : (u : ℕ) (ends : Ending) (lane : ℕ) (call : Call) (events : List Event) → EndsSo u ends events →
-    EndsSo u ends (event.Begins lane call ∷ events)
-ends_past_beginning u (Returns told place) lane call events is = past_beginning lane call is
-ends_past_beginning u Withdraws lane call events is = withdrawn_past_beginning lane call is
-ends_past_beginning u Never lane call events is = not_beginning lane call is
-
-ends_past_return : (u : ℕ) (ends : Ending) (lane : ℕ) (reply : Reply) (events : List Event) → lane ≢ u →
-    EndsSo u ends events → EndsSo u ends (event.Returns lane reply ∷ events)
-ends_past_return u (Returns told place) lane reply events apart is = past_return lane reply apart is
-ends_past_return u Withdraws lane reply events apart is = withdrawn_past_return lane reply apart is
-ends_past_return u Never lane reply events apart is = not_returning lane reply apart is
-
-ends_past_withdrawal : (u : ℕ) (ends : Ending) (lane : ℕ) (events : List Event) → lane ≢ u →
-    EndsSo u ends events → EndsSo u ends (event.Withdraws lane ∷ events)
-ends_past_withdrawal u (Returns told place) lane events apart is = past_withdrawal lane apart is
-ends_past_withdrawal u Withdraws lane events apart is = withdrawn_past_withdrawal lane apart is
-ends_past_withdrawal u Never lane events apart is = not_withdrawing lane apart is
-
-ends_here : (lane n : ℕ) (reply : Reply) (events : List Event) (ends : Ending) →
-    ends_as ends ≡ EndsBy (record { last = n; reply = reply }) → EndsSo lane ends (event.Returns lane reply ∷ events)
-ends_here lane n reply events ends is = by (returns_at ends (record { last = n; reply = reply }) is)
+ends_at : (lane n : ℕ) (event : Event) (events : List Event) (ends : Ending) → IsEndOf lane event →
+    ends_as ends ≡ ending_of lane n (event ∷ events) → EndsSo lane ends (event ∷ events)
+ends_at lane n (event.Begins other call) events ends none is = absurd none
+ends_at lane n (event.Returns other reply) events ends same is = by (returns_at ends
+    (record { last = n; reply = reply }) (is ∙ return_ends lane other n reply events same))
   where
-    by : IsReturnAt ends (record { last = n; reply = reply }) → EndsSo lane ends (event.Returns lane reply ∷ events)
-    by at = subst (λ (e : Ending). EndsSo lane e (event.Returns lane reply ∷ events)) (sym at.is)
-        (subst (λ (r : Reply). Tells lane (reply_as at.told) (event.Returns lane r ∷ events)) at.same tells_next)
-
-withdrawn_here : (lane : ℕ) (events : List Event) (ends : Ending) → ends_as ends ≡ EndsWithdrawn →
-    EndsSo lane ends (event.Withdraws lane ∷ events)
-withdrawn_here lane events ends is = subst (λ (e : Ending). EndsSo lane e (event.Withdraws lane ∷ events))
-    (sym (withdraws_so ends is)) withdrawn_next
+    by : IsReturnAt ends (record { last = n; reply = reply }) → EndsSo lane ends (event.Returns other reply ∷ events)
+    by at = subst (λ (e : Ending). EndsSo lane e (event.Returns other reply ∷ events)) (sym at.is)
+        (subst (λ (e : Event). EndsBy lane (event.Returns lane (reply_as at.told)) (e ∷ events))
+        (ap (event.Returns lane) at.same ∙ ap (λ (v : ℕ). event.Returns v reply) (sym same)) ends_next)
+ends_at lane n (event.Withdraws other) events ends same is =
+    subst (λ (e : Ending). EndsSo lane e (event.Withdraws other ∷ events))
+    (sym (withdraws_so ends (is ∙ withdrawal_ends lane other n events same)))
+    (subst (λ (e : Event). EndsBy lane (event.Withdraws lane) (e ∷ events)) (ap event.Withdraws (sym same)) ends_next)
 
 -- a call ends as its entry tells
 pub ends_so : (lane n : ℕ) (events : List Event) (ends : Ending) → ends_as ends ≡ ending_of lane n events →
     EndsSo lane ends events
 ends_so lane n [] (Returns told place) is = absurd (open_or_ended (sym is))
 ends_so lane n [] Withdraws is = absurd (withdrawn_or_open is)
-ends_so lane n [] Never is = never_more
-ends_so lane n (event.Begins other call ∷ events) ends is =
-    ends_past_beginning lane ends other call events (ends_so lane (n + 1) events ends is)
-ends_so lane n (event.Returns other reply ∷ events) ends is =
-    by (λ later. ends_so lane (n + 1) events ends later) (cases_eq other lane)
+ends_so lane n [] Never is = All-nil (λ (e : Event). ¬ IsEndOf lane e)
+ends_so lane n (event ∷ events) ends is =
+    by (λ later. ends_so lane (n + 1) events ends later) (end_or_not lane event)
   where
     by : (ends_as ends ≡ ending_of lane (n + 1) events → EndsSo lane ends events) →
-        (other ≡ lane) ⊎ (other ≢ lane) → EndsSo lane ends (event.Returns other reply ∷ events)
-    by later (inl same) = subst (λ (u : ℕ). EndsSo lane ends (event.Returns u reply ∷ events)) (sym same)
-        (ends_here lane n reply events ends (is ∙ return_ends lane other n reply events same))
-    by later (inr apart) = ends_past_return lane ends other reply events apart
-        (later (is ∙ return_spares lane other n reply events apart))
-ends_so lane n (event.Withdraws other ∷ events) ends is =
-    by (λ later. ends_so lane (n + 1) events ends later) (cases_eq other lane)
-  where
-    by : (ends_as ends ≡ ending_of lane (n + 1) events → EndsSo lane ends events) →
-        (other ≡ lane) ⊎ (other ≢ lane) → EndsSo lane ends (event.Withdraws other ∷ events)
-    by later (inl same) = subst (λ (u : ℕ). EndsSo lane ends (event.Withdraws u ∷ events)) (sym same)
-        (withdrawn_here lane events ends (is ∙ withdrawal_ends lane other n events same))
-    by later (inr apart) = ends_past_withdrawal lane ends other events apart
-        (later (is ∙ withdrawal_spares lane other n events apart))
+        IsEndOf lane event ⊎ (¬ IsEndOf lane event) → EndsSo lane ends (event ∷ events)
+    by later (inl end) = ends_at lane n event events ends end is
+    by later (inr not) = ends_beyond lane ends event events not (later (is ∙ ending_spares lane n event events not))
 
 -- calls return in the order of their places
-sooner_so : (lane than n : ℕ) (events : List Event) (a b : Returned) → ending_of lane n events ≡ EndsBy a →
-    ending_of than n events ≡ EndsBy b → a.last < b.last → ReturnsSooner lane than events
+sooner_so : (lane than n : ℕ) (events : List Event) (a b : Returned) → ending_of lane n events ≡ EndsReturned a →
+    ending_of than n events ≡ EndsReturned b → a.last < b.last → ReturnsSooner lane than events
 sooner_so lane than n [] a b is also less = absurd (open_or_ended is)
-sooner_so lane than n (event.Begins other call ∷ events) a b is also less =
-    sooner_past_beginning other call (sooner_so lane than (n + 1) events a b is also less)
-sooner_so lane than n (event.Returns other reply ∷ events) a b is also less =
+sooner_so lane than n (x ∷ events) a b is also less =
     by (λ is also. sooner_so lane than (n + 1) events a b is also less)
-    (ended_by_return lane other n reply events a is) (ended_by_return than other n reply events b also)
+    (ended_by lane n x events a is) (ended_by than n x events b also)
   where
-    by : (ending_of lane (n + 1) events ≡ EndsBy a → ending_of than (n + 1) events ≡ EndsBy b →
+    by : (ending_of lane (n + 1) events ≡ EndsReturned a → ending_of than (n + 1) events ≡ EndsReturned b →
         ReturnsSooner lane than events) →
-        ((other ≡ lane) × (a ≡ record { last = n; reply = reply })) ⊎
-        ((other ≢ lane) × (ending_of lane (n + 1) events ≡ EndsBy a)) →
-        ((other ≡ than) × (b ≡ record { last = n; reply = reply })) ⊎
-        ((other ≢ than) × (ending_of than (n + 1) events ≡ EndsBy b)) →
-        ReturnsSooner lane than (event.Returns other reply ∷ events)
-    by later (inl here) _ = subst (λ (u : ℕ). ReturnsSooner lane than (event.Returns u reply ∷ events)) (sym here.0)
-        (sooner_next reply)
+        ((x ≡ event.Returns lane a.reply) × (a.last ≡ n)) ⊎
+        ((¬ IsEndOf lane x) × (ending_of lane (n + 1) events ≡ EndsReturned a)) →
+        ((x ≡ event.Returns than b.reply) × (b.last ≡ n)) ⊎
+        ((¬ IsEndOf than x) × (ending_of than (n + 1) events ≡ EndsReturned b)) →
+        ReturnsSooner lane than (x ∷ events)
+    by later (inl here) _ = subst (λ (e : Event). ReturnsSooner lane than (e ∷ events)) (sym here.0)
+        (sooner_next a.reply)
     by later (inr past) (inl here) =
-        let low : n + 1 ≤ a.last = ending_last lane (n + 1) events a past.1 in
-        let at : b.last ≡ n = ap (λ (q : Returned). q.last) here.1 in absurd (omega arith)
-    by later (inr past) (inr beyond) = sooner_past_return other reply past.0 beyond.0 (later past.1 beyond.1)
-sooner_so lane than n (event.Withdraws other ∷ events) a b is also less =
-    by (λ is also. sooner_so lane than (n + 1) events a b is also less)
-    (ended_past_withdrawal lane other n events a is) (ended_past_withdrawal than other n events b also)
-  where
-    by : (ending_of lane (n + 1) events ≡ EndsBy a → ending_of than (n + 1) events ≡ EndsBy b →
-        ReturnsSooner lane than events) →
-        (other ≢ lane) × (ending_of lane (n + 1) events ≡ EndsBy a) →
-        (other ≢ than) × (ending_of than (n + 1) events ≡ EndsBy b) →
-        ReturnsSooner lane than (event.Withdraws other ∷ events)
-    by later past beyond = sooner_past_withdrawal other past.0 beyond.0 (later past.1 beyond.1)
+        absurd (omega (arith, ending_last lane (n + 1) events a past.1, here.1, less))
+    by later (inr past) (inr beyond) = sooner_later x past.0 beyond.0 (later past.1 beyond.1)
 
 told_return : (ends : Ending) (told : LockReply) (place lane n : ℕ) (events : List Event) → ends ≡ Returns told place →
     ends_as ends ≡ ending_of lane n events →
-    ending_of lane n events ≡ EndsBy (record { last = place; reply = reply_as told })
+    ending_of lane n events ≡ EndsReturned (record { last = place; reply = reply_as told })
 told_return ends told place lane n events returns is = sym is ∙ ap ends_as returns
 
 -- what comes is as it was told
@@ -331,7 +286,7 @@ pub followed_returns : (n : ℕ) (past ahead : List Event) (lane : ℕ) (reply :
 followed_returns n past ahead lane reply old new long told f =
     followed_ended n past ahead lane (event.Returns lane reply) old new long told.table
     (next_of_lock past (event.Returns lane reply) ahead f.whole).0 (λ u busy. refl)
-    (λ u apart. return_spares u lane n reply ahead (λ e. apart (sym e))) f
+    (λ u apart. ending_spares u n (event.Returns lane reply) ahead (λ e. apart (sym e))) f
     (let same : new.last ≡ told.was.place = told.last in omega (arith, same, at))
   where
     at : told.was.place ≡ n
@@ -347,7 +302,7 @@ pub followed_withdraws : (n : ℕ) (past ahead : List Event) (lane : ℕ) (old n
 followed_withdraws n past ahead lane old new long told f =
     followed_ended n past ahead lane (event.Withdraws lane) old new long told.table
     (next_of_lock past (event.Withdraws lane) ahead f.whole) (λ u busy. refl)
-    (λ u apart. withdrawal_spares u lane n ahead (λ e. apart (sym e))) f
+    (λ u apart. ending_spares u n (event.Withdraws lane) ahead (λ e. apart (sym e))) f
     (let same : new.last ≡ old.last = told.last in let last : old.last ≤ n = f.last in omega (arith, same, last))
 
 -- one event on

@@ -12,26 +12,26 @@ use Rattle.std.proofs.Math.Seq.{take-append_seam}
 use Rattle.stamp_core.specs.Limits.{Bounds}
 use Rattle.stamp_core.specs.declared.call.Call.{Call}
 use Rattle.stamp_core.specs.declared.reply.Reply.{Reply}
+use Rattle.stamp_runs.specs.declared.event.Event.{Event}
+use Rattle.stamp_runs.specs.declared.event.Event.TheVariants.{Begins, Returns, Withdraws}
+use Rattle.stamp_runs.specs.Run.{all_idle}
+use Rattle.stamp_runs.specs.LockRun.{AreExplained, AreStuckAt}
 use Rattle.stamp_watch.specs.AsObserved.Ending.{StaysOpen}
 use Rattle.stamp_watch.specs.AsObserved.{ending_of}
 use Rattle.stamp_watch.specs.Course.{IsCourse, IsStanding, KeepsEnd, KeepsEndOf}
 use Rattle.stamp_watch.specs.declared.course.Course.{Course}
-use Rattle.stamp_watch.specs.declared.event.Event.{Event}
-use Rattle.stamp_watch.specs.declared.event.Event.TheVariants.{Begins, Returns, Withdraws}
 use Rattle.stamp_watch.specs.declared.verdict.Verdict.{Verdict}
 use Rattle.stamp_watch.specs.declared.verdict.Verdict.TheVariants as verdict
 use Rattle.stamp_watch.specs.EndedCall.{begun_in, begun_then, end_in, ended, ended_at, ended_by, ended_from}
 use Rattle.stamp_watch.specs.Form.{MayCome, is_busy_after, is_busy_then}
 use Rattle.stamp_watch.specs.Judging.{IsFound}
-use Rattle.stamp_watch.specs.Run.{AreExplained, AreStuckAt, all_idle}
 use Rattle.stamp_watch.specs.Verdict.{AreOfLock}
 use Rattle.stamp_watch.specs.inner.Course.{broken_off}
 use Rattle.stamp_watch.specs.inner.Judging.{IsStuckAmong}
-use Rattle.stamp_watch.proofs.BeginningLater.{busy_other}
+use Rattle.stamp_watch.proofs.Form.{busy_other, begins_next, past_end}
 use Rattle.stamp_watch.proofs.EndedAt.{taken_by_end}
-use Rattle.stamp_watch.proofs.Form.{begins_next}
 use Rattle.stamp_watch.proofs.Forming.{next_comes}
-use Rattle.stamp_watch.proofs.Numbered.{return_spares, withdrawal_spares}
+use Rattle.stamp_watch.proofs.Numbered.{ending_spares}
 use Rattle.stamp_watch.proofs.Reading.{around}
 use Rattle.stamp_watch.proofs.Running.{found_now, standing_up_to}
 
@@ -66,28 +66,14 @@ none_begun lane busy n (Begins u c ∷ events) open_still none = by (cases_eq u 
         events)
         (sym (ne_eqb u lane apart)) ∙ none) in
         (sym (busy_other lane busy (Begins u c) apart) ∙ past.0, past.1)
-none_begun lane busy n (Returns u r ∷ events) open_still none = by (cases_eq u lane)
-    (none_begun lane (is_busy_then lane busy (Returns u r)) (n + 1) events open_still none)
-  where
-    by : (u ≡ lane) ⊎ (u ≢ lane) →
-        (is_busy_then lane busy (Returns u r) ≡ true) × (ending_of lane (n + 1) events ≡ StaysOpen) →
-        (busy ≡ true) × (ending_of lane n (Returns u r ∷ events) ≡ StaysOpen)
-    by (inl same) past = absurd (false≢true (sym (ap (λ (b : Bool). not b && busy) (eq-eqb u lane same)) ∙ past.0))
-    by (inr apart) past = (
-      sym (busy_other lane busy (Returns u r) apart) ∙ past.0,
-      return_spares lane u n r events apart ∙ past.1,
-    )
-none_begun lane busy n (Withdraws u ∷ events) open_still none = by (cases_eq u lane)
-    (none_begun lane (is_busy_then lane busy (Withdraws u)) (n + 1) events open_still none)
-  where
-    by : (u ≡ lane) ⊎ (u ≢ lane) →
-        (is_busy_then lane busy (Withdraws u) ≡ true) × (ending_of lane (n + 1) events ≡ StaysOpen) →
-        (busy ≡ true) × (ending_of lane n (Withdraws u ∷ events) ≡ StaysOpen)
-    by (inl same) past = absurd (false≢true (sym (ap (λ (b : Bool). not b && busy) (eq-eqb u lane same)) ∙ past.0))
-    by (inr apart) past = (
-      sym (busy_other lane busy (Withdraws u) apart) ∙ past.0,
-      withdrawal_spares lane u n events apart ∙ past.1,
-    )
+none_begun lane busy n (Returns u r ∷ events) open_still none =
+    let past = none_begun lane (is_busy_then lane busy (Returns u r)) (n + 1) events open_still none in
+    let before = past_end u lane busy past.0 in
+    (before.0, ending_spares lane n (Returns u r) events before.1 ∙ past.1)
+none_begun lane busy n (Withdraws u ∷ events) open_still none =
+    let past = none_begun lane (is_busy_then lane busy (Withdraws u)) (n + 1) events open_still none in
+    let before = past_end u lane busy past.0 in
+    (before.0, ending_spares lane n (Withdraws u) events before.1 ∙ past.1)
 
 module _ (limits : Bounds) (run : List Event) (course : Course) (is : IsCourse limits run course) (k : ℕ)
     (behind : course.first + course.seen ≤ k) (within : k < course.first + length course.events.items)

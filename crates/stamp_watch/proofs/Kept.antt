@@ -5,8 +5,8 @@ use Rattle.std.specs.Prelude.{take, drop, Vec, IfOk}
 use Rattle.std.proofs.lemmas.List.{take-append-drop}
 use Rattle.std.specs.declared.alloc.Global.{Global}
 use Rattle.stamp_core.specs.Limits.{Bounds}
+use Rattle.stamp_runs.specs.declared.event.Event.{Event}
 use Rattle.stamp_watch.specs.declared.course.Course.{Course}
-use Rattle.stamp_watch.specs.declared.event.Event.{Event}
 use Rattle.stamp_watch.specs.declared.watch.Watch.{Watch}
 use Rattle.stamp_watch.specs.Course.{HasRoom, IsCourse, IsStanding}
 use Rattle.stamp_watch.specs.Verdict.{AreOfLock}

@@ -13,25 +13,25 @@ use Rattle.std.proofs.lemmas.List.Elements.{All-weaker, All-contains_itself, Con
 use Rattle.stamp_core.specs.Limits.{Bounds}
 use Rattle.stamp_core.specs.Word.{Represents, IsAdmitted, word_at}
 use Rattle.stamp_core.specs.declared.reply.Reply.{Reply}
-use Rattle.stamp_watch.specs.declared.event.Event.{Event}
-use Rattle.stamp_watch.specs.declared.event.Event.TheVariants as event
+use Rattle.stamp_runs.specs.declared.event.Event.{Event}
+use Rattle.stamp_runs.specs.declared.event.Event.TheVariants as event
+use Rattle.stamp_runs.specs.LockRun.{Configuration}
+use Rattle.stamp_runs.specs.Run.Phase.{Idle, Gets}
+use Rattle.stamp_runs.specs.Run.Leads.{leads_nowhere, by_event}
+use Rattle.stamp_runs.proofs.Lanes.{set_of, sets_of, leads_on}
 use Rattle.stamp_watch.specs.declared.ending.Ending.{Ending}
 use Rattle.stamp_watch.specs.declared.ending.Ending.TheVariants.{Returns, Withdraws, Never}
 use Rattle.stamp_watch.specs.declared.open_call.OpenCall.{OpenCall}
 use Rattle.stamp_watch.specs.declared.position.Position.{Position}
-use Rattle.stamp_watch.specs.Run.{Configuration}
-use Rattle.stamp_watch.specs.Run.Phase.{Idle, Gets}
-use Rattle.stamp_watch.specs.Run.Leads.{leads_nowhere, by_return}
 use Rattle.stamp_watch.specs.Foretold.{open_at, MayGet, ComesAsTold}
 use Rattle.stamp_watch.specs.inner.Foretold.{IsReturn}
 use Rattle.stamp_watch.specs.Watch.{HasPhase, IsInEffect, StandsFor, IsPossible, MayGoOn, OneGoesOn}
 use Rattle.stamp_watch.specs.inner.Lanes.{SetsBit, lanes_in}
 use Rattle.stamp_watch.specs.inner.Effect.{Follows}
-use Rattle.stamp_watch.specs.inner.Layer.{Adds, Expands, FollowsOne, ReturnsFromOne, LooksAt}
-use Rattle.stamp_watch.specs.inner.Layer.{LooksThrough, IsToldOf, IsUnderWay, MoreFollow, IsReturnedFrom, AreReturned}
+use Rattle.stamp_watch.specs.inner.Layer.{Adds, Expands, FollowsOne, ReturnsFromOne, LooksAt, LooksThrough, IsToldOf}
+use Rattle.stamp_watch.specs.inner.Layer.{IsUnderWay, MoreFollow, IsReturnedFrom, AreReturned}
 use Rattle.stamp_watch.proofs.CountingLanes.{lanes_in_le}
-use Rattle.stamp_watch.proofs.Surviving.{set_of, sets_of, returns_first}
-use Rattle.stamp_watch.proofs.StandingFor.{leads_on}
+use Rattle.stamp_watch.proofs.Surviving.{returns_first}
 use Rattle.stamp_watch.proofs.Tables.{one_open, open_at_set_none, open_at_set_other}
 use Rattle.stamp_watch.proofs.Foretelling.{Beside}
 use Rattle.stamp_watch.proofs.Standing.{stands_set, gets_at}
@@ -105,8 +105,8 @@ module _ (limits : Bounds) (table : List (Option OpenCall)) (lane : ℕ) where
             record {
               one = record { state = is.one.state; lanes = set_of is.one.lanes lane Idle };
               stands = stands_returned is.one is.stands;
-              possible = leads_on is.possible (by_return lane reply (effect.gets ∙ ap Gets same)
-                  (sets_of is.one.lanes lane Idle) leads_nowhere);
+              possible = leads_on is.possible (by_event (event.Returns lane reply)
+                  (effect.gets ∙ ap Gets same, sets_of is.one.lanes lane Idle) leads_nowhere);
             }
 
   pub looks_none : (done next : List Position) → LooksAt limits table lane [] done done next next

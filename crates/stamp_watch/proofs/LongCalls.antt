@@ -8,9 +8,10 @@ use Rattle.std.proofs.lemmas.List.Elements.{All-head, All-tail}
 use Rattle.std.proofs.lemmas.List.Sums.{sum_by-append}
 use Rattle.std.proofs.Math.Seq.{take-append_seam}
 use Rattle.stamp_explain.proofs.Lists.{pairs_head, pairs_tail}
-use Rattle.stamp_watch.specs.Ahead.{EndsNever, IsSpared, lane_of}
-use Rattle.stamp_watch.specs.declared.event.Event.{Event}
-use Rattle.stamp_watch.specs.declared.event.Event.TheVariants.{Begins, Returns, Withdraws}
+use Rattle.stamp_runs.specs.Run.{lane_of, EndsNever}
+use Rattle.stamp_runs.specs.declared.event.Event.{Event}
+use Rattle.stamp_runs.specs.declared.event.Event.TheVariants.{Begins, Returns, Withdraws}
+use Rattle.stamp_watch.specs.Ahead.{IsSpared}
 use Rattle.stamp_watch.specs.Delay.{AreLong, IsBeginning}
 use Rattle.stamp_watch.specs.Late.{BeginsLater, BeginsOneLater, IsLongCall, LongCallsBeginLater}
 use Rattle.stamp_watch.specs.Late.BeginsLater.{as_it_is, then_later}

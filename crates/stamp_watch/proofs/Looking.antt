@@ -3,39 +3,33 @@ use Rattle.std.proofs.Common.{ℕ, ◌≡◌, ◌+◌, ◌-◌, ◌<◌, ◌≤�
 use Rattle.std.proofs.Common.{subst}
 use Rattle.std.proofs.Common.{arith, add-zero}
 use Rattle.std.specs.Prelude.{take, drop}
+use Rattle.std.proofs.lemmas.List.Elements.{All-nil}
 use Rattle.std.proofs.lemmas.List.{take_all, take-append-drop, take-append-le, drop-drop, length-append, length-drop}
 use Rattle.std.proofs.lemmas.List.{drop-append-le, length-take-le}
-use Rattle.stamp_watch.specs.declared.event.Event.{Event}
-use Rattle.stamp_watch.specs.declared.event.Event.TheVariants.{Begins, Returns, Withdraws}
+use Rattle.stamp_runs.specs.declared.event.Event.{Event}
+use Rattle.stamp_runs.specs.declared.event.Event.TheVariants.{Begins, Returns, Withdraws}
+use Rattle.stamp_runs.specs.Run.{IsEndOf, EndsNever}
 use Rattle.stamp_watch.specs.declared.ending.Ending.{Ending}
 use Rattle.stamp_watch.specs.declared.ending.Ending.TheVariants.{Never}
-use Rattle.stamp_watch.specs.Ahead.{EndsNever}
-use Rattle.stamp_watch.specs.Ahead.EndsNever.{never_more}
 use Rattle.stamp_watch.specs.AsObserved.{ending_of}
 use Rattle.stamp_watch.specs.Foretold.{ends_as}
 use Rattle.stamp_watch.specs.Course.{LeavesOpen, IsLooked}
 use Rattle.stamp_watch.specs.inner.Judging.{IsEndTold}
 use Rattle.stamp_watch.specs.inner.Course.{IsUnknown}
 use Rattle.stamp_watch.proofs.Judging.{ends_so}
-use Rattle.stamp_watch.proofs.Numbered.{return_spares, withdrawal_spares}
+use Rattle.stamp_watch.proofs.Numbered.{ending_spares}
 use Rattle.stamp_watch.proofs.Reading.{drop_read}
-use Rattle.stamp_watch.proofs.Surviving.{never_past_beginning, never_past_return, never_past_withdrawal}
+use Rattle.stamp_watch.proofs.Ways.{never_later, not_end}
 
 -- the end of a call that these events leave open is told by those that come then
 ending_past : (lane n : ℕ) (events more : List Event) → EndsNever lane events →
     ending_of lane n (events ++ more) ≡ ending_of lane (n + length events) more
 ending_past lane n [] more never = ap (λ (m : ℕ). ending_of lane m more) (sym (add-zero n))
-ending_past lane n (Begins other call ∷ events) more never =
-    let next : n + 1 + length events ≡ n + length (Begins other call ∷ events) = omega arith in
-    ending_past lane (n + 1) events more (never_past_beginning never) ∙ ap (λ (m : ℕ). ending_of lane m more) next
-ending_past lane n (Returns other reply ∷ events) more never =
-    let next : n + 1 + length events ≡ n + length (Returns other reply ∷ events) = omega arith in
-    return_spares lane other n reply (events ++ more) (never_past_return never).0 ∙
-    ending_past lane (n + 1) events more (never_past_return never).1 ∙ ap (λ (m : ℕ). ending_of lane m more) next
-ending_past lane n (Withdraws other ∷ events) more never =
-    let next : n + 1 + length events ≡ n + length (Withdraws other ∷ events) = omega arith in
-    withdrawal_spares lane other n (events ++ more) (never_past_withdrawal never).0 ∙
-    ending_past lane (n + 1) events more (never_past_withdrawal never).1 ∙ ap (λ (m : ℕ). ending_of lane m more) next
+ending_past lane n (event ∷ events) more never =
+    let next : n + 1 + length events ≡ n + length (event ∷ events) = omega arith in
+    ending_spares lane n event (events ++ more) (not_end lane event events never) ∙
+    ending_past lane (n + 1) events more (never_later lane event events never) ∙
+    ap (λ (m : ℕ). ending_of lane m more) next
 
 -- so the end of the first event's call is told by the events that were not looked at
 told_further : (e : Event) (n looked : ℕ) (ahead : List Event) (ends : Ending) → IsLooked looked (e ∷ ahead) →
@@ -50,7 +44,7 @@ told_further (Returns lane reply) n looked ahead ends is told = tt
 told_further (Withdraws lane) n looked ahead ends is told = tt
 
 leaves_none : (e : Event) → LeavesOpen e []
-leaves_none (Begins lane call) = never_more
+leaves_none (Begins lane call) = All-nil (λ (e : Event). ¬ IsEndOf lane e)
 leaves_none (Returns lane reply) = tt
 leaves_none (Withdraws lane) = tt
 

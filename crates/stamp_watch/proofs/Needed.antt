@@ -10,22 +10,24 @@ use Rattle.stamp_core.specs.History.{appended_by}
 use Rattle.stamp_core.specs.LockDecision.{reply_as}
 use Rattle.stamp_core.specs.declared.call.Call.{Call}
 use Rattle.stamp_core.specs.declared.reply.Reply.{Reply}
-use Rattle.stamp_watch.specs.declared.event.Event.{Event}
-use Rattle.stamp_watch.specs.declared.event.Event.TheVariants as event
+use Rattle.stamp_runs.specs.declared.event.Event.{Event}
+use Rattle.stamp_runs.specs.declared.event.Event.TheVariants as event
+use Rattle.stamp_runs.specs.Object.{LockStep}
+use Rattle.stamp_runs.specs.Run.{Lanes, Leads, Sets, Survives, EndsNever}
+use Rattle.stamp_runs.specs.Run.Leads.{by_effect, by_event}
+use Rattle.stamp_runs.proofs.Sets.{leads_survive}
+use Rattle.stamp_runs.specs.Run.Phase.{Asks, Gets}
+use Rattle.stamp_runs.proofs.Lanes.{asks_or_gets, set_of, sets_of, sets_swapped}
 use Rattle.stamp_watch.specs.declared.ending.Ending.{Ending}
 use Rattle.stamp_watch.specs.declared.ending.Ending.TheVariants.{Returns, Withdraws, Never}
 use Rattle.stamp_watch.specs.declared.open_call.OpenCall.{OpenCall}
 use Rattle.stamp_watch.specs.declared.position.Position.{Position}
-use Rattle.stamp_watch.specs.LockCall.{call_as}
-use Rattle.stamp_watch.specs.Run.{Lanes, LockStep, Sets, Survives}
-use Rattle.stamp_watch.specs.Run.Phase.{Asks, Gets}
-use Rattle.stamp_watch.specs.Run.Survives.{takes_effect, returns}
-use Rattle.stamp_watch.specs.Ahead.{EndsNever}
+use Rattle.stamp_core.specs.LockCall.{call_as}
+use Rattle.stamp_watch.proofs.Ways.{not_end, gotten_is_told}
 use Rattle.stamp_watch.specs.Foretold.{open_at, EndsSo, MayGet, ComesAsTold}
 use Rattle.stamp_watch.specs.Watch.{MayGoOn}
 use Rattle.stamp_watch.specs.inner.Effect.{IsFree, EffectGoesOn}
-use Rattle.stamp_watch.proofs.Surviving.{asks_or_gets, set_of, sets_of, sets_swapped, never_past_return}
-use Rattle.stamp_watch.proofs.Surviving.{unchanging_never_needed, gotten_is_told, withdrawn_takes_no_effect}
+use Rattle.stamp_watch.proofs.Surviving.{unchanging_never_needed, withdrawn_takes_no_effect}
 use Rattle.stamp_watch.proofs.Tables.{one_open}
 use Rattle.stamp_watch.proofs.Standing.{asks_at}
 
@@ -48,7 +50,7 @@ record NeededNext (limits : Bounds) (table : List (Option OpenCall)) (events : L
   step : LockStep limits s call reply next
   after : Lanes
   sets : Sets lanes after lane (Gets reply)
-  survives : Survives limits events next after
+  survives : Survives (LockStep limits) events next after
   needed : IsFree table lane ⊎ (appended_by (transition limits s call) ≢ [])
 
 -- an effect before it that is not needed is left out
@@ -81,13 +83,14 @@ without limits table events s next lanes after u c r asks step none sets never l
     same : next ≡ s
     same = step.appends ∙ ap (λ (more : List LockEvent). s ++ more) none ∙ append-nil s
 
-needed_first : (limits : Bounds) (table : List (Option OpenCall)) (t : ℕ) (answer : Reply) (events : List Event)
-    (asked : Call) → ((u : ℕ) → IsFree table u ⊎ EndsNever u (event.Returns t answer ∷ events)) → (s : List LockEvent)
-    (lanes : Lanes) → lanes t ≡ Asks asked → Survives limits (event.Returns t answer ∷ events) s lanes →
+needed_first : {limits : Bounds} {table : List (Option OpenCall)} {t : ℕ} {answer : Reply} {events : List Event}
+    {s end : List LockEvent} {lanes last : Lanes} (asked : Call) →
+    ((u : ℕ) → IsFree table u ⊎ EndsNever u (event.Returns t answer ∷ events)) → lanes t ≡ Asks asked →
+    Leads (LockStep limits) (event.Returns t answer ∷ events) s lanes end last →
     NeededNext limits table (event.Returns t answer ∷ events) s lanes
-needed_first limits table t answer events asked free s lanes asks_t (takes_effect {next = next} {after = after} u c r
-    asks step sets rest) = by (free u) (nil_or_more (appended_by (transition limits s c)))
-    (λ apart. needed_first limits table t answer events asked free next after (sets.others t apart ∙ asks_t) rest)
+needed_first {limits} {table} {t} {answer} {events} {s} {lanes} asked free asks_t (by_effect {next = next}
+    {after = after} u c r asks step sets rest) = by (free u) (nil_or_more (appended_by (transition limits s c)))
+    (λ apart. needed_first asked free (sets.others t apart ∙ asks_t) rest)
   where
     now : IsFree table u ⊎ (appended_by (transition limits s c) ≢ []) →
         NeededNext limits table (event.Returns t answer ∷ events) s lanes
@@ -100,7 +103,7 @@ needed_first limits table t answer events asked free s lanes asks_t (takes_effec
       step = step;
       after = after;
       sets = sets;
-      survives = rest;
+      survives = leads_survive (LockStep limits) rest;
       needed = needed;
     }
 
@@ -111,9 +114,8 @@ needed_first limits table t answer events asked free s lanes asks_t (takes_effec
     by (inl is) _ later = now (inl is)
     by (inr never) (inr more) later = now (inr more)
     by (inr never) (inl none) later = without limits table (event.Returns t answer ∷ events) s next lanes after u c r
-        asks step none sets never (later (never_past_return never).0)
-needed_first limits table t answer events asked free s lanes asks_t (returns u r gets sets rest) =
-    absurd (asks_or_gets asks_t gets)
+        asks step none sets never (later (not_end u (event.Returns t answer) events never))
+needed_first asked free asks_t (by_event event happens rest) = absurd (asks_or_gets asks_t happens.0)
 
 ends_clash : (a b e : Ending) → a ≡ b → a ≡ e → (e ≡ Never → ⊥) → b ≢ Never
 ends_clash a b e same is other never = other (sym is ∙ same ∙ never)
@@ -150,9 +152,8 @@ pub some_effect : (limits : Bounds) (table : List (Option OpenCall)) (last t : �
     MayGoOn limits table (event.Returns t answer ∷ events) p →
     SomeEffect limits table (event.Returns t answer ∷ events) p
 some_effect limits table last t answer events p o is_open free told may =
-    by (needed_first limits table t answer events (call_as o.asks)
-    (free_or_never table last (event.Returns t answer ∷ events) told) may.one.state may.one.lanes
-    (asks_at limits table p may.one t o may.stands is_open free) may.survives)
+    by (needed_first (call_as o.asks) (free_or_never table last (event.Returns t answer ∷ events) told)
+    (asks_at limits table p may.one t o may.stands is_open free) may.survives.way)
   where
     by : NeededNext limits table (event.Returns t answer ∷ events) may.one.state may.one.lanes →
         SomeEffect limits table (event.Returns t answer ∷ events) p
@@ -176,9 +177,9 @@ some_effect limits table last t answer events p o is_open free told may =
 -- a call in effect from which a way goes on was given a reply that its end allows
 pub gets_told : (limits : Bounds) (lane : ℕ) (ends : Ending) (reply : Reply) (events : List Event)
     (s : List LockEvent) (lanes : Lanes) → lanes lane ≡ Gets reply → EndsSo lane ends events →
-    Survives limits events s lanes → MayGet ends reply
+    Survives (LockStep limits) events s lanes → MayGet ends reply
 gets_told limits lane (Returns told place) reply events s lanes gets ends survives =
-    sym (gotten_is_told limits lane reply (reply_as told) events s lanes gets ends survives)
+    sym (gotten_is_told lane reply (reply_as told) gets ends survives.way)
 gets_told limits lane Withdraws reply events s lanes gets ends survives =
     withdrawn_takes_no_effect limits lane reply events s lanes gets ends survives
 gets_told limits lane Never reply events s lanes gets ends survives = tt

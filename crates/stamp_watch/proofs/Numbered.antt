@@ -11,10 +11,11 @@ use Rattle.stamp_explain.specs.declared.observed.Observation.{Observation}
 use Rattle.stamp_explain.specs.declared.observed.Returned.{Returned}
 use Rattle.stamp_explain.specs.Observed.{AllowsReply}
 use Rattle.stamp_explain.proofs.Lists.{none_in_empty, contains_cases, contains_first, contains_rest}
-use Rattle.stamp_watch.specs.declared.event.Event.{Event}
-use Rattle.stamp_watch.specs.declared.event.Event.TheVariants.{Begins, Returns, Withdraws}
+use Rattle.stamp_runs.specs.declared.event.Event.{Event}
+use Rattle.stamp_runs.specs.declared.event.Event.TheVariants.{Begins, Returns, Withdraws}
+use Rattle.stamp_runs.specs.Run.{IsEndOf}
 use Rattle.stamp_watch.specs.AsObserved.{Ending, ending_of, with_entry, entries_from}
-use Rattle.stamp_watch.specs.AsObserved.Ending.{StaysOpen, EndsBy, EndsWithdrawn}
+use Rattle.stamp_watch.specs.AsObserved.Ending.{StaysOpen, EndsReturned, EndsWithdrawn}
 
 -- what a test of two numbers chooses
 if_same : (a b : ℕ) (x y : Ending) → a ≡ b → (if a == b then x else y) ≡ x
@@ -25,73 +26,93 @@ if_other a b x y apart = ap (λ (t : Bool). if t then x else y) (ne_eqb a b apar
 
 -- how a return and a withdrawal end the calls of lanes
 pub return_ends : (lane other n : ℕ) (reply : Reply) (events : List Event) → other ≡ lane →
-    ending_of lane n (Returns other reply ∷ events) ≡ EndsBy (record { last = n; reply = reply })
-return_ends lane other n reply events same = if_same other lane (EndsBy (record { last = n; reply = reply }))
+    ending_of lane n (Returns other reply ∷ events) ≡ EndsReturned (record { last = n; reply = reply })
+return_ends lane other n reply events same = if_same other lane (EndsReturned (record { last = n; reply = reply }))
     (ending_of lane (n + 1) events) same
-
-pub return_spares : (lane other n : ℕ) (reply : Reply) (events : List Event) → other ≢ lane →
-    ending_of lane n (Returns other reply ∷ events) ≡ ending_of lane (n + 1) events
-return_spares lane other n reply events apart = if_other other lane (EndsBy (record { last = n; reply = reply }))
-    (ending_of lane (n + 1) events) apart
 
 pub withdrawal_ends : (lane other n : ℕ) (events : List Event) → other ≡ lane →
     ending_of lane n (Withdraws other ∷ events) ≡ EndsWithdrawn
 withdrawal_ends lane other n events same = if_same other lane EndsWithdrawn (ending_of lane (n + 1) events) same
 
-pub withdrawal_spares : (lane other n : ℕ) (events : List Event) → other ≢ lane →
-    ending_of lane n (Withdraws other ∷ events) ≡ ending_of lane (n + 1) events
-withdrawal_spares lane other n events apart = if_other other lane EndsWithdrawn (ending_of lane (n + 1) events) apart
-
-pub one_return : {q r : Returned} → EndsBy q ≡ EndsBy r → q ≡ r
+pub one_return : {q r : Returned} → EndsReturned q ≡ EndsReturned r → q ≡ r
 one_return same = cc
 
-pub open_or_ended : {r : Returned} → StaysOpen ≡ EndsBy r → ⊥
+pub open_or_ended : {r : Returned} → StaysOpen ≡ EndsReturned r → ⊥
 open_or_ended same = cc
 
-pub withdrawn_or_ended : {r : Returned} → EndsWithdrawn ≡ EndsBy r → ⊥
+pub withdrawn_or_ended : {r : Returned} → EndsWithdrawn ≡ EndsReturned r → ⊥
 withdrawn_or_ended same = cc
 
--- a return among the events that ends the call is the next event, or later
-pub ended_by_return : (lane other n : ℕ) (reply : Reply) (events : List Event) (r : Returned) →
-    ending_of lane n (Returns other reply ∷ events) ≡ EndsBy r →
-    ((other ≡ lane) × (r ≡ record { last = n; reply = reply })) ⊎
-    ((other ≢ lane) × (ending_of lane (n + 1) events ≡ EndsBy r))
-ended_by_return lane other n reply events r ends = by (cases_eq other lane)
-  where
-    by : (other ≡ lane) ⊎ (other ≢ lane) → ((other ≡ lane) × (r ≡ record { last = n; reply = reply })) ⊎
-        ((other ≢ lane) × (ending_of lane (n + 1) events ≡ EndsBy r))
-    by (inl same) = inl (same, one_return (sym ends ∙ return_ends lane other n reply events same))
-    by (inr apart) = inr (apart, sym (return_spares lane other n reply events apart) ∙ ends)
+-- an event that does not end the call of a lane tells nothing of it
+pub end_or_not : (lane : ℕ) (event : Event) → IsEndOf lane event ⊎ (¬ IsEndOf lane event)
+end_or_not lane (Begins other call) = inr (λ none. none)
+end_or_not lane (Returns other reply) = cases_eq other lane
+end_or_not lane (Withdraws other) = cases_eq other lane
 
-pub ended_past_withdrawal : (lane other n : ℕ) (events : List Event) (r : Returned) →
-    ending_of lane n (Withdraws other ∷ events) ≡ EndsBy r →
-    (other ≢ lane) × (ending_of lane (n + 1) events ≡ EndsBy r)
-ended_past_withdrawal lane other n events r ends = by (cases_eq other lane)
+pub ending_spares : (lane n : ℕ) (event : Event) (events : List Event) → ¬ IsEndOf lane event →
+    ending_of lane n (event ∷ events) ≡ ending_of lane (n + 1) events
+ending_spares lane n (Begins other call) events not = refl
+ending_spares lane n (Returns other reply) events not = if_other other lane
+    (EndsReturned (record { last = n; reply = reply })) (ending_of lane (n + 1) events) not
+ending_spares lane n (Withdraws other) events not =
+    if_other other lane EndsWithdrawn (ending_of lane (n + 1) events) not
+
+-- how an event ends a call does not depend on what comes then
+pub end_told : (lane n : ℕ) (event : Event) (events others : List Event) → IsEndOf lane event →
+    ending_of lane n (event ∷ events) ≡ ending_of lane n (event ∷ others)
+end_told lane n (Begins other call) events others end = absurd end
+end_told lane n (Returns other reply) events others end =
+    return_ends lane other n reply events end ∙ sym (return_ends lane other n reply others end)
+end_told lane n (Withdraws other) events others end =
+    withdrawal_ends lane other n events end ∙ sym (withdrawal_ends lane other n others end)
+
+-- a call that returns among these events does so by the first of them, or behind it
+pub ended_by : (lane n : ℕ) (event : Event) (events : List Event) (r : Returned) →
+    ending_of lane n (event ∷ events) ≡ EndsReturned r →
+    ((event ≡ Returns lane r.reply) × (r.last ≡ n)) ⊎
+    ((¬ IsEndOf lane event) × (ending_of lane (n + 1) events ≡ EndsReturned r))
+ended_by lane n event events r ends = by (end_or_not lane event)
   where
-    by : (other ≡ lane) ⊎ (other ≢ lane) → (other ≢ lane) × (ending_of lane (n + 1) events ≡ EndsBy r)
-    by (inl same) = absurd (withdrawn_or_ended (sym (withdrawal_ends lane other n events same) ∙ ends))
-    by (inr apart) = (apart, sym (withdrawal_spares lane other n events apart) ∙ ends)
+    here : (e : Event) → IsEndOf lane e → ending_of lane n (e ∷ events) ≡ EndsReturned r →
+        (e ≡ Returns lane r.reply) × (r.last ≡ n)
+    here (Begins other call) end is = absurd end
+    here (Returns other reply) same is = (
+      ap (λ (v : ℕ). Returns v reply) same ∙
+          ap (λ (q : Returned). Returns lane q.reply) (one_return
+          (sym (return_ends lane other n reply events same) ∙ is)),
+      ap (λ (q : Returned). q.last) (one_return (sym is ∙ return_ends lane other n reply events same)),
+    )
+    here (Withdraws other) same is =
+        absurd (withdrawn_or_ended (sym (withdrawal_ends lane other n events same) ∙ is))
+
+    by : IsEndOf lane event ⊎ (¬ IsEndOf lane event) → ((event ≡ Returns lane r.reply) × (r.last ≡ n)) ⊎
+        ((¬ IsEndOf lane event) × (ending_of lane (n + 1) events ≡ EndsReturned r))
+    by (inl end) = inl (here event end ends)
+    by (inr not) = inr (not, sym (ending_spares lane n event events not) ∙ ends)
 
 -- events have the numbers from this one on
-pub ending_last : (lane n : ℕ) (events : List Event) (r : Returned) → ending_of lane n events ≡ EndsBy r → n ≤ r.last
+pub ending_last : (lane n : ℕ) (events : List Event) (r : Returned) → ending_of lane n events ≡ EndsReturned r →
+    n ≤ r.last
 ending_last lane n [] r ends = absurd (open_or_ended ends)
-ending_last lane n (Begins other call ∷ events) r ends = let later = ending_last lane (n + 1) events r ends in
-    omega arith
-ending_last lane n (Returns other reply ∷ events) r ends = by (ended_by_return lane other n reply events r ends)
+ending_last lane n (event ∷ events) r ends = by (ended_by lane n event events r ends)
     (λ more. ending_last lane (n + 1) events r more)
   where
-    by : ((other ≡ lane) × (r ≡ record { last = n; reply = reply })) ⊎
-        ((other ≢ lane) × (ending_of lane (n + 1) events ≡ EndsBy r)) →
-        (ending_of lane (n + 1) events ≡ EndsBy r → n + 1 ≤ r.last) → n ≤ r.last
-    by (inl here) _ = let same : r.last ≡ n = ap (λ (q : Returned). q.last) here.1 in omega arith
-    by (inr past) later = let low = later past.1 in omega arith
-ending_last lane n (Withdraws other ∷ events) r ends =
-    let later = ending_last lane (n + 1) events r (ended_past_withdrawal lane other n events r ends).1 in omega arith
+    by : ((event ≡ Returns lane r.reply) × (r.last ≡ n)) ⊎
+        ((¬ IsEndOf lane event) × (ending_of lane (n + 1) events ≡ EndsReturned r)) →
+        (ending_of lane (n + 1) events ≡ EndsReturned r → n + 1 ≤ r.last) → n ≤ r.last
+    by (inl here) _ = omega (arith, here.1)
+    by (inr past) later = omega (arith, later past.1)
 
 -- the entry of a call that ends so; one that is withdrawn has none
 abbrev pub IsEntryOf : ℕ → Call → ℕ → Ending → Observation → Type 0
 IsEntryOf lane call first StaysOpen e = e ≡ record { thread = lane; call = call; first = first; returned = None }
-IsEntryOf lane call first (EndsBy r) e = e ≡ record { thread = lane; call = call; first = first; returned = Some r }
+IsEntryOf lane call first (EndsReturned r) e = e ≡ record {
+  thread = lane;
+  call = call;
+  first = first;
+  returned =
+      Some r;
+}
 IsEntryOf lane call first EndsWithdrawn e = ⊥
 
 -- what an entry tells of its call
@@ -107,7 +128,7 @@ entry_tells lane call first StaysOpen e is = record {
   its_call = ap (λ (o : Observation). o.call) is;
   its_first = ap (λ (o : Observation). o.first) is;
 }
-entry_tells lane call first (EndsBy r) e is = record {
+entry_tells lane call first (EndsReturned r) e is = record {
   its_lane = ap (λ (o : Observation). o.thread) is;
   its_call = ap (λ (o : Observation). o.call) is;
   its_first = ap (λ (o : Observation). o.first) is;
@@ -115,29 +136,29 @@ entry_tells lane call first (EndsBy r) e is = record {
 entry_tells lane call first EndsWithdrawn e is = absurd is
 
 pub entry_returned : (lane : ℕ) (call : Call) (first : ℕ) (ending : Ending) (e : Observation) (r : Returned) →
-    IsEntryOf lane call first ending e → e.returned ≡ Some r → ending ≡ EndsBy r
+    IsEntryOf lane call first ending e → e.returned ≡ Some r → ending ≡ EndsReturned r
 entry_returned lane call first StaysOpen e r is back =
     absurd (none-some r (sym (ap (λ (o : Observation). o.returned) is) ∙ back))
-entry_returned lane call first (EndsBy q) e r is back =
-    ap EndsBy (same_Some q r (sym (ap (λ (o : Observation). o.returned) is) ∙ back))
+entry_returned lane call first (EndsReturned q) e r is back =
+    ap EndsReturned (same_Some q r (sym (ap (λ (o : Observation). o.returned) is) ∙ back))
 entry_returned lane call first EndsWithdrawn e r is back = absurd is
 
 pub one_entry : (lane : ℕ) (call : Call) (first : ℕ) (ending : Ending) (e f : Observation) →
     IsEntryOf lane call first ending e → IsEntryOf lane call first ending f → e ≡ f
 one_entry lane call first StaysOpen e f is other = is ∙ sym other
-one_entry lane call first (EndsBy r) e f is other = is ∙ sym other
+one_entry lane call first (EndsReturned r) e f is other = is ∙ sym other
 one_entry lane call first EndsWithdrawn e f is other = absurd is
 
 -- the call may have this reply by how it ends
 abbrev pub IsReplyOf : Reply → Ending → Type 0
 IsReplyOf reply StaysOpen = Unit {0}
-IsReplyOf reply (EndsBy r) = r.reply ≡ reply
+IsReplyOf reply (EndsReturned r) = r.reply ≡ reply
 IsReplyOf reply EndsWithdrawn = ⊥
 
 pub entry_replies : (lane : ℕ) (call : Call) (first : ℕ) (ending : Ending) (e : Observation) (reply : Reply) →
     IsEntryOf lane call first ending e → AllowsReply e reply → IsReplyOf reply ending
 entry_replies lane call first StaysOpen e reply is allows = tt
-entry_replies lane call first (EndsBy r) e reply is allows =
+entry_replies lane call first (EndsReturned r) e reply is allows =
     subst (λ (o : Observation). AllowsReply o reply) is allows
 entry_replies lane call first EndsWithdrawn e reply is allows = absurd is
 
@@ -154,7 +175,7 @@ entry_of_reply lane call first StaysOpen reply replies = record {
   is = refl;
   allows = tt;
 }
-entry_of_reply lane call first (EndsBy r) reply replies = record {
+entry_of_reply lane call first (EndsReturned r) reply replies = record {
   entry = record { thread = lane; call = call; first = first; returned = Some r };
   is = refl;
   allows = replies;
@@ -172,7 +193,7 @@ in_with_entry lane call n StaysOpen entries e has = by (contains_cases
         (e ≡ record { thread = lane; call = call; first = n; returned = None }) ⊎ Contains entries e
     by (inl is) = inl (sym is)
     by (inr later) = inr later
-in_with_entry lane call n (EndsBy r) entries e has = by (contains_cases
+in_with_entry lane call n (EndsReturned r) entries e has = by (contains_cases
     (record { thread = lane; call = call; first = n; returned = Some r }) entries e has)
   where
     by : (record { thread = lane; call = call; first = n; returned = Some r } ≡ e) ⊎ Contains entries e →
@@ -188,9 +209,9 @@ with_entry_has lane call n StaysOpen entries e (inl is) =
     contains_first (record { thread = lane; call = call; first = n; returned = None }) entries e (sym is)
 with_entry_has lane call n StaysOpen entries e (inr has) =
     contains_rest (record { thread = lane; call = call; first = n; returned = None }) entries e has
-with_entry_has lane call n (EndsBy r) entries e (inl is) =
+with_entry_has lane call n (EndsReturned r) entries e (inl is) =
     contains_first (record { thread = lane; call = call; first = n; returned = Some r }) entries e (sym is)
-with_entry_has lane call n (EndsBy r) entries e (inr has) =
+with_entry_has lane call n (EndsReturned r) entries e (inr has) =
     contains_rest (record { thread = lane; call = call; first = n; returned = Some r }) entries e has
 with_entry_has lane call n EndsWithdrawn entries e (inl is) = absurd is
 with_entry_has lane call n EndsWithdrawn entries e (inr has) = has
@@ -247,7 +268,7 @@ own_firsts_with : (lane : ℕ) (call : Call) (n : ℕ) (ending : Ending) (entrie
     HaveOwnFirsts (with_entry lane call n ending entries)
 own_firsts_with lane call n StaysOpen entries above own = own_firsts_more
     (record { thread = lane; call = call; first = n; returned = None }) entries above own
-own_firsts_with lane call n (EndsBy r) entries above own = own_firsts_more
+own_firsts_with lane call n (EndsReturned r) entries above own = own_firsts_more
     (record { thread = lane; call = call; first = n; returned = Some r }) entries above own
 own_firsts_with lane call n EndsWithdrawn entries above own = own
 

@@ -22,18 +22,19 @@ use Rattle.stamp_explain.specs.Search.{Runs, LockAlone}
 use Rattle.stamp_explain.proofs.Lists.{none_in_empty, contains_first, contains_rest, pairs_none, pairs_cons}
 use Rattle.stamp_explain.proofs.Completing.{same_entry}
 use Rattle.stamp_explain.proofs.Finding.{has_returned}
-use Rattle.stamp_watch.specs.declared.event.Event.{Event}
-use Rattle.stamp_watch.specs.declared.event.Event.TheVariants.{Begins, Returns, Withdraws}
+use Rattle.stamp_runs.specs.declared.event.Event.{Event}
+use Rattle.stamp_runs.specs.declared.event.Event.TheVariants.{Begins, Returns, Withdraws}
+use Rattle.stamp_runs.specs.Object.{LockStep}
+use Rattle.stamp_runs.specs.Run.{Lanes, Leads, Sets}
+use Rattle.stamp_runs.specs.Run.Leads.{leads_nowhere, by_effect, by_event}
+use Rattle.stamp_runs.specs.Run.Phase.{Asks, Gets}
+use Rattle.stamp_runs.proofs.Lanes.{asks_or_gets}
 use Rattle.stamp_watch.specs.AsObserved.{ending_of}
-use Rattle.stamp_watch.specs.Run.{Lanes, LockStep, Sets, Survives}
-use Rattle.stamp_watch.specs.Run.Phase.{Asks, Gets}
-use Rattle.stamp_watch.specs.Run.Survives.{at_end, takes_effect, begins, returns, withdraws}
-use Rattle.stamp_watch.proofs.Surviving.{asks_or_gets}
 use Rattle.stamp_watch.proofs.Numbered.{IsEntryOf, HasEntry, entry_tells, entry_of_reply, entry_returned, one_entry}
 use Rattle.stamp_watch.proofs.Numbered.{open_or_ended}
 use Rattle.stamp_watch.proofs.Remaining.{IsAhead, begun_at, takes_there, takes_back, takes_apart, ahead_last}
-use Rattle.stamp_watch.proofs.Remaining.{HaveBegun, have_begun_still, HaveGot, MovesOn, begins_moves, returns_moves}
-use Rattle.stamp_watch.proofs.Remaining.{withdraws_moves}
+use Rattle.stamp_watch.proofs.Remaining.{HaveBegun}
+use Rattle.stamp_watch.proofs.Remaining.{have_begun_still, HaveGot, MovesOn, begun_then, happens_moves}
 use Rattle.stamp_watch.proofs.Remaining.IsAhead.{of_open, of_later}
 
 abbrev pub entries_of : List Effect → List Observation
@@ -228,10 +229,10 @@ nothing_ahead lanes begun n e (of_later has) back = none_in_empty e has
 
 -- each way along the events has such an order
 pub planned : (limits : Bounds) (entries : List Observation) (events : List Event) (n : ℕ) (s : List LockEvent)
-    (lanes : Lanes) (begun : ℕ → ℕ) → HaveBegun lanes begun n →
-    ((e : Observation) → IsAhead lanes begun n events e → Contains entries e) → Survives limits events s lanes →
-    IsPlanned limits entries events n s lanes begun
-planned limits entries events n s lanes begun low inside at_end = record {
+    (lanes : Lanes) (begun : ℕ → ℕ) {t : List LockEvent} {last : Lanes} → HaveBegun lanes begun n →
+    ((e : Observation) → IsAhead lanes begun n events e → Contains entries e) →
+    Leads (LockStep limits) events s lanes t last → IsPlanned limits entries events n s lanes begun
+planned limits entries events n s lanes begun low inside leads_nowhere = record {
   order = [];
   plan = record {
     effects = All-nil (IsEffectOf entries);
@@ -243,29 +244,17 @@ planned limits entries events n s lanes begun low inside at_end = record {
   };
   gets = λ lane reply is. tt;
 }
-planned limits entries events n s lanes begun low inside (takes_effect {next = next} {after = after} lane call reply
+planned limits entries events n s lanes begun low inside (by_effect {next = next} {after = after} lane call reply
     asks step sets rest) = takes_first limits entries events n s next lanes after begun lane call reply asks
     (low lane call asks) step sets inside
     (planned limits entries events n next after begun
     (have_begun_still lanes after begun lane n n (omega arith) (λ c asks_c. asks_or_gets asks_c sets.here) sets.others
     low)
     (λ e is. inside e (takes_back lanes after begun lane n reply events e sets is)) rest)
-planned limits entries events n s lanes begun low inside (begins {events = more} {after = after} lane call idle sets
-    rest) = planned_past limits entries (Begins lane call) more n s lanes after begun (begun_at begun lane n) moves
-    (planned limits entries more (n + 1) s after (begun_at begun lane n) (moves.low low)
+planned limits entries events n s lanes begun low inside (by_event {events = more} {after =
+    after} event happens rest) =
+    let moves : MovesOn lanes after begun (begun_then begun n event) n event more =
+    happens_moves lanes after begun n event more happens in
+    planned_past limits entries event more n s lanes after begun (begun_then begun n event) moves
+    (planned limits entries more (n + 1) s after (begun_then begun n event) (moves.low low)
     (λ e is. inside e (moves.back e is)) rest)
-  where
-    moves : MovesOn lanes after begun (begun_at begun lane n) n (Begins lane call) more
-    moves = begins_moves lanes after begun lane n call more idle sets
-planned limits entries events n s lanes begun low inside (returns {events = more} {after = after} lane reply gets sets
-    rest) = planned_past limits entries (Returns lane reply) more n s lanes after begun begun moves
-    (planned limits entries more (n + 1) s after begun (moves.low low) (λ e is. inside e (moves.back e is)) rest)
-  where
-    moves : MovesOn lanes after begun begun n (Returns lane reply) more
-    moves = returns_moves lanes after begun lane n reply more gets sets
-planned limits entries events n s lanes begun low inside (withdraws {events = more} {after = after} lane call asks sets
-    rest) = planned_past limits entries (Withdraws lane) more n s lanes after begun begun moves
-    (planned limits entries more (n + 1) s after begun (moves.low low) (λ e is. inside e (moves.back e is)) rest)
-  where
-    moves : MovesOn lanes after begun begun n (Withdraws lane) more
-    moves = withdraws_moves lanes after begun lane n call more asks sets

@@ -1,6 +1,6 @@
 -- What a judge keeps of a run in which calls may begin late, and which replies are possible in it.
 use Rattle.std.proofs.Common.{ℕ, ◌≡◌, ◌+◌, ◌<◌, ◌≤◌, List, [], ◌∷◌, ◌++◌, length, Option, Some, None, refl, sym, ◌∙◌}
-use Rattle.std.proofs.Common.{◌-◌, ap, subst, arith, append_assoc, append-nil, get_or}
+use Rattle.std.proofs.Common.{◌-◌, false, ap, subst, arith, append_assoc, append-nil, get_or}
 use Rattle.std.specs.Prelude.{⊤, true, drop, is_some, take, slice_get, MatchOption}
 use Rattle.std.proofs.lemmas.Bool.{false≢true}
 use Rattle.std.proofs.lemmas.List.{length-append, length-drop, take-append-le, take-take}
@@ -10,17 +10,16 @@ use Rattle.stamp_core.specs.Limits.{Bounds}
 use Rattle.stamp_core.specs.LockDecision.{reply_as}
 use Rattle.stamp_core.specs.declared.lock_decision.LockReply.{LockReply}
 use Rattle.stamp_core.specs.declared.reply.Reply.{Reply}
+use Rattle.stamp_runs.specs.declared.event.Event.{Event}
+use Rattle.stamp_runs.specs.declared.event.Event.TheVariants.{Returns}
+use Rattle.stamp_runs.specs.LockRun.{AreExplained}
 use Rattle.stamp_watch.specs.declared.delay.Delay.{Delay}
-use Rattle.stamp_watch.specs.declared.event.Event.{Event}
-use Rattle.stamp_watch.specs.declared.event.Event.TheVariants.{Returns}
 use Rattle.stamp_watch.specs.declared.late.LateJudge.{LateJudge}
 use Rattle.stamp_watch.specs.Delay.{IsDelayed, IsFirstIfAny}
-use Rattle.stamp_watch.specs.Possible.{AreTooManyWith, ArePossibleAmong, IsPossibleReply, IsTold}
-use Rattle.stamp_watch.specs.Possible.{KeepsBase}
+use Rattle.stamp_watch.specs.Possible.{AreTooManyWith, ArePossibleAmong, IsPossibleReply, IsTold, KeepsBase}
 use Rattle.stamp_watch.specs.PossibleLate.{AreSameUntil, CanTellLater, IsToldLater, KeepsDelayed, KeepsLater}
 use Rattle.stamp_watch.specs.declared.possible.KeptReturn.{KeptReturn}
 use Rattle.stamp_watch.specs.inner.Possible.{IsKeptReturn, IsReturnHere}
-use Rattle.stamp_watch.specs.Run.{AreExplained}
 use Rattle.stamp_watch.specs.Verdict.{IsOpenFor}
 use Rattle.stamp_watch.proofs.LongCalls.{open_still}
 use Rattle.stamp_watch.proofs.TryingReplies.{run_there}
@@ -229,6 +228,12 @@ pub not_told : (judge : LateJudge) (k : ℕ) → ¬ CanTellLater judge k → (pl
     MatchOption plain (nothing ≡ None) (λ (tried : List LockReply). IsToldLater judge k tried nothing)
 not_told judge k none None = refl
 not_told judge k none (Some tried) = λ can. absurd (none can)
+
+-- where no return is kept none can be told
+pub none_here : (judge : LateJudge) (k : ℕ) (o : Option KeptReturn) → is_some o ≡ false →
+    IsKeptReturn judge.delay.judge k o → ¬ CanTellLater judge k
+none_here judge k None none is can = is can.can
+none_here judge k (Some kept) none is can = false≢true (sym none)
 
 -- a return that is kept is at a place among the events that are
 pub return_here : (judge : LateJudge) (k : ℕ) (o : Option KeptReturn) → is_some o ≡ true →

@@ -7,16 +7,17 @@ use Rattle.stamp_core.specs.declared.call.Call.{Call}
 use Rattle.stamp_core.specs.declared.reply.Reply.{Reply}
 use Rattle.stamp_explain.specs.declared.observed.Observation.{Observation}
 use Rattle.stamp_explain.specs.declared.observed.Returned.{Returned}
-use Rattle.stamp_watch.specs.declared.event.Event.{Event}
-use Rattle.stamp_watch.specs.declared.event.Event.TheVariants.{Begins, Returns, Withdraws}
+use Rattle.stamp_runs.specs.declared.event.Event.{Event}
+use Rattle.stamp_runs.specs.declared.event.Event.TheVariants.{Begins, Returns, Withdraws}
+use Rattle.stamp_runs.specs.Run.{Happens, Lanes, Sets, lane_of}
+use Rattle.stamp_runs.specs.Run.Phase.{Idle, Asks, Gets}
+use Rattle.stamp_runs.proofs.Lanes.{idle_or_asks, idle_or_gets, asks_or_gets, one_call, one_reply, pick, picks_first}
+use Rattle.stamp_runs.proofs.Lanes.{picks_second}
 use Rattle.stamp_watch.specs.AsObserved.{Ending, ending_of, entries_from}
-use Rattle.stamp_watch.specs.Run.{Lanes, Sets}
-use Rattle.stamp_watch.specs.Run.Phase.{Idle, Asks, Gets}
-use Rattle.stamp_watch.proofs.Surviving.{idle_or_asks, idle_or_gets, asks_or_gets, one_call, one_reply, pick}
-use Rattle.stamp_watch.proofs.Surviving.{picks_first, picks_second}
+use Rattle.stamp_watch.proofs.Ways.{ends_own}
 use Rattle.stamp_watch.proofs.Numbered.{IsEntryOf, IsReplyOf, entry_tells, entry_returned, in_with_entry}
-use Rattle.stamp_watch.proofs.Numbered.{with_entry_has, first_from, last_from, ending_last, return_ends}
-use Rattle.stamp_watch.proofs.Numbered.{return_spares, withdrawal_ends, withdrawal_spares}
+use Rattle.stamp_watch.proofs.Numbered.{with_entry_has, first_from, last_from, ending_last, return_ends, ending_spares}
+use Rattle.stamp_watch.proofs.Numbered.{withdrawal_ends}
 
 -- at which event the open call of each lane began, once one more has
 abbrev pub begun_at : (ℕ → ℕ) → ℕ → ℕ → ℕ → ℕ
@@ -182,24 +183,6 @@ have_begun_still lanes after begun lane n m le not others low other c asks = by 
     by (inl same) = absurd (not c (subst (λ (v : ℕ). after v ≡ Asks c) same asks))
     by (inr apart) = let less = low other c (sym (others other apart) ∙ asks) in omega arith
 
--- a return ends the call of its lane, which is in effect
-return_is_end : (lanes : Lanes) (begun : ℕ → ℕ) (lane n : ℕ) (reply gotten : Reply) (events : List Event) →
-    lanes lane ≡ Gets gotten → EndsOne lanes begun lane n (Returns lane reply) events
-return_is_end lanes begun lane n reply gotten events gets = record {
-  spares = λ other apart. return_spares other lane n reply events (λ same. apart (sym same));
-  later = refl;
-  gone = λ call e asks is. asks_or_gets asks gets;
-}
-
-withdrawal_is_end : (lanes : Lanes) (begun : ℕ → ℕ) (lane n : ℕ) (events : List Event) →
-    EndsOne lanes begun lane n (Withdraws lane) events
-withdrawal_is_end lanes begun lane n events = record {
-  spares = λ other apart. withdrawal_spares other lane n events (λ same. apart (sym same));
-  later = refl;
-  gone = λ call e asks is. subst (λ (x : Ending). IsEntryOf lane call (begun lane) x e)
-      (withdrawal_ends lane lane n events refl) is;
-}
-
 -- what calls in effect have got is what they return
 abbrev pub HaveGot : Lanes → ℕ → List Event → Type 0
 HaveGot lanes n events =
@@ -214,7 +197,7 @@ pub record MovesOn (lanes after : Lanes) (begun then_begun : ℕ → ℕ) (n : �
   pub gets_there : HaveGot lanes n (event ∷ events) → HaveGot after (n + 1) events
   pub gets_back : HaveGot after (n + 1) events → HaveGot lanes n (event ∷ events)
 
-pub begins_moves : (lanes after : Lanes) (begun : ℕ → ℕ) (lane n : ℕ) (call : Call) (events : List Event) →
+begins_moves : (lanes after : Lanes) (begun : ℕ → ℕ) (lane n : ℕ) (call : Call) (events : List Event) →
     lanes lane ≡ Idle → Sets lanes after lane (Asks call) →
     MovesOn lanes after begun (begun_at begun lane n) n (Begins lane call) events
 begins_moves lanes after begun lane n call events idle sets = record {
@@ -254,15 +237,34 @@ ends_moves lanes after begun lane n event events sets ends own = record {
     by got other reply is (inr apart) = subst (λ (x : Ending). IsReplyOf reply x) (sym (ends.spares other apart))
         (got other reply (sets.others other apart ∙ is))
 
-pub returns_moves : (lanes after : Lanes) (begun : ℕ → ℕ) (lane n : ℕ) (reply : Reply) (events : List Event) →
-    lanes lane ≡ Gets reply → Sets lanes after lane Idle →
-    MovesOn lanes after begun begun n (Returns lane reply) events
-returns_moves lanes after begun lane n reply events gets sets = ends_moves lanes after begun lane n
-    (Returns lane reply) events sets (return_is_end lanes begun lane n reply reply events gets)
-    (λ gotten is. subst (λ (x : Ending). IsReplyOf gotten x) (sym (return_ends lane lane n reply events refl))
-    (one_reply gets is))
+-- an event that ends the call of its lane
+is_end : (lanes : Lanes) (begun : ℕ → ℕ) (lane n : ℕ) (event : Event) (events : List Event) → lane_of event ≡ lane →
+    entries_from n (event ∷ events) ≡ entries_from (n + 1) events →
+    ((call : Call) (e : Observation) → lanes lane ≡ Asks call →
+    ¬ IsEntryOf lane call (begun lane) (ending_of lane n (event ∷ events)) e) → EndsOne lanes begun lane n event events
+is_end lanes begun lane n event events own later gone = record {
+  spares = λ other apart. ending_spares other n event events (ends_own other event (λ is. apart (sym is ∙ own)));
+  later = later;
+  gone = gone;
+}
 
-pub withdraws_moves : (lanes after : Lanes) (begun : ℕ → ℕ) (lane n : ℕ) (call : Call) (events : List Event) →
-    lanes lane ≡ Asks call → Sets lanes after lane Idle → MovesOn lanes after begun begun n (Withdraws lane) events
-withdraws_moves lanes after begun lane n call events asks sets = ends_moves lanes after begun lane n (Withdraws lane)
-    events sets (withdrawal_is_end lanes begun lane n events) (λ gotten is. absurd (asks_or_gets asks is))
+-- at which event the open call of each lane began, past one event
+abbrev pub begun_then : (ℕ → ℕ) → ℕ → Event → ℕ → ℕ
+begun_then begun n (Begins lane call) = begun_at begun lane n
+begun_then begun n (Returns lane reply) = begun
+begun_then begun n (Withdraws lane) = begun
+
+pub happens_moves : (lanes after : Lanes) (begun : ℕ → ℕ) (n : ℕ) (event : Event) (events : List Event) →
+    Happens event lanes after → MovesOn lanes after begun (begun_then begun n event) n event events
+happens_moves lanes after begun n (Begins lane call) events happens =
+    begins_moves lanes after begun lane n call events happens.0 happens.1
+happens_moves lanes after begun n (Returns lane reply) events happens = ends_moves lanes after begun lane n
+    (Returns lane reply) events happens.1 (is_end lanes begun lane n (Returns lane reply) events refl refl
+    (λ call e asks is. asks_or_gets asks happens.0))
+    (λ gotten is. subst (λ (x : Ending). IsReplyOf gotten x) (sym (return_ends lane lane n reply events refl))
+    (one_reply happens.0 is))
+happens_moves lanes after begun n (Withdraws lane) events happens =
+    ends_moves lanes after begun lane n (Withdraws lane)
+    events happens.2 (is_end lanes begun lane n (Withdraws lane) events refl refl
+    (λ call e asks is. subst (λ (x : Ending). IsEntryOf lane call (begun lane) x e)
+    (withdrawal_ends lane lane n events refl) is)) (λ gotten is. absurd (asks_or_gets happens.1 is))

@@ -9,8 +9,10 @@ use Rattle.std.proofs.lemmas.List.{take-append-drop, take-append-le, take_rest, 
 use Rattle.std.proofs.lemmas.List.{length-drop, drop-drop}
 use Rattle.std.proofs.Math.Seq.{take-add, take-append_seam}
 use Rattle.stamp_core.specs.Limits.{Bounds}
-use Rattle.stamp_watch.specs.declared.event.Event.{Event}
-use Rattle.stamp_watch.specs.declared.event.Event.TheVariants.{Begins, Returns, Withdraws}
+use Rattle.stamp_runs.specs.declared.event.Event.{Event}
+use Rattle.stamp_runs.specs.declared.event.Event.TheVariants.{Begins, Returns, Withdraws}
+use Rattle.stamp_runs.specs.LockRun.{AreExplained}
+use Rattle.stamp_runs.specs.Run.{IsEndOf}
 use Rattle.stamp_watch.specs.declared.ending.Ending.{Ending}
 use Rattle.stamp_watch.specs.declared.ending.Ending.TheVariants as ending
 use Rattle.stamp_watch.specs.declared.open_call.OpenCall.{OpenCall}
@@ -21,11 +23,9 @@ use Rattle.stamp_watch.specs.AsObserved.{AreEnded, ending_of}
 use Rattle.stamp_watch.specs.AsObserved.Ending.{StaysOpen}
 use Rattle.stamp_watch.specs.Foretold.{open_at, ends_as}
 use Rattle.stamp_watch.specs.Form.{is_busy_then, is_busy_after}
-use Rattle.stamp_watch.specs.Run.{AreExplained}
 use Rattle.stamp_watch.specs.Verdict.{AreOfLock, AreTooMany, IsFarEnough, IsVerdict, MayComeNext}
 use Rattle.stamp_watch.specs.Judging.{IsFound, IsJudging}
-use Rattle.stamp_watch.specs.inner.Judging.{IsBase, IsEndTold, IsOutcome, IsStep}
-use Rattle.stamp_watch.specs.inner.Judging.{IsStuckBehind, IsStuckFrom}
+use Rattle.stamp_watch.specs.inner.Judging.{IsBase, IsEndTold, IsOutcome, IsStep, IsStuckBehind, IsStuckFrom}
 use Rattle.stamp_watch.specs.Course.{IsOver, IsRest, IsRunOn, IsStanding}
 use Rattle.stamp_watch.specs.inner.Course.{IsKnown, broken_off}
 use Rattle.stamp_watch.specs.declared.judge.Outcome.{Outcome}
@@ -33,43 +33,29 @@ use Rattle.stamp_watch.specs.declared.judge.Outcome.TheVariants as judged
 use Rattle.stamp_watch.specs.declared.verdict.Verdict.{Verdict}
 use Rattle.stamp_watch.specs.declared.verdict.Verdict.TheVariants as verdict
 use Rattle.stamp_watch.specs.declared.verdict.Why.TheVariants as cause
-use Rattle.stamp_watch.proofs.Form.{busy_after_one}
+use Rattle.stamp_watch.proofs.Form.{busy_after_one, past_end}
 use Rattle.stamp_watch.proofs.Forming.{form_first, of_lock_up_to}
 use Rattle.stamp_watch.proofs.Judged.{cut_behind, rest_behind, judging_here, judging_more, past_on, unexplained_here}
 use Rattle.stamp_watch.proofs.Judged.{length_behind, too_many_here}
 use Rattle.stamp_watch.proofs.Judging.{judging_first, judging_copied}
 use Rattle.stamp_watch.proofs.Reading.{drop_read}
 use Rattle.stamp_watch.specs.Watch.{IsCopy, IsUntold, IsWatching}
-use Rattle.stamp_watch.proofs.Numbered.{return_ends, return_spares, withdrawal_ends, withdrawal_spares}
-use Rattle.stamp_watch.proofs.Numbered.{open_or_ended}
+use Rattle.stamp_watch.proofs.Numbered.{end_or_not, end_told, ending_spares, open_or_ended}
 
 -- how a call ends stays as it is when more events come
 ending_stays : (lane n : ℕ) (events more : List Event) → ending_of lane n events ≢ StaysOpen →
     ending_of lane n (events ++ more) ≡ ending_of lane n events
 ending_stays lane n [] more ended = absurd (ended refl)
-ending_stays lane n (Begins other call ∷ events) more ended = ending_stays lane (n + 1) events more ended
-ending_stays lane n (Returns other reply ∷ events) more ended = by (cases_eq other lane)
+ending_stays lane n (event ∷ events) more ended = by (end_or_not lane event)
     (λ later. ending_stays lane (n + 1) events more later)
   where
-    by : (other ≡ lane) ⊎ (other ≢ lane) → (ending_of lane (n + 1) events ≢ StaysOpen →
+    by : IsEndOf lane event ⊎ (¬ IsEndOf lane event) → (ending_of lane (n + 1) events ≢ StaysOpen →
         ending_of lane (n + 1) (events ++ more) ≡ ending_of lane (n + 1) events) →
-        ending_of lane n (Returns other reply ∷ events ++ more) ≡ ending_of lane n (Returns other reply ∷ events)
-    by (inl same) later = return_ends lane other n reply (events ++ more) same ∙
-        sym (return_ends lane other n reply events same)
-    by (inr apart) later = return_spares lane other n reply (events ++ more) apart ∙
-        later (λ open_still. ended (return_spares lane other n reply events apart ∙ open_still)) ∙
-        sym (return_spares lane other n reply events apart)
-ending_stays lane n (Withdraws other ∷ events) more ended = by (cases_eq other lane)
-    (λ later. ending_stays lane (n + 1) events more later)
-  where
-    by : (other ≡ lane) ⊎ (other ≢ lane) → (ending_of lane (n + 1) events ≢ StaysOpen →
-        ending_of lane (n + 1) (events ++ more) ≡ ending_of lane (n + 1) events) →
-        ending_of lane n (Withdraws other ∷ events ++ more) ≡ ending_of lane n (Withdraws other ∷ events)
-    by (inl same) later = withdrawal_ends lane other n (events ++ more) same ∙
-        sym (withdrawal_ends lane other n events same)
-    by (inr apart) later = withdrawal_spares lane other n (events ++ more) apart ∙
-        later (λ open_still. ended (withdrawal_spares lane other n events apart ∙ open_still)) ∙
-        sym (withdrawal_spares lane other n events apart)
+        ending_of lane n (event ∷ events ++ more) ≡ ending_of lane n (event ∷ events)
+    by (inl end) _ = end_told lane n event (events ++ more) events end
+    by (inr not) later = ending_spares lane n event (events ++ more) not ∙
+        later (λ open_still. ended (ending_spares lane n event events not ∙ open_still)) ∙
+        sym (ending_spares lane n event events not)
 
 -- so a watch goes on judging when more events come
 pub standing_more : (limits : Bounds) (n : ℕ) (past future more : List Event) (watch : Watch) →
@@ -123,8 +109,14 @@ told_ended (ending.Returns told place) known open_still = open_or_ended (sym ope
 told_ended ending.Withdraws known open_still = cc
 told_ended ending.Never known open_still = absurd (known refl)
 
-not_free : (b : Bool) → (not true && b) ≡ true → ⊥
-not_free b is = false≢true is
+ended_past : (n : ℕ) (past : List Event) (e : Event) (ahead : List Event) → AreEnded n past (e ∷ ahead) →
+    ((lane : ℕ) → is_busy_then lane (is_busy_after past lane) e ≡ true →
+    (is_busy_after past lane ≡ true) × (¬ IsEndOf lane e)) → AreEnded (n + 1) (past ++ e ∷ []) ahead
+ended_past n past e ahead old was = record {
+  ends = λ lane busy open_still.
+      let before = was lane (sym (busy_after_one lane false past e) ∙ busy) in
+      old.ends lane before.0 (ending_spares lane n e ahead before.1 ∙ open_still);
+}
 
 -- one event on the open calls end as well
 pub ended_on : (n : ℕ) (past : List Event) (e : Event) (ahead : List Event) (ends : Ending) →
@@ -140,28 +132,10 @@ ended_on n past (Begins v call) ahead ends old told known = record {
         (told ∙ ap (λ (u : ℕ). ending_of u (n + 1) ahead) same ∙ open_still)
     by lane busy (inr apart) open_still = old.ends lane
         (sym (ap (λ (b : Bool). b || is_busy_after past lane) (ne_eqb v lane apart)) ∙ busy) open_still
-ended_on n past (Returns v reply) ahead ends old told known = record {
-  ends = λ lane busy. by lane (sym (busy_after_one lane false past (Returns v reply)) ∙ busy) (cases_eq v lane);
-}
-  where
-    by : (lane : ℕ) → is_busy_then lane (is_busy_after past lane) (Returns v reply) ≡ true → (v ≡ lane) ⊎ (v ≢ lane) →
-        ending_of lane (n + 1) ahead ≢ StaysOpen
-    by lane busy (inl same) open_still = not_free (is_busy_after past lane)
-        (sym (ap (λ (b : Bool). not b && is_busy_after past lane) (eq-eqb v lane same)) ∙ busy)
-    by lane busy (inr apart) open_still = old.ends lane
-        (sym (ap (λ (b : Bool). not b && is_busy_after past lane) (ne_eqb v lane apart)) ∙ busy)
-        (return_spares lane v n reply ahead apart ∙ open_still)
-ended_on n past (Withdraws v) ahead ends old told known = record {
-  ends = λ lane busy. by lane (sym (busy_after_one lane false past (Withdraws v)) ∙ busy) (cases_eq v lane);
-}
-  where
-    by : (lane : ℕ) → is_busy_then lane (is_busy_after past lane) (Withdraws v) ≡ true → (v ≡ lane) ⊎ (v ≢ lane) →
-        ending_of lane (n + 1) ahead ≢ StaysOpen
-    by lane busy (inl same) open_still = not_free (is_busy_after past lane)
-        (sym (ap (λ (b : Bool). not b && is_busy_after past lane) (eq-eqb v lane same)) ∙ busy)
-    by lane busy (inr apart) open_still = old.ends lane
-        (sym (ap (λ (b : Bool). not b && is_busy_after past lane) (ne_eqb v lane apart)) ∙ busy)
-        (withdrawal_spares lane v n ahead apart ∙ open_still)
+ended_on n past (Returns v reply) ahead ends old told known =
+    ended_past n past (Returns v reply) ahead old (λ lane busy. past_end v lane (is_busy_after past lane) busy)
+ended_on n past (Withdraws v) ahead ends old told known =
+    ended_past n past (Withdraws v) ahead old (λ lane busy. past_end v lane (is_busy_after past lane) busy)
 
 -- before any event
 pub run_first : (limits : Bounds) (events : List Event) (base watch : Watch) → events ≡ [] → IsWatching [] base →

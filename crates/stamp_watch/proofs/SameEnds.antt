@@ -7,14 +7,15 @@ use Rattle.std.proofs.lemmas.List.{append_cancel_right, length-append, length-dr
 use Rattle.std.proofs.lemmas.List.{length-take-le, take-append-drop}
 use Rattle.std.proofs.lemmas.List.Elements.{All-cons, All-head, All-nil, All-tail}
 use Rattle.std.proofs.Math.Seq.{drop-append_seam, take-append_seam}
-use Rattle.stamp_watch.specs.Ahead.{IsSpared, lane_of}
+use Rattle.stamp_runs.specs.Run.{lane_of}
+use Rattle.stamp_runs.specs.declared.event.Event.{Event}
+use Rattle.stamp_runs.specs.declared.event.Event.TheVariants.{Begins}
+use Rattle.stamp_watch.specs.Ahead.{IsSpared}
 use Rattle.stamp_watch.specs.declared.ended_call.EndedCall.{EndedCall}
-use Rattle.stamp_watch.specs.declared.event.Event.{Event}
-use Rattle.stamp_watch.specs.declared.event.Event.TheVariants.{Begins}
 use Rattle.stamp_watch.specs.EndedCall.{IsEndedAt, end_in}
 use Rattle.stamp_watch.specs.Late.{BeginsLater, BeginsOneLater}
 use Rattle.stamp_watch.specs.Late.BeginsLater.{as_it_is, then_later}
-use Rattle.stamp_watch.proofs.StandingFor.{first_same, rest_same}
+use Rattle.stamp_watch.proofs.Ways.{first_same, rest_same}
 
 one_left : (e : Event) (events : List Event) → e ∷ events ≢ []
 one_left e events none = let long : suc (length events) ≡ 0 = ap (λ (xs : List Event). length xs) none in

@@ -12,16 +12,17 @@ use Rattle.stamp_core.specs.declared.call.Call.{Call}
 use Rattle.stamp_explain.specs.declared.observed.Observation.{Observation}
 use Rattle.stamp_explain.specs.declared.observed.Returned.{Returned}
 use Rattle.stamp_explain.proofs.Lists.{none_in_empty, contains_cases, contains_first, contains_rest}
-use Rattle.stamp_watch.specs.declared.event.Event.{Event}
-use Rattle.stamp_watch.specs.declared.event.Event.TheVariants.{Begins, Returns, Withdraws}
-use Rattle.stamp_watch.specs.Ahead.{IsWithdrawn}
-use Rattle.stamp_watch.specs.Ahead.IsWithdrawn.{withdrawn_next, withdrawn_past_beginning, withdrawn_past_return}
-use Rattle.stamp_watch.specs.Ahead.IsWithdrawn.{withdrawn_past_withdrawal}
+use Rattle.stamp_runs.specs.declared.event.Event.{Event}
+use Rattle.stamp_runs.specs.declared.event.Event.TheVariants.{Begins, Returns, Withdraws}
+use Rattle.stamp_runs.specs.Run.{EndsBy, IsEndOf}
+use Rattle.stamp_runs.specs.Run.EndsBy.{ends_next, ends_later}
 use Rattle.stamp_watch.specs.AsObserved.{Ending, ending_of, entries_from}
-use Rattle.stamp_watch.specs.AsObserved.Ending.{StaysOpen, EndsBy, EndsWithdrawn}
+use Rattle.stamp_watch.specs.AsObserved.Ending.{StaysOpen, EndsReturned, EndsWithdrawn}
 use Rattle.stamp_watch.specs.Form.{is_busy_then, AreInForm}
 use Rattle.stamp_watch.proofs.Numbered.{IsEntryOf, entry_tells, entry_returned, in_with_entry, with_entry_has}
-use Rattle.stamp_watch.proofs.Numbered.{ending_last, first_from, contains_at, own_firsts}
+use Rattle.stamp_watch.proofs.Numbered.{end_or_not, ending_last, ending_spares, first_from, contains_at, own_firsts}
+use Rattle.stamp_watch.proofs.Numbered.{return_ends, withdrawn_or_ended}
+use Rattle.stamp_watch.proofs.Form.{still_open}
 use Rattle.stamp_watch.proofs.Planning.{IsLate}
 use Rattle.stamp_watch.proofs.AsObserved.{AreOfRun, locks_from}
 
@@ -60,8 +61,8 @@ shortened_open end e later = by e.returned refl later
 -- how a call ends, in the whole run and up to a position
 data EndsUpTo (end : ℕ) : Ending → Ending → Type 0 where
   open_still : EndsUpTo end StaysOpen StaysOpen
-  ended : {r : Returned} → r.last < end → EndsUpTo end (EndsBy r) (EndsBy r)
-  ends_later : {r : Returned} → end ≤ r.last → EndsUpTo end (EndsBy r) StaysOpen
+  ended : {r : Returned} → r.last < end → EndsUpTo end (EndsReturned r) (EndsReturned r)
+  cut_off : {r : Returned} → end ≤ r.last → EndsUpTo end (EndsReturned r) StaysOpen
   withdrawn : EndsUpTo end EndsWithdrawn EndsWithdrawn
 
 -- the entry up to there
@@ -71,7 +72,7 @@ shortened_entry lane call first end whole cut e open_still is = ap (shortened en
 shortened_entry lane call first end whole cut e (ended {r} less) is = ap (shortened end) is ∙
     ap (λ (b : Bool). if b then record { thread = lane; call = call; first = first; returned = Some r } else
     record { thread = lane; call = call; first = first; returned = None }) (lt-ltb r.last end less)
-shortened_entry lane call first end whole cut e (ends_later {r} le) is = ap (shortened end) is ∙
+shortened_entry lane call first end whole cut e (cut_off {r} le) is = ap (shortened end) is ∙
     ap (λ (b : Bool). if b then record { thread = lane; call = call; first = first; returned = Some r } else
     record { thread = lane; call = call; first = first; returned = None }) (le-ltb r.last end le)
 shortened_entry lane call first end whole cut e withdrawn is = is
@@ -95,44 +96,48 @@ lengthened_entry lane call first end whole cut e (ended {r} less) is = record {
   is = is;
   same = shortened_entry lane call first end whole cut e (ended less) is ∙ sym is;
 }
-lengthened_entry lane call first end whole cut e (ends_later {r} le) is = record {
+lengthened_entry lane call first end whole cut e (cut_off {r} le) is = record {
   whole = record { thread = lane; call = call; first = first; returned = Some r };
   is = refl;
   same = shortened_entry lane call first end whole cut
-      (record { thread = lane; call = call; first = first; returned = Some r }) (ends_later le) refl ∙ sym is;
+      (record { thread = lane; call = call; first = first; returned = Some r }) (cut_off le) refl ∙ sym is;
 }
 lengthened_entry lane call first end whole cut e withdrawn is = absurd is
 
-withdrawn_by : (lane n : ℕ) (events : List Event) → ending_of lane n events ≡ EndsWithdrawn → IsWithdrawn lane events
+withdrawal_there : (lane n : ℕ) (event : Event) (events : List Event) → IsEndOf lane event →
+    ending_of lane n (event ∷ events) ≡ EndsWithdrawn → event ≡ Withdraws lane
+withdrawal_there lane n (Begins other call) events end is = absurd end
+withdrawal_there lane n (Returns other reply) events end is = absurd
+    (withdrawn_or_ended (sym is ∙ return_ends lane other n reply events end))
+withdrawal_there lane n (Withdraws other) events end is = ap Withdraws end
+
+withdrawn_by : (lane n : ℕ) (events : List Event) → ending_of lane n events ≡ EndsWithdrawn →
+    EndsBy lane (Withdraws lane) events
 withdrawn_by lane n [] ends = cc
-withdrawn_by lane n (Begins other call ∷ events) ends =
-    withdrawn_past_beginning other call (withdrawn_by lane (n + 1) events ends)
-withdrawn_by lane n (Returns other reply ∷ events) ends = by (cases_eq other lane)
-    (λ is. withdrawn_by lane (n + 1) events is)
+withdrawn_by lane n (event ∷ events) ends = by (end_or_not lane event) (λ is. withdrawn_by lane (n + 1) events is)
   where
-    by : (other ≡ lane) ⊎ (other ≢ lane) → (ending_of lane (n + 1) events ≡ EndsWithdrawn → IsWithdrawn lane events) →
-        IsWithdrawn lane (Returns other reply ∷ events)
-    by (inl same) _ = let here = rw (eq-eqb other lane same) at ends in cc
-    by (inr apart) more = withdrawn_past_return other reply apart (more (rw (ne_eqb other lane apart) at ends))
-withdrawn_by lane n (Withdraws other ∷ events) ends = by (cases_eq other lane)
-    (λ is. withdrawn_by lane (n + 1) events is)
-  where
-    by : (other ≡ lane) ⊎ (other ≢ lane) → (ending_of lane (n + 1) events ≡ EndsWithdrawn → IsWithdrawn lane events) →
-        IsWithdrawn lane (Withdraws other ∷ events)
-    by (inl same) _ = subst (λ (v : ℕ). IsWithdrawn lane (Withdraws v ∷ events)) (sym same) withdrawn_next
-    by (inr apart) more = withdrawn_past_withdrawal other apart (more (rw (ne_eqb other lane apart) at ends))
+    by : IsEndOf lane event ⊎ (¬ IsEndOf lane event) →
+        (ending_of lane (n + 1) events ≡ EndsWithdrawn → EndsBy lane (Withdraws lane) events) →
+        EndsBy lane (Withdraws lane) (event ∷ events)
+    by (inl end) _ = subst (λ (e : Event). EndsBy lane (Withdraws lane) (e ∷ events))
+        (sym (withdrawal_there lane n event events end ends)) ends_next
+    by (inr not) more = ends_later event not (more (sym (ending_spares lane n event events not) ∙ ends))
 
 -- a lane that is busy from then on is not withdrawn behind the first m events
 abbrev IsKept : ℕ → Bool → ℕ → List Event → Type 0
-IsKept lane busy m events = fold (is_busy_then lane) busy (take m events) ≡ true → ¬ IsWithdrawn lane (drop m events)
+IsKept lane busy m events = fold (is_busy_then lane) busy (take m events) ≡ true →
+    ¬ EndsBy lane (Withdraws lane) (drop m events)
 
 still_kept : (lane m : ℕ) (a b : Bool) (events : List Event) → a ≡ b → IsKept lane a m events →
     IsKept lane b m events
 still_kept lane m a b events same kept = subst (λ (c : Bool). IsKept lane c m events) same kept
 
-or_true : (a : Bool) → (a || true) ≡ true
-or_true true = refl
-or_true false = refl
+end_up_to : (lane n m end : ℕ) (event : Event) (events : List Event) → n < end → IsEndOf lane event →
+    EndsUpTo end (ending_of lane n (event ∷ events)) (ending_of lane n (event ∷ take m events))
+end_up_to lane n m end (Begins other call) events less is = absurd is
+end_up_to lane n m end (Returns other reply) events less same =
+    rw (eq-eqb other lane same) (ended {r = record { last = n; reply = reply }} less)
+end_up_to lane n m end (Withdraws other) events less same = rw (eq-eqb other lane same) withdrawn
 
 ends_up_to : (lane n m end : ℕ) (events : List Event) → end ≡ n + m → IsKept lane true m events →
     EndsUpTo end (ending_of lane n events) (ending_of lane n (take m events))
@@ -140,32 +145,20 @@ ends_up_to lane n zero end events at kept = by (ending_of lane n events) refl
   where
     by : (x : Ending) → ending_of lane n events ≡ x → EndsUpTo end x StaysOpen
     by StaysOpen is = open_still
-    by (EndsBy r) is = let low = ending_last lane n events r is in ends_later (omega arith)
+    by (EndsReturned r) is = let low = ending_last lane n events r is in cut_off (omega arith)
     by EndsWithdrawn is = absurd (kept refl (withdrawn_by lane n events is))
 ends_up_to lane n (suc m) end [] at kept = open_still
-ends_up_to lane n (suc m) end (Begins other call ∷ events) at kept = ends_up_to lane (n + 1) m end events (omega arith)
-    (still_kept lane m ((other == lane) || true) true events (or_true (other == lane)) kept)
-ends_up_to lane n (suc m) end (Returns other reply ∷ events) at kept = by (cases_eq other lane)
-    (λ more. ends_up_to lane (n + 1) m end events (omega arith) more)
+ends_up_to lane n (suc m) end (event ∷ events) at kept = by (end_or_not lane event)
+    (λ more. ends_up_to lane (n + 1) m end events (omega (arith, at)) more)
   where
-    by : (other ≡ lane) ⊎ (other ≢ lane) → (IsKept lane true m events →
+    by : IsEndOf lane event ⊎ (¬ IsEndOf lane event) → (IsKept lane true m events →
         EndsUpTo end (ending_of lane (n + 1) events) (ending_of lane (n + 1) (take m events))) →
-        EndsUpTo end (ending_of lane n (Returns other reply ∷ events))
-        (ending_of lane n (Returns other reply ∷ take m events))
-    by (inl same) _ = let less : n < end = omega arith in
-        rw (eq-eqb other lane same) (ended {r = record { last = n; reply = reply }} less)
-    by (inr apart) more = rw (ne_eqb other lane apart) (more (still_kept lane m
-        (not (other == lane) && true) true events (rw (ne_eqb other lane apart)) kept))
-ends_up_to lane n (suc m) end (Withdraws other ∷ events) at kept = by (cases_eq other lane)
-    (λ more. ends_up_to lane (n + 1) m end events (omega arith) more)
-  where
-    by : (other ≡ lane) ⊎ (other ≢ lane) → (IsKept lane true m events →
-        EndsUpTo end (ending_of lane (n + 1) events) (ending_of lane (n + 1) (take m events))) →
-        EndsUpTo end (ending_of lane n (Withdraws other ∷ events))
-        (ending_of lane n (Withdraws other ∷ take m events))
-    by (inl same) _ = rw (eq-eqb other lane same) withdrawn
-    by (inr apart) more = rw (ne_eqb other lane apart) (more (still_kept lane m
-        (not (other == lane) && true) true events (rw (ne_eqb other lane apart)) kept))
+        EndsUpTo end (ending_of lane n (event ∷ events)) (ending_of lane n (event ∷ take m events))
+    by (inl is) _ = end_up_to lane n m end event events (omega (arith, at)) is
+    by (inr not) more = subst (λ (x : Ending). EndsUpTo end x (ending_of lane n (event ∷ take m events)))
+        (sym (ending_spares lane n event events not)) (subst (EndsUpTo end (ending_of lane (n + 1) events))
+        (sym (ending_spares lane n event (take m events) not))
+        (more (still_kept lane m (is_busy_then lane true event) true events (still_open lane event not) kept)))
 
 -- none of the lanes that are busy after the first m events is withdrawn behind them
 abbrev pub AreKept : (ℕ → Bool) → ℕ → List Event → Type 0

@@ -10,20 +10,20 @@ use Rattle.std.proofs.Math.Seq.{drop-append_seam, drop-length, take-append-add}
 use Rattle.stamp_core.specs.Limits.{AreInRange, Bounds}
 use Rattle.stamp_core.specs.declared.call.Call.{Call}
 use Rattle.stamp_core.specs.declared.reply.Reply.TheVariants.{Stamp}
+use Rattle.stamp_runs.specs.declared.event.Event.{Event}
+use Rattle.stamp_runs.specs.declared.event.Event.TheVariants.{Begins, Returns}
+use Rattle.stamp_runs.specs.Run.{EndsBy, lane_of}
+use Rattle.stamp_runs.specs.Run.EndsBy.{ends_next, ends_later}
+use Rattle.stamp_runs.specs.LockRun.{AreExplained}
 use Rattle.stamp_watch.specs.Issued.{IssuesOf, LosesNothing, ReturnsOlder}
-use Rattle.stamp_watch.specs.declared.event.Event.{Event}
-use Rattle.stamp_watch.specs.declared.event.Event.TheVariants.{Begins, Returns}
-use Rattle.stamp_watch.specs.Ahead.{IsSpared, Tells, lane_of}
-use Rattle.stamp_watch.specs.Ahead.Tells.{tells_next}
+use Rattle.stamp_watch.specs.Ahead.{IsSpared}
 use Rattle.stamp_watch.specs.Delay.{AreInPlace, IsShown}
 use Rattle.stamp_watch.specs.Delay.AreInPlace.{none_is, was_given, is_aside}
 use Rattle.stamp_watch.specs.Form.{AreInForm, is_busy_after}
 use Rattle.stamp_watch.specs.Late.{BeginsLater}
 use Rattle.stamp_watch.specs.Late.BeginsLater.{as_it_is, then_later}
-use Rattle.stamp_watch.specs.Run.{AreExplained}
 use Rattle.stamp_watch.proofs.BeginningLater.{free_before, later_as_long, later_in_form}
-use Rattle.stamp_watch.proofs.HandingOn.{never_among}
-use Rattle.stamp_watch.proofs.LosingNothing.{told_behind}
+use Rattle.stamp_watch.proofs.Ways.{never_among, ends_past}
 use Rattle.stamp_watch.proofs.TellingVersions.{late_stamp_loses_nothing}
 
 -- an event that is given stands behind all
@@ -234,9 +234,10 @@ module _ (limits : Bounds) (run given aside waiting : List Event) (many : ℕ)
         (late_stamp_loses_nothing limits issued.lane issued.call issued.stamp loses.version there.before there.behind
         (waiting ++ e ∷ more) range issued.issues issued.is_of free
         (never_among issued.lane there.behind behind_spared)
-        (subst (λ (d : Event). Tells issued.lane (Stamp issued.stamp) (waiting ++ d ∷ more)) (sym issued.returns)
-        (told_behind (Returns issued.lane (Stamp issued.stamp) ∷ more)
-        (never_among issued.lane waiting (subst (IsSpared waiting) lane_is unended)) tells_next))
+        (subst (λ (d : Event). EndsBy issued.lane (Returns issued.lane (Stamp issued.stamp)) (waiting ++ d ∷ more))
+        (sym issued.returns)
+        (ends_past waiting (Returns issued.lane (Stamp issued.stamp) ∷ more)
+        (never_among issued.lane waiting (subst (IsSpared waiting) lane_is unended)) ends_next))
         (older_with loses.older (e ∷ more)) (subst (AreExplained limits) (in_its_place more) way))
       where
         older_with : ReturnsOlder limits loses.version waiting → (more : List Event) →

@@ -6,15 +6,16 @@ use Rattle.stamp_core.specs.LockEvent.{LockEvent}
 use Rattle.stamp_core.specs.Limits.{Bounds}
 use Rattle.stamp_core.specs.Word.{Represents, word_at}
 use Rattle.stamp_core.specs.declared.call.Call.{Call}
+use Rattle.stamp_runs.specs.Run.{Lanes, Phase, Sets}
+use Rattle.stamp_runs.specs.LockRun.{Configuration}
+use Rattle.stamp_runs.specs.Run.Phase.{Asks}
+use Rattle.stamp_runs.proofs.Lanes.{idle_or_asks, asks_or_gets, one_call}
 use Rattle.stamp_watch.specs.declared.open_call.OpenCall.{OpenCall}
 use Rattle.stamp_watch.specs.declared.position.Position.{Position}
-use Rattle.stamp_watch.specs.LockCall.{call_as}
-use Rattle.stamp_watch.specs.Run.{Configuration, Lanes, Phase, Sets}
-use Rattle.stamp_watch.specs.Run.Phase.{Asks}
+use Rattle.stamp_core.specs.LockCall.{call_as}
 use Rattle.stamp_watch.specs.Foretold.{open_at}
 use Rattle.stamp_watch.specs.Watch.{HasPhase, IsInEffect, StandsFor}
 use Rattle.stamp_watch.proofs.Foretelling.{Beside}
-use Rattle.stamp_watch.proofs.Surviving.{idle_or_asks, asks_or_gets, one_call}
 
 has_phase_same : (o p : Option OpenCall) (a b : ℕ) (x y : Phase) → o ≡ p → a ≡ b → x ≡ y → HasPhase o a x →
     HasPhase p b y

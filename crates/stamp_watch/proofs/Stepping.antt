@@ -16,8 +16,14 @@ use Rattle.stamp_core.specs.LockDecision.{reply_as}
 use Rattle.stamp_core.specs.declared.lock_decision.LockReply.{LockReply}
 use Rattle.stamp_core.specs.declared.call.Call.{Call}
 use Rattle.stamp_core.specs.declared.reply.Reply.{Reply}
-use Rattle.stamp_watch.specs.declared.event.Event.{Event}
-use Rattle.stamp_watch.specs.declared.event.Event.TheVariants as event
+use Rattle.stamp_runs.specs.declared.event.Event.{Event}
+use Rattle.stamp_runs.specs.declared.event.Event.TheVariants as event
+use Rattle.stamp_runs.specs.Object.{LockStep}
+use Rattle.stamp_runs.specs.LockRun.{Configuration, opening, AreExplained}
+use Rattle.stamp_runs.specs.Run.Phase.{Idle, Asks}
+use Rattle.stamp_runs.specs.Run.Leads.{leads_nowhere, by_event}
+use Rattle.stamp_runs.proofs.Lanes.{set_of, sets_of, leads_on}
+use Rattle.stamp_runs.proofs.Sets.{leads_survive}
 use Rattle.stamp_watch.specs.declared.ending.Ending.{Ending}
 use Rattle.stamp_watch.specs.declared.ending.Ending.TheVariants.{Returns, Withdraws}
 use Rattle.stamp_watch.specs.declared.open_call.OpenCall.{OpenCall}
@@ -25,19 +31,16 @@ use Rattle.stamp_watch.specs.declared.position.Position.{Position}
 use Rattle.stamp_watch.specs.declared.progress.Progress.{Progress}
 use Rattle.stamp_watch.specs.declared.progress.Progress.TheVariants.{Going, Dead, TooMany, Refused}
 use Rattle.stamp_watch.specs.declared.watch.Watch.{Watch}
-use Rattle.stamp_watch.specs.LockCall.{call_as}
-use Rattle.stamp_watch.specs.Run.{Configuration, opening, AreExplained}
-use Rattle.stamp_watch.specs.Run.Phase.{Idle, Asks}
-use Rattle.stamp_watch.specs.Run.Leads.{leads_nowhere, by_beginning, by_withdrawal}
+use Rattle.stamp_core.specs.LockCall.{call_as}
 use Rattle.stamp_watch.specs.Foretold.{open_at, HasEachOpen, MayGet, ComesAsTold}
 use Rattle.stamp_watch.specs.inner.Foretold.{IsReturn}
-use Rattle.stamp_watch.specs.Watch.{HasPhase, StandsFor, IsPossible, MayGoOn, OneGoesOn, AreKept}
-use Rattle.stamp_watch.specs.Watch.{IsWatched, IsWatching, IsProgress, MoreArePossible}
+use Rattle.stamp_watch.specs.Watch.{HasPhase, StandsFor, IsPossible, MayGoOn, OneGoesOn, AreKept, IsWatched}
+use Rattle.stamp_watch.specs.Watch.{IsWatching}
+use Rattle.stamp_watch.specs.Watch.{IsProgress, MoreArePossible}
 use Rattle.stamp_watch.specs.inner.Lanes.{SetsBit}
 use Rattle.stamp_watch.specs.inner.Layer.{IsUnderWay, MoreFollow}
 use Rattle.stamp_watch.specs.inner.Step.{IsOpening, BeginsIn, AreBegun, IsAnswer}
-use Rattle.stamp_watch.proofs.Surviving.{set_of, sets_of, begins_first, withdraws_first}
-use Rattle.stamp_watch.proofs.StandingFor.{leads_on, leads_survive}
+use Rattle.stamp_watch.proofs.Surviving.{begins_first, withdraws_first}
 use Rattle.stamp_watch.proofs.Tables.{open_at_set_none, open_at_set_here, open_at_set_other, open_at_idle}
 use Rattle.stamp_watch.proofs.Foretelling.{told_begins, told_returns, told_withdraws}
 use Rattle.stamp_watch.proofs.Standing.{stands_set, phase_at}
@@ -189,8 +192,8 @@ module _ (limits : Bounds) (table : List (Option OpenCall)) (lane : ℕ) (begun 
           lanes = set_of is.one.lanes lane (Asks (call_as begun.asks));
         };
         stands = stands_begun is.one is.stands;
-        possible = leads_on is.possible (by_beginning lane (call_as begun.asks) (idle_in is.one is.stands)
-            (sets_of is.one.lanes lane (Asks (call_as begun.asks))) leads_nowhere);
+        possible = leads_on is.possible (by_event (event.Begins lane (call_as begun.asks))
+            (idle_in is.one is.stands, sets_of is.one.lanes lane (Asks (call_as begun.asks))) leads_nowhere);
       })
 
   goes_on_begun : (last : ℕ) (future : List Event) → ComesAsTold (slice_set table lane (Some begun)) last future →
@@ -260,9 +263,11 @@ module _ (limits : Bounds) (table : List (Option OpenCall)) (lane : ℕ) (o : Op
   possible_withdrawn past is = record {
     one = record { state = is.one.state; lanes = set_of is.one.lanes lane Idle };
     stands = stands_withdrawn is.one is.stands;
-    possible = leads_on is.possible (by_withdrawal lane (call_as o.asks)
-        (asks (phase_at limits table p is.one lane o is.stands is_open)) (sets_of is.one.lanes lane Idle)
-        leads_nowhere);
+    possible = leads_on is.possible (by_event (event.Withdraws lane) (
+      call_as o.asks,
+      asks (phase_at limits table p is.one lane o is.stands is_open),
+      sets_of is.one.lanes lane Idle,
+    ) leads_nowhere);
   }
     where
       asks : HasPhase (Some o) (bit_at p.in_effect lane) (is.one.lanes lane) →
@@ -344,7 +349,7 @@ some_explained : (limits : Bounds) (past : List Event) (table : List (Option Ope
     kept ≢ [] → All (IsPossible limits past table) kept → AreExplained limits past
 some_explained limits past table [] some are = absurd (some refl)
 some_explained limits past table (p ∷ ps) some are =
-    leads_survive (All-head (IsPossible limits past table) p ps are).possible
+    leads_survive (LockStep limits) (All-head (IsPossible limits past table) p ps are).possible
 
 pub answered : (past : List Event) (e : Event) (most : ℕ) (old new : Watch) (progress : Progress) →
     IsAnswer new.positions.items progress → IsWatching (past ++ e ∷ []) new → IsProgress past e most old new progress

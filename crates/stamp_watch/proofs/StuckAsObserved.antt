@@ -15,54 +15,45 @@ use Rattle.stamp_explain.specs.Observed.{observed_as, IsReturnAt}
 use Rattle.stamp_explain.specs.Explained.{IsExplained}
 use Rattle.stamp_explain.specs.Cut.{returned_by, cut_entries}
 use Rattle.stamp_explain.proofs.Lists.{none_in_empty}
-use Rattle.stamp_watch.specs.declared.event.Event.{Event}
-use Rattle.stamp_watch.specs.declared.event.Event.TheVariants.{Begins, Returns, Withdraws}
-use Rattle.stamp_watch.specs.Ahead.{IsWithdrawn}
-use Rattle.stamp_watch.specs.Ahead.IsWithdrawn.{withdrawn_next, withdrawn_past_beginning, withdrawn_past_return}
-use Rattle.stamp_watch.specs.Ahead.IsWithdrawn.{withdrawn_past_withdrawal}
+use Rattle.stamp_runs.specs.declared.event.Event.{Event}
+use Rattle.stamp_runs.specs.declared.event.Event.TheVariants.{Begins, Returns, Withdraws}
+use Rattle.stamp_runs.specs.Run.{EndsBy, IsEndOf, all_idle, lane_of}
+use Rattle.stamp_runs.specs.Run.EndsBy.{ends_next, ends_later}
+use Rattle.stamp_runs.specs.LockRun.{AreExplained, AreStuckAt}
 use Rattle.stamp_watch.specs.AsObserved.{Ending, ending_of, with_entry, entries_from, observed_of, IsStuckAtPosition}
 use Rattle.stamp_watch.specs.AsObserved.{NoneIsWithdrawnLater}
-use Rattle.stamp_watch.specs.AsObserved.Ending.{StaysOpen, EndsBy, EndsWithdrawn}
+use Rattle.stamp_watch.specs.AsObserved.Ending.{StaysOpen, EndsReturned, EndsWithdrawn}
 use Rattle.stamp_watch.specs.Form.{is_busy_then, MayCome, AreInFormFrom, AreInForm}
-use Rattle.stamp_watch.specs.Run.{AreExplained, AreStuckAt, all_idle}
 use Rattle.stamp_watch.specs.WatchLaws.{StuckAsObserved, StuckAsSeen}
-use Rattle.stamp_watch.proofs.Surviving.{withdrawn_none}
-use Rattle.stamp_watch.proofs.Numbered.{IsEntryOf, entry_returned, in_with_entry, with_entry_has, ended_by_return}
-use Rattle.stamp_watch.proofs.Numbered.{ended_past_withdrawal, ending_last, last_from, open_or_ended, return_ends}
-use Rattle.stamp_watch.proofs.Numbered.{return_spares, withdrawal_spares, contains_at}
-use Rattle.stamp_watch.proofs.Form.{form_up_to, may_come_at, begins_next}
+use Rattle.stamp_watch.proofs.Numbered.{IsEntryOf, entry_returned, in_with_entry, with_entry_has, ended_by}
+use Rattle.stamp_watch.proofs.Numbered.{ending_last}
+use Rattle.stamp_watch.proofs.Numbered.{last_from, open_or_ended, return_ends, ending_spares, contains_at}
+use Rattle.stamp_watch.proofs.Form.{busy_other, form_up_to, may_come_at, begins_next, past_end}
 use Rattle.stamp_watch.proofs.AsObserved.{AreOfRun, run_explained, explained_run}
 use Rattle.stamp_watch.proofs.Shortening.{returned_below, shortened, AreKept, shortened_run}
 
 -- two lanes' calls do not end by one return
-ends_apart : (a b n : ℕ) (events : List Event) (q r : Returned) → ending_of a n events ≡ EndsBy q →
-    ending_of b n events ≡ EndsBy r → q.last ≡ r.last → a ≡ b
+ends_apart : (a b n : ℕ) (events : List Event) (q r : Returned) → ending_of a n events ≡ EndsReturned q →
+    ending_of b n events ≡ EndsReturned r → q.last ≡ r.last → a ≡ b
 ends_apart a b n [] q r ends other same = absurd (open_or_ended ends)
-ends_apart a b n (Begins lane call ∷ events) q r ends other same = ends_apart a b (n + 1) events q r ends other same
-ends_apart a b n (Returns lane reply ∷ events) q r ends other same = by (ended_by_return a lane n reply events q ends)
-    (ended_by_return b lane n reply events r other)
-    (λ late later. ends_apart a b (n + 1) events q r late later same)
+ends_apart a b n (event ∷ events) q r ends other same = by (ended_by a n event events q ends)
+    (ended_by b n event events r other) (λ late later. ends_apart a b (n + 1) events q r late later same)
   where
-    here : {x : Returned} → x ≡ record { last = n; reply = reply } → x.last ≡ n
-    here is = ap (λ (o : Returned). o.last) is
-
-    by : ((lane ≡ a) × (q ≡ record { last = n; reply = reply })) ⊎
-        ((lane ≢ a) × (ending_of a (n + 1) events ≡ EndsBy q)) →
-        ((lane ≡ b) × (r ≡ record { last = n; reply = reply })) ⊎
-        ((lane ≢ b) × (ending_of b (n + 1) events ≡ EndsBy r)) →
-        (ending_of a (n + 1) events ≡ EndsBy q → ending_of b (n + 1) events ≡ EndsBy r → a ≡ b) → a ≡ b
-    by (inl first) (inl second) more = sym first.0 ∙ second.0
+    by : ((event ≡ Returns a q.reply) × (q.last ≡ n)) ⊎
+        ((¬ IsEndOf a event) × (ending_of a (n + 1) events ≡ EndsReturned q)) →
+        ((event ≡ Returns b r.reply) × (r.last ≡ n)) ⊎
+        ((¬ IsEndOf b event) × (ending_of b (n + 1) events ≡ EndsReturned r)) →
+        (ending_of a (n + 1) events ≡ EndsReturned q → ending_of b (n + 1) events ≡ EndsReturned r → a ≡ b) → a ≡ b
+    by (inl first) (inl second) more = ap lane_of (sym first.0 ∙ second.0)
     by (inl first) (inr second) more =
-        let at = here first.1 in let low = ending_last b (n + 1) events r second.1 in absurd (omega arith)
+        absurd (omega (arith, first.1, same, ending_last b (n + 1) events r second.1))
     by (inr first) (inl second) more =
-        let at = here second.1 in let low = ending_last a (n + 1) events q first.1 in absurd (omega arith)
+        absurd (omega (arith, second.1, same, ending_last a (n + 1) events q first.1))
     by (inr first) (inr second) more = more first.1 second.1
-ends_apart a b n (Withdraws lane ∷ events) q r ends other same = ends_apart a b (n + 1) events q r
-    (ended_past_withdrawal a lane n events q ends).1 (ended_past_withdrawal b lane n events r other).1 same
 
 -- the return that ends the call of a busy lane ends none that begins later
 ends_none_later : (busy : ℕ → Bool) (lane n : ℕ) (events : List Event) (e : Observation) (q r : Returned) →
-    AreInFormFrom busy events → busy lane ≡ true → ending_of lane n events ≡ EndsBy q →
+    AreInFormFrom busy events → busy lane ≡ true → ending_of lane n events ≡ EndsReturned q →
     Contains (entries_from n events) e → e.returned ≡ Some r → q.last ≡ r.last → ⊥
 ends_none_later busy lane n [] e q r form is ends has back same = none_in_empty e has
 ends_none_later busy lane n (Begins other call ∷ events) e q r form is ends has back same = by (in_with_entry other
@@ -79,21 +70,25 @@ ends_none_later busy lane n (Begins other call ∷ events) e q r form is ends ha
         (entry_returned other call n (ending_of other (n + 1) events) e r its back) same))
     by (inr later) more = more later
 ends_none_later busy lane n (Returns other reply ∷ events) e q r form is ends has back same =
-    by (ended_by_return lane other n reply events q ends) (λ apart more. ends_none_later
+    by (ended_by lane n (Returns other reply) events q ends) (λ apart more. ends_none_later
     (λ (v : ℕ). is_busy_then v (busy v) (Returns other reply)) lane (n + 1) events e q r form.1
-    (ap (λ (b : Bool). not b && busy lane) (ne_eqb other lane apart) ∙ is) more has back same)
+    (busy_other lane (busy lane) (Returns other reply) apart ∙ is) more has back same)
   where
-    by : ((other ≡ lane) × (q ≡ record { last = n; reply = reply })) ⊎
-        ((other ≢ lane) × (ending_of lane (n + 1) events ≡ EndsBy q)) →
-        (other ≢ lane → ending_of lane (n + 1) events ≡ EndsBy q → ⊥) → ⊥
-    by (inl here) _ =
-        let at : q.last ≡ n = ap (λ (o : Returned). o.last) here.1 in
-        let low = last_from (n + 1) events e r has back in omega arith
+    by : ((Returns other reply ≡ Returns lane q.reply) × (q.last ≡ n)) ⊎
+        ((other ≢ lane) × (ending_of lane (n + 1) events ≡ EndsReturned q)) →
+        (other ≢ lane → ending_of lane (n + 1) events ≡ EndsReturned q → ⊥) → ⊥
+    by (inl here) _ = omega (arith, here.1, same, last_from (n + 1) events e r has back)
     by (inr past) more = more past.0 past.1
 ends_none_later busy lane n (Withdraws other ∷ events) e q r form is ends has back same =
-    let past = ended_past_withdrawal lane other n events q ends in ends_none_later
+    by (ended_by lane n (Withdraws other) events q ends) (λ apart more. ends_none_later
     (λ (v : ℕ). is_busy_then v (busy v) (Withdraws other)) lane (n + 1) events e q r form.1
-    (ap (λ (b : Bool). not b && busy lane) (ne_eqb other lane past.0) ∙ is) past.1 has back same
+    (busy_other lane (busy lane) (Withdraws other) apart ∙ is) more has back same)
+  where
+    by : ((Withdraws other ≡ Returns lane q.reply) × (q.last ≡ n)) ⊎
+        ((other ≢ lane) × (ending_of lane (n + 1) events ≡ EndsReturned q)) →
+        (other ≢ lane → ending_of lane (n + 1) events ≡ EndsReturned q → ⊥) → ⊥
+    by (inl here) _ = omega (arith, here.1, same, last_from (n + 1) events e r has back)
+    by (inr past) more = more past.0 past.1
 
 -- no two entries return at one position
 HaveOwnLasts : List Observation → Type 0
@@ -115,14 +110,14 @@ own_lasts_more x entries others own (suc i) (suc j) e f q r at_e at_f back_e bac
     ap suc (own i j e f q r at_e at_f back_e back_f same)
 
 own_lasts_with : (lane : ℕ) (call : Call) (n : ℕ) (ending : Ending) (entries : List Observation) →
-    ((e : Observation) (q r : Returned) → Contains entries e → ending ≡ EndsBy q → e.returned ≡ Some r →
+    ((e : Observation) (q r : Returned) → Contains entries e → ending ≡ EndsReturned q → e.returned ≡ Some r →
     q.last ≢ r.last) → HaveOwnLasts entries → HaveOwnLasts (with_entry lane call n ending entries)
 own_lasts_with lane call n StaysOpen entries others own = own_lasts_more
     (record { thread = lane; call = call; first = n; returned = None }) entries
     (λ e q r has is back. absurd (none-some q is)) own
-own_lasts_with lane call n (EndsBy o) entries others own = own_lasts_more
+own_lasts_with lane call n (EndsReturned o) entries others own = own_lasts_more
     (record { thread = lane; call = call; first = n; returned = Some o }) entries
-    (λ e q r has is back. others e q r has (ap EndsBy (same_Some o q is)) back) own
+    (λ e q r has is back. others e q r has (ap EndsReturned (same_Some o q is)) back) own
 own_lasts_with lane call n EndsWithdrawn entries others own = own
 
 own_lasts : (busy : ℕ → Bool) (n : ℕ) (events : List Event) → AreInFormFrom busy events →
@@ -201,11 +196,11 @@ take_one zero (x ∷ events) event is = ap (λ (e : Event). e ∷ []) (same_Some
 take_one (suc k) (x ∷ events) event is = ap (λ (es : List Event). x ∷ es) (take_one k events event is)
 
 withdrawn_at : (k lane : ℕ) (events : List Event) → slice_get events k ≡ Some (Withdraws lane) →
-    IsWithdrawn lane (drop k events)
+    EndsBy lane (Withdraws lane) (drop k events)
 withdrawn_at zero lane [] is = absurd (none-some (Withdraws lane) is)
 withdrawn_at (suc k) lane [] is = absurd (none-some (Withdraws lane) is)
-withdrawn_at zero lane (x ∷ events) is = subst (λ (e : Event). IsWithdrawn lane (e ∷ events))
-    (sym (same_Some x (Withdraws lane) is)) withdrawn_next
+withdrawn_at zero lane (x ∷ events) is = subst (λ (e : Event). EndsBy lane (Withdraws lane) (e ∷ events))
+    (sym (same_Some x (Withdraws lane) is)) ends_next
 withdrawn_at (suc k) lane (x ∷ events) is = withdrawn_at k lane events is
 
 -- what is kept at a return is kept behind it
@@ -213,22 +208,15 @@ kept_past_return : (k : ℕ) (busy : ℕ → Bool) (events : List Event) (u : �
     slice_get events k ≡ Some (Returns u reply) → AreKept busy k events → AreKept busy (suc k) events
 kept_past_return zero busy [] u reply is kept = absurd (none-some (Returns u reply) is)
 kept_past_return (suc k) busy [] u reply is kept = absurd (none-some (Returns u reply) is)
-kept_past_return zero busy (x ∷ events) u reply is kept = λ lane still withdrawn.
-    by lane (cases_eq u lane) (subst (λ (e : Event). is_busy_then lane (busy lane) e ≡ true) first still) withdrawn
+kept_past_return zero busy (x ∷ events) u reply is kept = λ lane still withdrawn. past lane withdrawn
+    (past_end u lane (busy lane) (subst (λ (e : Event). is_busy_then lane (busy lane) e ≡ true) first still))
   where
     first : x ≡ Returns u reply
     first = same_Some x (Returns u reply) is
 
-    second : (a b : Bool) → (a && b) ≡ true → b ≡ true
-    second true b both = both
-    second false b both = absurd (false≢true both)
-
-    by : (lane : ℕ) → (u ≡ lane) ⊎ (u ≢ lane) → (not (u == lane) && busy lane) ≡ true → IsWithdrawn lane events → ⊥
-    by lane (inl same) still withdrawn =
-        false≢true (sym (ap (λ (b : Bool). not b && busy lane) (eq-eqb u lane same)) ∙ still)
-    by lane (inr apart) still withdrawn = kept lane (second (not (u == lane)) (busy lane) still)
-        (subst (λ (e : Event). IsWithdrawn lane (e ∷ events)) (sym first)
-        (withdrawn_past_return u reply apart withdrawn))
+    past : (lane : ℕ) → EndsBy lane (Withdraws lane) events → (busy lane ≡ true) × (u ≢ lane) → ⊥
+    past lane withdrawn before = kept lane before.0 (subst (λ (e : Event). EndsBy lane (Withdraws lane) (e ∷ events))
+        (sym first) (ends_later (Returns u reply) before.1 withdrawn))
 kept_past_return (suc k) busy (x ∷ events) u reply is kept =
     kept_past_return k (λ (lane : ℕ). is_busy_then lane (busy lane) x) events u reply is kept
 
@@ -240,20 +228,14 @@ record HasReturnAt (entries : List Observation) (r : Returned) : Type 0 where
 
 -- the call that returns so is open in this lane, or has its entry behind
 abbrev IsOfCall : Bool → Ending → List Observation → Returned → Type 0
-IsOfCall busy ending entries r = ((busy ≡ true) × (ending ≡ EndsBy r)) ⊎ HasReturnAt entries r
+IsOfCall busy ending entries r = ((busy ≡ true) × (ending ≡ EndsReturned r)) ⊎ HasReturnAt entries r
 
 call_past_end : (busy : Bool) (other lane : ℕ) (ending then_ending : Ending) (entries : List Observation)
     (r : Returned) → (other ≢ lane → ending ≡ then_ending) →
     IsOfCall (not (other == lane) && busy) then_ending entries r → IsOfCall busy ending entries r
 call_past_end busy other lane ending then_ending entries r spares (inr found) = inr found
-call_past_end busy other lane ending then_ending entries r spares (inl open_now) = by (cases_eq other lane)
-  where
-    by : (other ≡ lane) ⊎ (other ≢ lane) → IsOfCall busy ending entries r
-    by (inl its) = absurd (false≢true (sym (ap (λ (b : Bool). not b && busy) (eq-eqb other lane its)) ∙ open_now.0))
-    by (inr apart) = inl (
-      sym (ap (λ (b : Bool). not b && busy) (ne_eqb other lane apart)) ∙ open_now.0,
-      spares apart ∙ open_now.1,
-    )
+call_past_end busy other lane ending then_ending entries r spares (inl open_now) =
+    let before = past_end other lane busy open_now.0 in inl (before.0, spares before.1 ∙ open_now.1)
 
 call_past_beginning : (busy : Bool) (other lane n : ℕ) (call : Call) (events : List Event) (r : Returned) →
     IsOfCall ((other == lane) || busy) (ending_of lane (n + 1) events) (entries_from (n + 1) events) r →
@@ -288,9 +270,9 @@ call_of_return busy n zero [] lane r at form is = absurd (none-some (Returns lan
 call_of_return busy n (suc k) [] lane r at form is = absurd (none-some (Returns lane r.reply) is)
 call_of_return busy n zero (x ∷ events) lane r at form is = inl (
   subst (λ (e : Event). MayCome busy e) first form.0,
-  subst (λ (e : Event). ending_of lane n (e ∷ events) ≡ EndsBy r) (sym first)
+  subst (λ (e : Event). ending_of lane n (e ∷ events) ≡ EndsReturned r) (sym first)
       (return_ends lane lane n r.reply events refl ∙
-      ap (λ (m : ℕ). EndsBy (record { last = m; reply = r.reply })) (omega arith)),
+      ap (λ (m : ℕ). EndsReturned (record { last = m; reply = r.reply })) (omega arith)),
 )
   where
     first : x ≡ Returns lane r.reply
@@ -301,12 +283,12 @@ call_of_return busy n (suc k) (Begins other call ∷ events) lane r at form is =
     form.1 is)
 call_of_return busy n (suc k) (Returns other reply ∷ events) lane r at form is = call_past_end (busy lane) other lane
     (ending_of lane n (Returns other reply ∷ events)) (ending_of lane (n + 1) events) (entries_from (n + 1) events) r
-    (return_spares lane other n reply events)
+    (ending_spares lane n (Returns other reply) events)
     (call_of_return (λ (v : ℕ). is_busy_then v (busy v) (Returns other reply)) (n + 1) k events lane r (omega arith)
     form.1 is)
 call_of_return busy n (suc k) (Withdraws other ∷ events) lane r at form is = call_past_end (busy lane) other lane
     (ending_of lane n (Withdraws other ∷ events)) (ending_of lane (n + 1) events) (entries_from (n + 1) events) r
-    (withdrawal_spares lane other n events)
+    (ending_spares lane n (Withdraws other) events)
     (call_of_return (λ (v : ℕ). is_busy_then v (busy v) (Withdraws other)) (n + 1) k events lane r (omega arith)
     form.1 is)
 
@@ -314,28 +296,20 @@ call_of_return busy n (suc k) (Withdraws other ∷ events) lane r at form is = c
 abbrev IsReturnThere : ℕ → List Event → Type 0
 IsReturnThere k events = (lane : ℕ) × ((reply : Reply) × (slice_get events k ≡ Some (Returns lane reply)))
 
-return_of_ending : (lane n k : ℕ) (events : List Event) (r : Returned) → ending_of lane n events ≡ EndsBy r →
+return_of_ending : (lane n k : ℕ) (events : List Event) (r : Returned) → ending_of lane n events ≡ EndsReturned r →
     r.last ≡ n + k → IsReturnThere k events
 return_of_ending lane n k [] r ends at = absurd (open_or_ended ends)
-return_of_ending lane n zero (Begins other call ∷ events) r ends at =
-    let low = ending_last lane (n + 1) events r ends in absurd (omega arith)
-return_of_ending lane n (suc k) (Begins other call ∷ events) r ends at =
-    return_of_ending lane (n + 1) k events r ends (omega arith)
-return_of_ending lane n zero (Returns other reply ∷ events) r ends at = (other, (reply, refl))
-return_of_ending lane n (suc k) (Returns other reply ∷ events) r ends at =
-    by (ended_by_return lane other n reply events r ends)
-    (λ more. return_of_ending lane (n + 1) k events r more (omega arith))
+return_of_ending lane n k (event ∷ events) r ends at = by k at (ended_by lane n event events r ends)
+    (λ j more there. return_of_ending lane (n + 1) j events r more there)
   where
-    by : ((other ≡ lane) × (r ≡ record { last = n; reply = reply })) ⊎
-        ((other ≢ lane) × (ending_of lane (n + 1) events ≡ EndsBy r)) →
-        (ending_of lane (n + 1) events ≡ EndsBy r → IsReturnThere k events) → IsReturnThere k events
-    by (inl here) _ = let last : r.last ≡ n = ap (λ (o : Returned). o.last) here.1 in absurd (omega arith)
-    by (inr past) more = more past.1
-return_of_ending lane n zero (Withdraws other ∷ events) r ends at =
-    let low = ending_last lane (n + 1) events r (ended_past_withdrawal lane other n events r ends).1 in
-    absurd (omega arith)
-return_of_ending lane n (suc k) (Withdraws other ∷ events) r ends at = return_of_ending lane (n + 1) k events r
-    (ended_past_withdrawal lane other n events r ends).1 (omega arith)
+    by : (m : ℕ) → r.last ≡ n + m → ((event ≡ Returns lane r.reply) × (r.last ≡ n)) ⊎
+        ((¬ IsEndOf lane event) × (ending_of lane (n + 1) events ≡ EndsReturned r)) →
+        ((j : ℕ) → ending_of lane (n + 1) events ≡ EndsReturned r → r.last ≡ n + 1 + j → IsReturnThere j events) →
+        IsReturnThere m (event ∷ events)
+    by zero last (inl here) more = (lane, (r.reply, ap (λ (e : Event). Some e) here.0))
+    by (suc m) last (inl here) more = absurd (omega (arith, last, here.1))
+    by zero last (inr past) more = absurd (omega (arith, last, ending_last lane (n + 1) events r past.1))
+    by (suc m) last (inr past) more = more m past.1 (omega (arith, last))
 
 return_of_entry : (n k : ℕ) (events : List Event) (e : Observation) (r : Returned) →
     Contains (entries_from n events) e → e.returned ≡ Some r → r.last ≡ n + k → IsReturnThere k events
@@ -477,16 +451,14 @@ take_twice zero events = refl
 take_twice (suc k) [] = refl
 take_twice (suc k) (x ∷ events) = ap (λ (es : List Event). x ∷ es) (take_twice k events)
 
-withdrawn_alone : {lane : ℕ} {event : Event} → IsWithdrawn lane (event ∷ []) → event ≡ Withdraws lane
-withdrawn_alone withdrawn_next = refl
-withdrawn_alone (withdrawn_past_beginning other call none) = absurd (withdrawn_none none)
-withdrawn_alone (withdrawn_past_return other reply apart none) = absurd (withdrawn_none none)
-withdrawn_alone (withdrawn_past_withdrawal other apart none) = absurd (withdrawn_none none)
+withdrawn_alone : {lane : ℕ} {event : Event} → EndsBy lane (Withdraws lane) (event ∷ []) → event ≡ Withdraws lane
+withdrawn_alone ends_next = refl
+withdrawn_alone (ends_later event not none) = elim none [ ]
 
-withdrawn_last : (k lane : ℕ) (events : List Event) → IsWithdrawn lane (drop k (take (suc k) events)) →
+withdrawn_last : (k lane : ℕ) (events : List Event) → EndsBy lane (Withdraws lane) (drop k (take (suc k) events)) →
     slice_get events k ≡ Some (Withdraws lane)
-withdrawn_last zero lane [] withdrawn = absurd (withdrawn_none withdrawn)
-withdrawn_last (suc k) lane [] withdrawn = absurd (withdrawn_none withdrawn)
+withdrawn_last zero lane [] withdrawn = elim withdrawn [ ]
+withdrawn_last (suc k) lane [] withdrawn = elim withdrawn [ ]
 withdrawn_last zero lane (x ∷ events) withdrawn = ap (λ (e : Event). Some e) (withdrawn_alone withdrawn)
 withdrawn_last (suc k) lane (x ∷ events) withdrawn = withdrawn_last k lane events withdrawn
 
@@ -495,7 +467,7 @@ stuck_as_seen limits events k form no_withdrawal = ((λ are. same.0 (shorter are
   where
     none_later : NoneIsWithdrawnLater k (take (k + 1) events)
     none_later lane busy withdrawn = no_withdrawal lane (withdrawn_last k lane events
-        (subst (λ (n : ℕ). IsWithdrawn lane (drop k (take n events))) (add-one k) withdrawn))
+        (subst (λ (n : ℕ). EndsBy lane (Withdraws lane) (drop k (take n events))) (add-one k) withdrawn))
 
     same : AreStuckAt limits (take (k + 1) events) k ↔
         IsStuckAtPosition (observed_of limits (take (k + 1) events)) k

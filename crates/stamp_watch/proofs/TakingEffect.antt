@@ -14,24 +14,26 @@ use Rattle.stamp_core.specs.declared.decision.Decision.{Decision}
 use Rattle.stamp_core.specs.LockDecision.{reply_as}
 use Rattle.stamp_core.specs.declared.call.Call.{Call}
 use Rattle.stamp_core.specs.declared.reply.Reply.{Reply}
-use Rattle.stamp_watch.specs.declared.event.Event.{Event}
+use Rattle.stamp_runs.specs.declared.event.Event.{Event}
+use Rattle.stamp_runs.specs.Object.{LockStep}
+use Rattle.stamp_runs.specs.Run.{Lanes, Leads, Sets, all_idle}
+use Rattle.stamp_runs.specs.LockRun.{Configuration}
+use Rattle.stamp_runs.specs.Run.Phase.{Asks, Gets}
+use Rattle.stamp_runs.specs.Run.Leads.{leads_nowhere, by_effect}
+use Rattle.stamp_runs.proofs.Lanes.{set_of, sets_of, leads_on}
 use Rattle.stamp_watch.specs.declared.ending.Ending.{Ending}
 use Rattle.stamp_watch.specs.declared.ending.Ending.TheVariants.{Returns, Withdraws, Never}
 use Rattle.stamp_watch.specs.declared.open_call.OpenCall.{OpenCall}
 use Rattle.stamp_watch.specs.declared.position.Position.{Position}
-use Rattle.stamp_watch.specs.LockCall.{call_as}
-use Rattle.stamp_watch.specs.Run.{Configuration, Lanes, Leads, LockStep, Sets, all_idle}
-use Rattle.stamp_watch.specs.Run.Phase.{Asks, Gets}
-use Rattle.stamp_watch.specs.Run.Leads.{leads_nowhere, by_effect}
+use Rattle.stamp_core.specs.LockCall.{call_as}
 use Rattle.stamp_watch.specs.Foretold.{open_at, EndsSo, MayGet, ComesAsTold}
 use Rattle.stamp_watch.specs.inner.Foretold.{IsReturn}
 use Rattle.stamp_watch.specs.Watch.{HasPhase, StandsFor, IsPossible, MayGoOn}
 use Rattle.stamp_watch.specs.inner.Lanes.{SetsBit}
-use Rattle.stamp_watch.specs.inner.Effect.{TakesEffectTo, IsEffect, IsUnchanging, Settles, IsFree}
-use Rattle.stamp_watch.specs.inner.Effect.{EffectGoesOn, IsAfterEffect}
+use Rattle.stamp_watch.specs.inner.Effect.{TakesEffectTo, IsEffect, IsUnchanging, Settles, IsFree, EffectGoesOn}
+use Rattle.stamp_watch.specs.inner.Effect.{IsAfterEffect}
 use Rattle.stamp_watch.proofs.CountingLanes.{lanes_in_more}
-use Rattle.stamp_watch.proofs.Surviving.{set_of, sets_of, at_once_loses_nothing}
-use Rattle.stamp_watch.proofs.StandingFor.{leads_on}
+use Rattle.stamp_watch.proofs.Surviving.{at_once_loses_nothing}
 use Rattle.stamp_watch.proofs.Tables.{one_open}
 use Rattle.stamp_watch.proofs.Foretelling.{Beside}
 use Rattle.stamp_watch.proofs.Standing.{stands_set, asks_at, AsksIn, asks_in}
@@ -123,10 +125,11 @@ beside_itself table lane = record { same = λ other apart. refl }
 
 -- one more effect at the end of a way
 effect_on : {limits : Bounds} {past : List Event} {s next : List LockEvent} {lanes after : Lanes} (lane : ℕ)
-    (call : Call) (reply : Reply) → Leads limits past [] all_idle s lanes → lanes lane ≡ Asks call →
-    LockStep limits s call reply next → Sets lanes after lane (Gets reply) → Leads limits past [] all_idle next after
+    (call : Call) (reply : Reply) → Leads (LockStep limits) past [] all_idle s lanes → lanes lane ≡ Asks call →
+    LockStep limits s call reply next → Sets lanes after lane (Gets reply) →
+    Leads (LockStep limits) past [] all_idle next after
 effect_on {limits} {past} {s} {next} {lanes} {after} lane call reply way asks step sets =
-    subst (λ (events : List Event). Leads limits events [] all_idle next after) (append-nil past)
+    subst (λ (events : List Event). Leads (LockStep limits) events [] all_idle next after) (append-nil past)
     (leads_on way (by_effect lane call reply asks step sets leads_nowhere))
 
 module _ (limits : Bounds) (table : List (Option OpenCall)) (p q : Position) (lane : ℕ) (o : OpenCall)

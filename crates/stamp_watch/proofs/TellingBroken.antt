@@ -4,14 +4,14 @@ use Rattle.std.specs.Prelude.{take, drop}
 use Rattle.std.proofs.lemmas.Bool.{cases_lt, cases_order}
 use Rattle.std.proofs.lemmas.List.{length-take-le, take-append-drop, take-take}
 use Rattle.stamp_core.specs.Limits.{Bounds}
-use Rattle.stamp_watch.specs.declared.event.Event.{Event}
+use Rattle.stamp_runs.specs.declared.event.Event.{Event}
+use Rattle.stamp_runs.specs.LockRun.{AreExplained}
 use Rattle.stamp_watch.specs.declared.late_verdict.LateVerdict.{LateVerdict}
 use Rattle.stamp_watch.specs.declared.late_verdict.LateVerdict.TheVariants.{Is, Late}
 use Rattle.stamp_watch.specs.declared.verdict.Verdict.{Verdict}
 use Rattle.stamp_watch.specs.declared.verdict.Verdict.TheVariants.{Explained, Stuck, StuckWithin, Undecided, Broken}
 use Rattle.stamp_watch.specs.declared.verdict.Why.TheVariants.{TooMany, TooFar}
 use Rattle.stamp_watch.specs.Late.{IsLateVerdict}
-use Rattle.stamp_watch.specs.Run.{AreExplained}
 use Rattle.stamp_watch.specs.Verdict.{AreBrokenAt, AreOfLock, IsVerdict}
 use Rattle.stamp_watch.specs.WatchLaws.{BrokenIsTold, BrokenIsToldLate, GivesUpBefore, IsLateBefore}
 use Rattle.stamp_watch.proofs.Forming.{of_lock_up_to}

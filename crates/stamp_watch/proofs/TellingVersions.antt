@@ -15,17 +15,17 @@ use Rattle.stamp_core.specs.declared.call.Call.TheVariants.{Optimistic, ReadLock
 use Rattle.stamp_core.specs.declared.layout.Layout.{Layout}
 use Rattle.stamp_core.specs.declared.reply.Reply.TheVariants.{Stamp}
 use Rattle.stamp_core.proofs.TwoLayouts.{either_layout}
+use Rattle.stamp_runs.specs.Run.{lane_of}
+use Rattle.stamp_runs.specs.declared.event.Event.{Event}
+use Rattle.stamp_runs.specs.declared.event.Event.TheVariants.{Begins, Returns}
+use Rattle.stamp_runs.specs.Run.EndsBy.{ends_next, ends_later}
+use Rattle.stamp_runs.specs.Object.{LockStep}
 use Rattle.stamp_watch.specs.Issued.{IsReading, IsWriting, IssuesOf, IssuesOlder, ReturnsOlder}
-use Rattle.stamp_watch.specs.Ahead.{IsSpared, lane_of}
-use Rattle.stamp_watch.specs.declared.event.Event.{Event}
-use Rattle.stamp_watch.specs.declared.event.Event.TheVariants.{Begins, Returns}
-use Rattle.stamp_watch.specs.Ahead.Tells.{tells_next}
-use Rattle.stamp_watch.specs.LateLaws.{LateStampLosesNothing, StampTellsVersion}
-use Rattle.stamp_watch.specs.LateLaws.{TellsOlder}
-use Rattle.stamp_watch.specs.Run.{LockStep}
+use Rattle.stamp_watch.specs.Ahead.{IsSpared}
+use Rattle.stamp_watch.specs.LateLaws.{LateStampLosesNothing, StampTellsVersion, TellsOlder}
 use Rattle.stamp_watch.proofs.BeginningLate.{writes-append}
-use Rattle.stamp_watch.proofs.HandingOn.{never_among}
-use Rattle.stamp_watch.proofs.LosingNothing.{late_loses_nothing, told_behind}
+use Rattle.stamp_watch.proofs.Ways.{never_among, ends_past}
+use Rattle.stamp_watch.proofs.LosingNothing.{late_loses_nothing}
 
 same_stamp : {a b : ℕ} → Stamp a ≡ Stamp b → a ≡ b
 same_stamp is = cc
@@ -241,9 +241,9 @@ older_told limits version events range is = record {
   events_are = is.events_are ∙ ap (λ (xs : List Event). is.before ++ is.begun ∷ xs) one.behind_is ∙
       ap (λ (e : Event). is.before ++ e ∷ (one.between ++ one.end ∷ one.rest)) issued.begins ∙
       ap (λ (e : Event). is.before ++ Begins issued.lane issued.call ∷ (one.between ++ e ∷ one.rest)) issued.returns;
-  tells = told_behind (Returns issued.lane (Stamp issued.stamp) ∷ one.rest)
+  tells = ends_past one.between (Returns issued.lane (Stamp issued.stamp) ∷ one.rest)
       (never_among issued.lane one.between (subst (IsSpared one.between) (ap lane_of issued.begins) one.spared))
-      tells_next;
+      ends_next;
   older = λ u v step. subst (λ (k : ℕ). k < version)
       (sym (stamp_tells_version limits issued.call issued.stamp one.of u v range issued.issues issued.is_of step))
       one.older;

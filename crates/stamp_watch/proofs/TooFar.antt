@@ -3,21 +3,21 @@ use Rattle.std.proofs.Common.{ℕ, zero, suc, ◌≡◌, ◌+◌, ◌-◌, ◌<�
 use Rattle.std.proofs.Common.{◌∙◌}
 use Rattle.std.proofs.Common.{ap, subst, arith}
 use Rattle.std.specs.Prelude.{take, drop}
+use Rattle.std.proofs.lemmas.List.Elements.{All-take}
 use Rattle.std.proofs.lemmas.List.{take-append-le, drop-append-le, length-append, length-drop}
 use Rattle.stamp_core.specs.Limits.{Bounds}
-use Rattle.stamp_watch.specs.declared.event.Event.{Event}
-use Rattle.stamp_watch.specs.declared.event.Event.TheVariants.{Begins, Returns, Withdraws}
+use Rattle.stamp_runs.specs.declared.event.Event.{Event}
+use Rattle.stamp_runs.specs.declared.event.Event.TheVariants.{Begins, Returns, Withdraws}
+use Rattle.stamp_runs.specs.Run.{IsEndOf, EndsNever}
+use Rattle.stamp_runs.specs.LockRun.{AreExplained}
 use Rattle.stamp_watch.specs.declared.ending.Ending.{Ending}
 use Rattle.stamp_watch.specs.declared.ending.Ending.TheVariants.{Never}
 use Rattle.stamp_watch.specs.declared.verdict.Verdict.TheVariants as verdict
 use Rattle.stamp_watch.specs.declared.verdict.Why.TheVariants as cause
 use Rattle.stamp_watch.specs.declared.watch.Watch.{Watch}
-use Rattle.stamp_watch.specs.Ahead.{EndsNever}
-use Rattle.stamp_watch.specs.Ahead.EndsNever.{never_more, not_beginning, not_returning, not_withdrawing}
 use Rattle.stamp_watch.specs.Foretold.{ends_as}
 use Rattle.stamp_watch.specs.Judging.{IsFound}
 use Rattle.stamp_watch.specs.Course.{IsRunOn}
-use Rattle.stamp_watch.specs.Run.{AreExplained}
 use Rattle.stamp_watch.specs.SoFar.{BeginWithOpenCall, IsUnended}
 use Rattle.stamp_watch.specs.Verdict.{AreOfLock, IsOpenFor}
 use Rattle.stamp_watch.specs.inner.Judging.{IsEndTold}
@@ -26,17 +26,6 @@ use Rattle.stamp_watch.proofs.Judging.{ends_so}
 use Rattle.stamp_watch.proofs.LettingGo.{run_behind, run_length}
 use Rattle.stamp_watch.proofs.Reading.{drop_read}
 use Rattle.stamp_watch.proofs.Running.{cut_run, front_of_run, next_of_run}
-use Rattle.stamp_watch.proofs.Surviving.{never_past_beginning, never_past_return, never_past_withdrawal}
-
-never_up_to : (lane k : ℕ) (events : List Event) → EndsNever lane events → EndsNever lane (take k events)
-never_up_to lane zero events never = never_more
-never_up_to lane (suc k) [] never = never_more
-never_up_to lane (suc k) (Begins other call ∷ events) never =
-    not_beginning other call (never_up_to lane k events (never_past_beginning never))
-never_up_to lane (suc k) (Returns other reply ∷ events) never = not_returning other reply (never_past_return never).0
-    (never_up_to lane k events (never_past_return never).1)
-never_up_to lane (suc k) (Withdraws other ∷ events) never = not_withdrawing other (never_past_withdrawal never).0
-    (never_up_to lane k events (never_past_withdrawal never).1)
 
 unended : (e : Event) (n : ℕ) (ends : Ending) (behind : List Event) → IsUnknown e ends → IsEndTold e n behind ends →
     IsUnended e behind
@@ -61,7 +50,8 @@ open_for (Begins lane call) n k ahead ends run behind more never told there many
   many = let long : length (behind ++ more) ≡ length behind + length more = length-append behind more in
       omega (arith, long, many);
   never = subst (EndsNever lane) (sym (take-append-le ahead behind more many))
-      (never_up_to lane ahead behind (ends_so lane n behind Never (sym (ap ends_as never) ∙ told)));
+      (All-take (λ (e : Event). ¬ IsEndOf lane e) ahead behind
+      (ends_so lane n behind Never (sym (ap ends_as never) ∙ told)));
 }
 open_for (Returns lane reply) n k ahead ends run behind more never told there many = absurd never
 open_for (Withdraws lane) n k ahead ends run behind more never told there many = absurd never
@@ -87,7 +77,8 @@ module _ (limits : Bounds) (run : List Event) (first seen : ℕ) (events : List 
     subst (AreExplained limits) (sym (cut_run limits run first seen events base watch is seen more is.within))
         is.now.judging.explained,
     (
-      open_for e n (first + seen) ahead ends (run ++ more) (drop (seen + 1) events) more unknown told (there more) many,
+      open_for e n (first + seen) ahead ends (run ++ more) (drop (seen + 1) events) more unknown told (there more)
+          many,
       subst (λ (m : ℕ). AreOfLock (take m (run ++ more))) place
           (front_of_run limits run first seen events base watch is (seen + 1 + ahead) more
           (let long : length (drop (seen + 1) events) ≡ length events - (seen + 1) = length-drop (seen + 1) events in

@@ -15,12 +15,12 @@ use Rattle.stamp_core.specs.LockDecision.{reply_as}
 use Rattle.stamp_core.specs.declared.lock_decision.LockReply.{LockReply}
 use Rattle.stamp_core.specs.declared.lock_decision.LockReply.TheVariants as lock
 use Rattle.stamp_core.specs.declared.reply.Reply.{Reply}
+use Rattle.stamp_runs.specs.declared.event.Event.{Event}
+use Rattle.stamp_runs.specs.declared.event.Event.TheVariants.{Returns}
+use Rattle.stamp_runs.specs.LockRun.{AreExplained}
 use Rattle.stamp_watch.specs.declared.course.Course.{Course}
-use Rattle.stamp_watch.specs.declared.event.Event.{Event}
-use Rattle.stamp_watch.specs.declared.event.Event.TheVariants.{Returns}
 use Rattle.stamp_watch.specs.declared.online.Judge.{Judge}
 use Rattle.stamp_watch.specs.Possible.{AreTooManyFor, IsKept, IsPossibleReply, KeepsBase}
-use Rattle.stamp_watch.specs.Run.{AreExplained}
 use Rattle.stamp_watch.specs.Verdict.{AreOfLock, AreTooMany, IsOfLock, is_lock_reply}
 use Rattle.stamp_watch.specs.inner.Possible.{IsReturnFor, IsReturnHere}
 use Rattle.stamp_watch.specs.Judging.{IsJudging}

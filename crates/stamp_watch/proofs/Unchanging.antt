@@ -11,7 +11,7 @@ use Rattle.stamp_core.specs.declared.reply.Reply.{Reply}
 use Rattle.stamp_explain.specs.Search.{LockState, after_call}
 use Rattle.stamp_explain.specs.Unchanging.{changes_nothing}
 use Rattle.stamp_explain.proofs.Staying.{unchanging_calls_change_nothing}
-use Rattle.stamp_watch.specs.Run.{LockStep}
+use Rattle.stamp_runs.specs.Object.{LockStep}
 use Rattle.stamp_watch.proofs.Planning.{lock_replies}
 
 pub unchanging_stays : (limits : Bounds) (call : Call) (reply : Reply) → changes_nothing call reply ≡ true →

@@ -10,18 +10,18 @@ use Rattle.std.proofs.lemmas.List.{length-drop, length_push}
 use Rattle.std.proofs.lemmas.List.Elements.{All-append, All-drop, All-head, All-nil, All-push, All-tail, All-take}
 use Rattle.std.proofs.Math.Seq.{drop-append_seam, get_or-append_seam}
 use Rattle.stamp_core.specs.Limits.{Bounds}
-use Rattle.stamp_watch.specs.declared.event.Event.{Event}
-use Rattle.stamp_watch.specs.declared.event.Event.TheVariants.{Begins, Returns, Withdraws}
-use Rattle.stamp_watch.specs.Ahead.{EndsNever, IsSpared, lane_of}
+use Rattle.stamp_runs.specs.declared.event.Event.{Event}
+use Rattle.stamp_runs.specs.declared.event.Event.TheVariants.{Begins, Returns, Withdraws}
+use Rattle.stamp_runs.specs.Run.{lane_of, EndsNever}
+use Rattle.stamp_watch.specs.Ahead.{IsSpared}
 use Rattle.stamp_watch.specs.Delay.{AreLate, HasEndedBy, HasEndedLate, HasEndedSo, HasEndedUnshown, IsBeginning}
 use Rattle.stamp_watch.specs.Delay.{IsPending}
 use Rattle.stamp_watch.specs.Issued.{LosesNothing}
 use Rattle.stamp_watch.specs.Late.{EndsBehind, OneIsUnshown, last_of}
 use Rattle.stamp_watch.specs.Verdict.{IsOpenFor}
 use Rattle.stamp_watch.specs.inner.Delay.{IsSettled}
-use Rattle.stamp_watch.proofs.HandingOn.{never_of_spared}
+use Rattle.stamp_watch.proofs.Ways.{never_of_spared, first_same, rest_same}
 use Rattle.stamp_watch.proofs.LongCalls.{open_still}
-use Rattle.stamp_watch.proofs.StandingFor.{first_same, rest_same}
 
 -- the first event of a lane, and those before it, are the same
 same_first : (xs ys : List Event) (x y : Event) (rx ry : List Event) (lane : ℕ) → xs ++ x ∷ rx ≡ ys ++ y ∷ ry →

@@ -6,15 +6,15 @@ use Rattle.stamp_explain.specs.declared.observed.Observation.{Observation}
 use Rattle.stamp_explain.specs.declared.observed.Returned.{Returned}
 use Rattle.stamp_explain.specs.Observed.{ObservedHistory, observed_as}
 use Rattle.stamp_explain.specs.Cut.{IsStuck}
-use Rattle.stamp_watch.specs.declared.event.Event.{Event}
-use Rattle.stamp_watch.specs.declared.event.Event.TheVariants.{Begins, Returns, Withdraws}
-use Rattle.stamp_watch.specs.Ahead.{IsWithdrawn}
+use Rattle.stamp_runs.specs.declared.event.Event.{Event}
+use Rattle.stamp_runs.specs.declared.event.Event.TheVariants.{Begins, Returns, Withdraws}
+use Rattle.stamp_runs.specs.Run.{EndsBy}
 use Rattle.stamp_watch.specs.Form.{is_busy_after}
 
 -- how a call ends: not yet; by its return; it is withdrawn
 pub data Ending : Type 0 where
   StaysOpen : Ending
-  EndsBy : Returned → Ending
+  EndsReturned : Returned → Ending
   EndsWithdrawn : Ending
 
 -- how the open call of this lane ends among these events, the first of which has this number
@@ -22,7 +22,7 @@ abbrev pub ending_of : ℕ → ℕ → List Event → Ending
 ending_of lane n [] = StaysOpen
 ending_of lane n (Begins other call ∷ events) = ending_of lane (n + 1) events
 ending_of lane n (Returns other reply ∷ events) =
-    if other == lane then EndsBy (record { last = n; reply = reply }) else ending_of lane (n + 1) events
+    if other == lane then EndsReturned (record { last = n; reply = reply }) else ending_of lane (n + 1) events
 ending_of lane n (Withdraws other ∷ events) =
     if other == lane then EndsWithdrawn else ending_of lane (n + 1) events
 
@@ -34,7 +34,7 @@ pub record AreEnded (n : ℕ) (past future : List Event) : Type 0 where
 abbrev pub with_entry : ℕ → Call → ℕ → Ending → List Observation → List Observation
 with_entry lane call n StaysOpen entries =
     record { thread = lane; call = call; first = n; returned = None } ∷ entries
-with_entry lane call n (EndsBy r) entries =
+with_entry lane call n (EndsReturned r) entries =
     record { thread = lane; call = call; first = n; returned = Some r } ∷ entries
 with_entry lane call n EndsWithdrawn entries = entries
 
@@ -59,4 +59,4 @@ pub record IsStuckAtPosition (h : ObservedHistory) (position : ℕ) : Type 0 whe
 -- none of the calls that are open after k events is withdrawn later
 abbrev pub NoneIsWithdrawnLater : ℕ → List Event → Type 0
 NoneIsWithdrawnLater k events =
-    (lane : ℕ) → is_busy_after (take k events) lane ≡ true → ¬ IsWithdrawn lane (drop k events)
+    (lane : ℕ) → is_busy_after (take k events) lane ≡ true → ¬ EndsBy lane (Withdraws lane) (drop k events)

@@ -1,18 +1,18 @@
 -- What is kept of a run while it is judged, event by event.
 use Rattle.std.specs.Prelude.{ℕ, ◌≡◌, ◌+◌, ◌^◌, ◌<◌, ◌≤◌, ◌++◌, List, [], ◌∷◌, length, take, drop, Option, Some}
 use Rattle.stamp_core.specs.Limits.{Bounds}
-use Rattle.stamp_watch.specs.declared.event.Event.{Event}
-use Rattle.stamp_watch.specs.declared.event.Event.TheVariants.{Begins, Returns, Withdraws}
+use Rattle.stamp_runs.specs.declared.event.Event.{Event}
+use Rattle.stamp_runs.specs.declared.event.Event.TheVariants.{Begins, Returns, Withdraws}
+use Rattle.stamp_runs.specs.Run.{EndsNever}
+use Rattle.stamp_runs.specs.LockRun.{AreExplained}
 use Rattle.stamp_watch.specs.declared.course.Course.{Course}
 use Rattle.stamp_watch.specs.declared.ended_call.EndedCall.{EndedCall}
 use Rattle.stamp_watch.specs.declared.verdict.Verdict.{Verdict}
 use Rattle.stamp_watch.specs.declared.verdict.Verdict.TheVariants as verdict
 use Rattle.stamp_watch.specs.declared.verdict.Why.TheVariants as cause
 use Rattle.stamp_watch.specs.declared.watch.Watch.{Watch}
-use Rattle.stamp_watch.specs.Ahead.{EndsNever}
 use Rattle.stamp_watch.specs.AsObserved.{AreEnded}
 use Rattle.stamp_watch.specs.EndedCall.{ended_from}
-use Rattle.stamp_watch.specs.Run.{AreExplained}
 use Rattle.stamp_watch.specs.SoFar.{BeginWithOpenCall}
 use Rattle.stamp_watch.specs.Verdict.{AreOfLock, IsVerdict, NoMoreAreOfLock}
 use Rattle.stamp_watch.specs.Judging.{IsFound, IsJudging}

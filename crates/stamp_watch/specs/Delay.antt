@@ -4,15 +4,16 @@ use Rattle.std.specs.Prelude.{Option, Some, None}
 use Rattle.std.specs.List.{All, AllPairs}
 use Rattle.stamp_core.specs.Limits.{Bounds}
 use Rattle.stamp_core.specs.declared.call.Call.{Call}
-use Rattle.stamp_watch.specs.Ahead.{EndsNever, IsSpared, lane_of}
+use Rattle.stamp_runs.specs.Run.{IsEndOf, lane_of, EndsNever}
+use Rattle.stamp_runs.specs.declared.event.Event.{Event}
+use Rattle.stamp_runs.specs.declared.event.Event.TheVariants.{Begins, Returns, Withdraws}
+use Rattle.stamp_runs.specs.LockRun.{AreExplained}
+use Rattle.stamp_watch.specs.Ahead.{IsSpared}
 use Rattle.stamp_watch.specs.declared.delay.Delay.{Delay}
-use Rattle.stamp_watch.specs.declared.event.Event.{Event}
-use Rattle.stamp_watch.specs.declared.event.Event.TheVariants.{Begins, Returns, Withdraws}
 use Rattle.stamp_watch.specs.Judge.{IsJudge}
 use Rattle.stamp_watch.specs.Issued.{LosesNothing}
 use Rattle.stamp_watch.specs.Late.{BeginsLater, EndsBehind, IsLongCall, LongCallsBeginLater, last_of}
 use Rattle.stamp_watch.specs.Possible.{KeepsBase}
-use Rattle.stamp_watch.specs.Run.{AreExplained}
 use Rattle.stamp_watch.specs.Verdict.{AreOfLock, IsOpenFor}
 use Rattle.stamp_watch.specs.Waiting.{IsCounted, count_of}
 
@@ -122,12 +123,6 @@ pub record AreLate (limits : Bounds) (run aside waiting : List Event) (window : 
   pub pending : All (IsPending run window) aside
   pub full : aside ≢ [] → window ≤ length waiting
   pub ended : HasEndedSo limits run window shown
-
--- the event ends a call of this lane
-abbrev pub IsEndOf : ℕ → Event → Type 0
-IsEndOf lane (Begins other call) = ⊥
-IsEndOf lane (Returns other reply) = other ≡ lane
-IsEndOf lane (Withdraws other) = other ≡ lane
 
 -- a call of this lane began before these events. Its end waits, and fewer events than so many come before that: these,
 -- those that are aside, and those that wait before it

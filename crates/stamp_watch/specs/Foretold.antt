@@ -4,13 +4,14 @@ use Rattle.std.specs.Int.{bit_at}
 use Rattle.stamp_core.specs.LockDecision.{reply_as}
 use Rattle.stamp_core.specs.declared.lock_decision.LockReply.{LockReply}
 use Rattle.stamp_core.specs.declared.reply.Reply.{Reply}
-use Rattle.stamp_watch.specs.declared.event.Event.{Event}
+use Rattle.stamp_runs.specs.declared.event.Event.{Event}
+use Rattle.stamp_runs.specs.declared.event.Event.TheVariants as event
+use Rattle.stamp_runs.specs.Run.{EndsBy, ReturnsSooner, EndsNever}
 use Rattle.stamp_watch.specs.declared.ending.Ending.{Ending}
 use Rattle.stamp_watch.specs.declared.ending.Ending.TheVariants.{Returns, Withdraws, Never}
 use Rattle.stamp_watch.specs.declared.open_call.OpenCall.{OpenCall}
-use Rattle.stamp_watch.specs.Ahead.{Tells, IsWithdrawn, EndsNever, ReturnsSooner}
 use Rattle.stamp_watch.specs.AsObserved as observed
-use Rattle.stamp_watch.specs.AsObserved.Ending.{StaysOpen, EndsBy, EndsWithdrawn}
+use Rattle.stamp_watch.specs.AsObserved.Ending.{StaysOpen, EndsReturned, EndsWithdrawn}
 
 -- the open call of a lane, if it has one
 abbrev pub open_in : Option (Option OpenCall) → Option OpenCall
@@ -26,14 +27,14 @@ pub record HasEachOpen (table : List (Option OpenCall)) (lanes : ℕ) : Type 0 w
 
 -- the end of a call as its entry tells it
 abbrev pub ends_as : Ending → observed.Ending
-ends_as (Returns told place) = EndsBy (record { last = place; reply = reply_as told })
+ends_as (Returns told place) = EndsReturned (record { last = place; reply = reply_as told })
 ends_as Withdraws = EndsWithdrawn
 ends_as Never = StaysOpen
 
 -- the next end of this lane's call is this one
 abbrev pub EndsSo : ℕ → Ending → List Event → Type 0
-EndsSo lane (Returns told place) events = Tells lane (reply_as told) events
-EndsSo lane Withdraws events = IsWithdrawn lane events
+EndsSo lane (Returns told place) events = EndsBy lane (event.Returns lane (reply_as told)) events
+EndsSo lane Withdraws events = EndsBy lane (event.Withdraws lane) events
 EndsSo lane Never events = EndsNever lane events
 
 -- a call that ends so may be given this reply: the one with which it returns; none, if it is withdrawn; any, if it

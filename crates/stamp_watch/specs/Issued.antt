@@ -5,9 +5,10 @@ use Rattle.stamp_core.specs.Stamp.{IsStamp}
 use Rattle.stamp_core.specs.declared.call.Call.{Call}
 use Rattle.stamp_core.specs.declared.call.Call.TheVariants.{Optimistic, ReadLock, TryRead, TryWrite, WriteLock}
 use Rattle.stamp_core.specs.declared.reply.Reply.TheVariants.{Stamp}
-use Rattle.stamp_watch.specs.declared.event.Event.{Event}
-use Rattle.stamp_watch.specs.declared.event.Event.TheVariants.{Begins, Returns}
-use Rattle.stamp_watch.specs.Ahead.{IsSpared, lane_of}
+use Rattle.stamp_runs.specs.declared.event.Event.{Event}
+use Rattle.stamp_runs.specs.declared.event.Event.TheVariants.{Begins, Returns}
+use Rattle.stamp_runs.specs.Run.{lane_of}
+use Rattle.stamp_watch.specs.Ahead.{IsSpared}
 
 -- the call acquires write mode
 abbrev pub IsWriting : Call → Type 0

@@ -2,9 +2,9 @@
 use Rattle.std.specs.Prelude.{ℕ, ◌-◌, ◌≡◌, ◌+◌, ◌^◌, ◌<◌, ◌≤◌, ◌++◌, List, [], ◌∷◌, length}
 use Rattle.std.specs.Prelude.{⊤, Option, None, IfSome, MatchOption}
 use Rattle.stamp_core.specs.Limits.{Bounds}
+use Rattle.stamp_runs.specs.declared.event.Event.{Event}
 use Rattle.stamp_watch.specs.declared.course.Course.{Course}
 use Rattle.stamp_watch.specs.declared.delay.Delay.{Delay}
-use Rattle.stamp_watch.specs.declared.event.Event.{Event}
 use Rattle.stamp_watch.specs.declared.late_verdict.LateVerdict.{LateVerdict}
 use Rattle.stamp_watch.specs.declared.late_verdict.LateVerdict.TheVariants.{Is, Late}
 use Rattle.stamp_watch.specs.declared.late.LateJudge.{LateJudge}

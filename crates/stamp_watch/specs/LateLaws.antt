@@ -6,12 +6,13 @@ use Rattle.stamp_core.specs.Stamp.{IsStamp}
 use Rattle.stamp_core.specs.declared.call.Call.{Call}
 use Rattle.stamp_core.specs.declared.reply.Reply.{Reply}
 use Rattle.stamp_core.specs.declared.reply.Reply.TheVariants.{Stamp}
-use Rattle.stamp_watch.specs.declared.event.Event.{Event}
-use Rattle.stamp_watch.specs.declared.event.Event.TheVariants.{Begins}
-use Rattle.stamp_watch.specs.Ahead.{EndsNever, Tells}
+use Rattle.stamp_runs.specs.declared.event.Event.{Event}
+use Rattle.stamp_runs.specs.declared.event.Event.TheVariants.{Begins, Returns}
+use Rattle.stamp_runs.specs.Run.{EndsBy, EndsNever, Lanes, Survives}
+use Rattle.stamp_runs.specs.Object.{LockStep}
+use Rattle.stamp_runs.specs.LockRun.{AreExplained}
 use Rattle.stamp_watch.specs.Form.{is_busy_after}
 use Rattle.stamp_watch.specs.Issued.{IssuesStamp, ReturnsOlder}
-use Rattle.stamp_watch.specs.Run.{AreExplained, Lanes, LockStep, Survives}
 
 -- with this reply the call has taken effect where no fewer acquisitions of write mode were made
 abbrev pub TellsAtLeast : Bounds → Call → Reply → ℕ → Type 0
@@ -31,20 +32,20 @@ pub record TellsOlder (limits : Bounds) (version : ℕ) (events : List Event) : 
   pub call : Call
   pub reply : Reply
   pub events_are : events ≡ before ++ Begins lane call ∷ behind
-  pub tells : Tells lane reply behind
+  pub tells : EndsBy lane (Returns lane reply) behind
   pub older : TellsLess limits call reply version
 
 -- Such events go on only from an older version, since versions never fall.
 abbrev pub OlderIsTold : Type 0
 OlderIsTold =
     (limits : Bounds) (version : ℕ) (events : List Event) (s : List LockEvent) (lanes : Lanes) →
-    TellsOlder limits version events → Survives limits events s lanes → write_count s < version
+    TellsOlder limits version events → Survives (LockStep limits) events s lanes → write_count s < version
 
 -- So nothing is lost if a call begins later, before events that tell an older version than its own reply tells.
 abbrev pub LateLosesNothing : Type 0
 LateLosesNothing =
     (limits : Bounds) (lane : ℕ) (call : Call) (reply : Reply) (version : ℕ) (past between rest : List Event) →
-    is_busy_after past lane ≡ false → EndsNever lane between → Tells lane reply rest →
+    is_busy_after past lane ≡ false → EndsNever lane between → EndsBy lane (Returns lane reply) rest →
     TellsAtLeast limits call reply version → TellsOlder limits version rest →
     AreExplained limits (past ++ (Begins lane call ∷ between ++ rest)) →
     AreExplained limits (past ++ (between ++ Begins lane call ∷ rest))
@@ -61,6 +62,6 @@ abbrev pub LateStampLosesNothing : Type 0
 LateStampLosesNothing =
     (limits : Bounds) (lane : ℕ) (call : Call) (stamp version : ℕ) (past between rest : List Event) →
     AreInRange limits → IssuesStamp call → IsStamp (units limits) version stamp → is_busy_after past lane ≡ false →
-    EndsNever lane between → Tells lane (Stamp stamp) rest → ReturnsOlder limits version rest →
+    EndsNever lane between → EndsBy lane (Returns lane (Stamp stamp)) rest → ReturnsOlder limits version rest →
     AreExplained limits (past ++ (Begins lane call ∷ between ++ rest)) →
     AreExplained limits (past ++ (between ++ Begins lane call ∷ rest))

@@ -1,5 +1,4 @@
 pub mod inner
-pub mod LockCall
 pub mod Stream
 pub mod EndedCall
 pub mod Start
@@ -12,7 +11,6 @@ pub mod Judge
 pub mod SoFar
 pub mod Possible
 pub mod PossibleLate
-pub mod Run
 pub mod Ahead
 pub mod Form
 pub mod Watching

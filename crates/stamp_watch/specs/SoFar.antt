@@ -2,11 +2,11 @@
 use Rattle.std.specs.Prelude.{ℕ, ◌+◌, ◌≤◌, List, [], ◌∷◌, length, take, if◌then◌else◌}
 use Rattle.std.proofs.Common.{zero, suc}
 use Rattle.stamp_core.specs.Limits.{Bounds}
-use Rattle.stamp_watch.specs.Ahead.{EndsNever}
-use Rattle.stamp_watch.specs.declared.event.Event.{Event}
-use Rattle.stamp_watch.specs.declared.event.Event.TheVariants.{Begins, Returns, Withdraws}
+use Rattle.stamp_runs.specs.Run.{EndsNever}
+use Rattle.stamp_runs.specs.declared.event.Event.{Event}
+use Rattle.stamp_runs.specs.declared.event.Event.TheVariants.{Begins, Returns, Withdraws}
+use Rattle.stamp_runs.specs.LockRun.{AreExplained}
 use Rattle.stamp_watch.specs.Form.{is_busy_after}
-use Rattle.stamp_watch.specs.Run.{AreExplained}
 
 -- so many of the events are explained, and no more come behind them than are looked at for the end of a call
 pub record IsExplainedUpTo (limits : Bounds) (run : List Event) (ahead k : ℕ) : Type 0 where

@@ -9,7 +9,7 @@ use Rattle.stamp_watch.specs.declared.open_call.OpenCall.{OpenCall}
 use Rattle.stamp_watch.specs.declared.position.Position.{Position}
 use Rattle.stamp_watch.specs.declared.watch.Watch.{Watch}
 use Rattle.stamp_watch.specs.Foretold.{open_at}
-use Rattle.stamp_watch.specs.LockCall.{call_as}
+use Rattle.stamp_core.specs.LockCall.{call_as}
 
 -- the starts of a watch are its positions
 abbrev pub position_of : Watch → ℕ → Option Position

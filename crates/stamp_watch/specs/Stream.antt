@@ -2,11 +2,11 @@
 use Rattle.std.specs.Prelude.{◌≡◌, ◌<◌, true}
 use Rattle.stamp_core.specs.Call.{is_lock_call}
 use Rattle.stamp_core.specs.LockDecision.{reply_as}
-use Rattle.stamp_watch.specs.declared.event.Event.{Event}
-use Rattle.stamp_watch.specs.declared.event.Event.TheVariants.{Begins, Returns, Withdraws}
+use Rattle.stamp_runs.specs.declared.event.Event.{Event}
+use Rattle.stamp_runs.specs.declared.event.Event.TheVariants.{Begins, Returns, Withdraws}
 use Rattle.stamp_watch.specs.declared.stream_event.SmallEvent.{SmallEvent}
 use Rattle.stamp_watch.specs.declared.stream_event.SmallEvent.TheVariants as small
-use Rattle.stamp_watch.specs.LockCall.{call_as}
+use Rattle.stamp_core.specs.LockCall.{call_as}
 use Rattle.stamp_watch.specs.Verdict.{is_lock_reply}
 
 -- the event that these few bytes are

@@ -6,18 +6,18 @@ use Rattle.stamp_core.specs.Limits.{Bounds}
 use Rattle.stamp_core.specs.declared.call.Call.{Call}
 use Rattle.stamp_core.specs.declared.reply.Reply.{Reply}
 use Rattle.stamp_core.specs.declared.reply.Reply.TheVariants.{Content}
-use Rattle.stamp_watch.specs.declared.event.Event.{Event}
-use Rattle.stamp_watch.specs.declared.event.Event.TheVariants.{Begins, Returns, Withdraws}
+use Rattle.stamp_runs.specs.declared.event.Event.{Event}
+use Rattle.stamp_runs.specs.declared.event.Event.TheVariants.{Begins, Returns, Withdraws}
+use Rattle.stamp_runs.specs.Run.{EndsNever}
+use Rattle.stamp_runs.specs.LockRun.{AreExplained, AreStuckAt}
 use Rattle.stamp_watch.specs.declared.open_call.OpenCall.{OpenCall}
 use Rattle.stamp_watch.specs.declared.verdict.Verdict.{Verdict}
 use Rattle.stamp_watch.specs.declared.verdict.Verdict.TheVariants.{Explained, Stuck, StuckWithin, Undecided, Broken}
 use Rattle.stamp_watch.specs.declared.verdict.Why.TheVariants.{TooMany, TooFar}
 use Rattle.stamp_watch.specs.declared.watch.Watch.{Watch}
-use Rattle.stamp_watch.specs.Ahead.{EndsNever}
 use Rattle.stamp_watch.specs.AsObserved.{AreEnded, ending_of}
 use Rattle.stamp_watch.specs.Foretold.{ends_as, open_at}
 use Rattle.stamp_watch.specs.Form.{AreInForm}
-use Rattle.stamp_watch.specs.Run.{AreExplained, AreStuckAt}
 use Rattle.stamp_watch.specs.Watch.{IsWatching, MoreArePossible}
 
 -- all replies but the words of a record are the lock's

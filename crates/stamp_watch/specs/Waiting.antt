@@ -1,8 +1,8 @@
 -- How many events of each lane wait.
 use Rattle.std.specs.Prelude.{ℕ, ◌≡◌, ◌<◌, ◌==◌, List, length, slice_index_or}
 use Rattle.std.specs.List.{All, count_by}
-use Rattle.stamp_watch.specs.Ahead.{lane_of}
-use Rattle.stamp_watch.specs.declared.event.Event.{Event}
+use Rattle.stamp_runs.specs.Run.{lane_of}
+use Rattle.stamp_runs.specs.declared.event.Event.{Event}
 use Rattle.stamp_watch.specs.declared.waiting.Waiting.{Waiting}
 
 -- so many of these events are of the lane

@@ -10,8 +10,12 @@ use Rattle.stamp_core.specs.LockDecision.{reply_as}
 use Rattle.stamp_core.specs.declared.call.Call.{Call}
 use Rattle.stamp_core.specs.declared.reply.Reply.{Reply}
 use Rattle.stamp_core.specs.declared.lock_decision.LockReply.{LockReply}
-use Rattle.stamp_watch.specs.declared.event.Event.{Event}
-use Rattle.stamp_watch.specs.declared.event.Event.TheVariants.{Begins, Returns, Withdraws}
+use Rattle.stamp_runs.specs.declared.event.Event.{Event}
+use Rattle.stamp_runs.specs.declared.event.Event.TheVariants.{Begins, Returns, Withdraws}
+use Rattle.stamp_runs.specs.Object.{LockStep}
+use Rattle.stamp_runs.specs.Run.{Phase, Survives}
+use Rattle.stamp_runs.specs.LockRun.{Configuration, IsPossibleAfter, AreExplained}
+use Rattle.stamp_runs.specs.Run.Phase.{Idle, Asks, Gets}
 use Rattle.stamp_watch.specs.declared.ending.Ending.{Ending}
 use Rattle.stamp_watch.specs.declared.ending.Ending.TheVariants as ending
 use Rattle.stamp_watch.specs.declared.open_call.OpenCall.{OpenCall}
@@ -19,9 +23,7 @@ use Rattle.stamp_watch.specs.declared.position.Position.{Position}
 use Rattle.stamp_watch.specs.declared.progress.Progress.{Progress}
 use Rattle.stamp_watch.specs.declared.progress.Progress.TheVariants.{Going, Dead, TooMany, Refused}
 use Rattle.stamp_watch.specs.declared.watch.Watch.{Watch}
-use Rattle.stamp_watch.specs.LockCall.{call_as}
-use Rattle.stamp_watch.specs.Run.{Configuration, Phase, Survives, IsPossibleAfter, AreExplained}
-use Rattle.stamp_watch.specs.Run.Phase.{Idle, Asks, Gets}
+use Rattle.stamp_core.specs.LockCall.{call_as}
 use Rattle.stamp_watch.specs.Foretold.{open_at, HasEachOpen, MayGet, ComesAsTold}
 
 -- the open call of a lane is not in effect, by its bit; or it is, with a reply that its end allows
@@ -58,7 +60,7 @@ pub record MayGoOn (limits : Bounds) (table : List (Option OpenCall)) (events : 
     0 where
   pub one : Configuration
   pub stands : StandsFor limits table p one
-  pub survives : Survives limits events one.state one.lanes
+  pub survives : Survives (LockStep limits) events one.state one.lanes
 
 pub record OneGoesOn (limits : Bounds) (table : List (Option OpenCall)) (events : List Event)
     (kept : List Position) : Type 0 where

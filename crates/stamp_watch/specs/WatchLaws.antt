@@ -6,12 +6,13 @@ use Rattle.stamp_core.specs.Limits.{Bounds}
 use Rattle.stamp_core.specs.declared.call.Call.{Call}
 use Rattle.stamp_core.specs.declared.reply.Reply.{Reply}
 use Rattle.stamp_explain.specs.Explained.{IsExplained}
-use Rattle.stamp_watch.specs.declared.event.Event.{Event}
-use Rattle.stamp_watch.specs.declared.event.Event.TheVariants.{Begins, Returns, Withdraws}
-use Rattle.stamp_watch.specs.Run.{DoSame, AreExplained, AreStuckAt, Configuration, opening, Lanes, LockStep, Sets}
-use Rattle.stamp_watch.specs.Run.{Survives}
-use Rattle.stamp_watch.specs.Run.Phase.{Idle, Asks, Gets}
-use Rattle.stamp_watch.specs.Ahead.{Tells, IsWithdrawn, EndsNever, ReturnsSooner, Spares}
+use Rattle.stamp_runs.specs.declared.event.Event.{Event}
+use Rattle.stamp_runs.specs.declared.event.Event.TheVariants.{Begins, Returns, Withdraws}
+use Rattle.stamp_runs.specs.Object.{LockStep}
+use Rattle.stamp_runs.specs.Run.{Lanes, Sets, Survives, EndsBy, ReturnsSooner, EndsNever}
+use Rattle.stamp_runs.specs.LockRun.{DoSame, AreExplained, AreStuckAt, Configuration, opening}
+use Rattle.stamp_runs.specs.Run.Phase.{Idle, Asks, Gets}
+use Rattle.stamp_watch.specs.Ahead.{IsSpared}
 use Rattle.stamp_watch.specs.Form.{is_busy_after, AreInForm}
 use Rattle.stamp_watch.specs.Watching.{Fits, GoesOn, StandFor, Told}
 use Rattle.stamp_watch.specs.declared.late_verdict.LateVerdict.{LateVerdict}
@@ -26,24 +27,24 @@ use Rattle.stamp_watch.specs.AsObserved.{observed_of, IsStuckAtPosition, NoneIsW
 pub record BeginsAtOnce (limits : Bounds) (lane : ℕ) (call : Call) (events : List Event) (s : List LockEvent)
     (lanes : Lanes) : Type 0 where
   pub idle : lanes lane ≡ Idle
-  pub survives : (after : Lanes) → Sets lanes after lane (Asks call) → Survives limits events s after
+  pub survives : (after : Lanes) → Sets lanes after lane (Asks call) → Survives (LockStep limits) events s after
 
 abbrev pub BeginsFirst : Type 0
 BeginsFirst =
     (limits : Bounds) (lane : ℕ) (call : Call) (events : List Event) (s : List LockEvent) (lanes : Lanes) →
-    Survives limits (Begins lane call ∷ events) s lanes → BeginsAtOnce limits lane call events s lanes
+    Survives (LockStep limits) (Begins lane call ∷ events) s lanes → BeginsAtOnce limits lane call events s lanes
 
 -- the call in effect has this reply, and nothing is lost if it returns at once
 pub record ReturnsAtOnce (limits : Bounds) (lane : ℕ) (reply gotten : Reply) (events : List Event)
     (s : List LockEvent) (lanes : Lanes) : Type 0 where
   pub same : gotten ≡ reply
-  pub survives : (after : Lanes) → Sets lanes after lane Idle → Survives limits events s after
+  pub survives : (after : Lanes) → Sets lanes after lane Idle → Survives (LockStep limits) events s after
 
 abbrev pub ReturnsFirst : Type 0
 ReturnsFirst =
     (limits : Bounds) (lane : ℕ) (reply gotten : Reply) (events : List Event) (s : List LockEvent)
     (lanes : Lanes) → lanes lane ≡ Gets gotten →
-    Survives limits (Returns lane reply ∷ events) s lanes →
+    Survives (LockStep limits) (Returns lane reply ∷ events) s lanes →
     ReturnsAtOnce limits lane reply gotten events s lanes
 
 -- the lane's call is not in effect, and nothing is lost if it is withdrawn at once
@@ -51,12 +52,12 @@ pub record WithdrawsAtOnce (limits : Bounds) (lane : ℕ) (events : List Event) 
     (lanes : Lanes) : Type 0 where
   pub call : Call
   pub asks : lanes lane ≡ Asks call
-  pub survives : (after : Lanes) → Sets lanes after lane Idle → Survives limits events s after
+  pub survives : (after : Lanes) → Sets lanes after lane Idle → Survives (LockStep limits) events s after
 
 abbrev pub WithdrawsFirst : Type 0
 WithdrawsFirst =
     (limits : Bounds) (lane : ℕ) (events : List Event) (s : List LockEvent) (lanes : Lanes) →
-    Survives limits (Withdraws lane ∷ events) s lanes → WithdrawsAtOnce limits lane events s lanes
+    Survives (LockStep limits) (Withdraws lane ∷ events) s lanes → WithdrawsAtOnce limits lane events s lanes
 
 -- some call takes effect, and the rest survives
 pub record TakesEffectNext (limits : Bounds) (events : List Event) (s : List LockEvent) (lanes : Lanes) : Type 0
@@ -69,13 +70,13 @@ pub record TakesEffectNext (limits : Bounds) (events : List Event) (s : List Loc
     pub step : LockStep limits s call reply next
     pub after : Lanes
     pub sets : Sets lanes after lane (Gets reply)
-    pub survives : Survives limits events next after
+    pub survives : Survives (LockStep limits) events next after
 
 abbrev pub TakesEffectFirst : Type 0
 TakesEffectFirst =
     (limits : Bounds) (lane : ℕ) (reply : Reply) (call : Call) (events : List Event) (s : List LockEvent)
     (lanes : Lanes) → lanes lane ≡ Asks call →
-    Survives limits (Returns lane reply ∷ events) s lanes →
+    Survives (LockStep limits) (Returns lane reply ∷ events) s lanes →
     TakesEffectNext limits (Returns lane reply ∷ events) s lanes
 
 -- Where the return that is told of a call has a reply by which it changes nothing in any state, nothing is lost if
@@ -85,21 +86,21 @@ AtOnceLosesNothing =
     (limits : Bounds) (lane : ℕ) (call : Call) (reply : Reply) (events : List Event) (s : List LockEvent)
     (lanes after : Lanes) →
     ((u v : List LockEvent) → LockStep limits u call reply v → v ≡ u) →
-    lanes lane ≡ Asks call → Sets lanes after lane (Gets reply) → Tells lane reply events →
-    Survives limits events s lanes → Survives limits events s after
+    lanes lane ≡ Asks call → Sets lanes after lane (Gets reply) → EndsBy lane (Returns lane reply) events →
+    Survives (LockStep limits) events s lanes → Survives (LockStep limits) events s after
 
 -- A call that is withdrawn takes no effect: where it is in effect no way goes on.
 abbrev pub WithdrawnTakesNoEffect : Type 0
 WithdrawnTakesNoEffect =
     (limits : Bounds) (lane : ℕ) (reply : Reply) (events : List Event) (s : List LockEvent) (lanes : Lanes) →
-    lanes lane ≡ Gets reply → IsWithdrawn lane events → ¬ Survives limits events s lanes
+    lanes lane ≡ Gets reply → EndsBy lane (Withdraws lane) events → ¬ Survives (LockStep limits) events s lanes
 
 -- A call that never ends is not needed where it changed nothing.
 abbrev pub UnchangingNeverNeeded : Type 0
 UnchangingNeverNeeded =
     (limits : Bounds) (lane : ℕ) (call : Call) (reply : Reply) (events : List Event) (s : List LockEvent)
     (lanes after : Lanes) → lanes lane ≡ Asks call → Sets lanes after lane (Gets reply) →
-    EndsNever lane events → Survives limits events s after → Survives limits events s lanes
+    EndsNever lane events → Survives (LockStep limits) events s after → Survives (LockStep limits) events s lanes
 
 -- Of two open calls that are alike, which do the same and have one reply, nothing is lost if the one that returns
 -- sooner takes effect instead of the other.
@@ -108,8 +109,9 @@ SoonerAlikeFirst =
     (limits : Bounds) (lane than : ℕ) (call other : Call) (reply : Reply) (events : List Event) (s : List LockEvent)
     (lanes later sooner : Lanes) → DoSame limits call other → lane ≢ than → lanes lane ≡ Asks call →
     lanes than ≡ Asks other → Sets lanes later than (Gets reply) → Sets lanes sooner lane (Gets reply) →
-    Tells lane reply events →
-    ReturnsSooner lane than events → Survives limits events s later → Survives limits events s sooner
+    EndsBy lane (Returns lane reply) events →
+    ReturnsSooner lane than events → Survives (LockStep limits) events s later →
+    Survives (LockStep limits) events s sooner
 
 -- Of two open calls that are one call, and of which neither ends, nothing is lost if the one takes effect instead of
 -- the other.
@@ -118,7 +120,7 @@ EndlessAlikeFirst =
     (limits : Bounds) (lane than : ℕ) (call : Call) (reply : Reply) (events : List Event) (s : List LockEvent)
     (lanes later sooner : Lanes) → lane ≢ than → lanes lane ≡ Asks call → lanes than ≡ Asks call →
     Sets lanes later than (Gets reply) → Sets lanes sooner lane (Gets reply) → EndsNever lane events →
-    EndsNever than events → Survives limits events s later → Survives limits events s sooner
+    EndsNever than events → Survives (LockStep limits) events s later → Survives (LockStep limits) events s sooner
 
 -- What is explained is explained up to each of its events.
 abbrev pub ShorterStayExplained : Type 0
@@ -159,24 +161,26 @@ abbrev pub BeginsLate : Type 0
 BeginsLate =
     (limits : Bounds) (lane : ℕ) (call : Call) (reply : Reply) (version : ℕ) (between rest : List Event)
     (s : List LockEvent) (lanes begun : Lanes) → lanes lane ≡ Idle → Sets lanes begun lane (Asks call) →
-    Tells lane reply (between ++ rest) → EndsNever lane between →
+    EndsBy lane (Returns lane reply) (between ++ rest) → EndsNever lane between →
     ((u v : List LockEvent) → LockStep limits u call reply v → version ≤ write_count v) →
-    ((v : List LockEvent) (there : Lanes) → Survives limits rest v there → write_count v < version) →
-    Survives limits (between ++ rest) s begun → Survives limits (between ++ Begins lane call ∷ rest) s lanes
+    ((v : List LockEvent) (there : Lanes) → Survives (LockStep limits) rest v there → write_count v < version) →
+    Survives (LockStep limits) (between ++ rest) s begun → Survives (LockStep limits)
+    (between ++ Begins lane call ∷ rest) s lanes
 
 -- And a way on which a call begins later is one on which it begins sooner: a judge that lets calls begin late explains
 -- no more.
 abbrev pub BeginsSooner : Type 0
 BeginsSooner =
     (limits : Bounds) (lane : ℕ) (call : Call) (between rest : List Event) (s : List LockEvent)
-    (lanes begun : Lanes) → Sets lanes begun lane (Asks call) → Spares lane between →
-    Survives limits (between ++ Begins lane call ∷ rest) s lanes → Survives limits (between ++ rest) s begun
+    (lanes begun : Lanes) → Sets lanes begun lane (Asks call) → IsSpared between lane →
+    Survives (LockStep limits) (between ++ Begins lane call ∷ rest) s lanes →
+    Survives (LockStep limits) (between ++ rest) s begun
 
 -- A call that is withdrawn may be left out: its two events make no difference.
 abbrev pub WithdrawnMayBeLeftOut : Type 0
 WithdrawnMayBeLeftOut =
     (limits : Bounds) (lane : ℕ) (call : Call) (past between rest : List Event) →
-    is_busy_after past lane ≡ false → Spares lane between →
+    is_busy_after past lane ≡ false → IsSpared between lane →
     AreExplained limits (past ++ (Begins lane call ∷ between ++ Withdraws lane ∷ rest)) ↔
     AreExplained limits (past ++ (between ++ rest))
 

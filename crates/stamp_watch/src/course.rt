@@ -1,20 +1,20 @@
 //! The part of a run that is kept while it is judged.
 ghost use Rattle.std.specs.Prelude.{◌≡◌, ◌+◌, ◌^◌, ◌<◌, ◌≤◌, ◌∷◌, ◌++◌, [], ⊤, IfOk, OnOk, IsTrue, List, MatchOption, Option, ℕ, false, length};
 ghost use Rattle.stamp_core.specs.Limits.{Bounds};
-ghost use Rattle.stamp_watch.specs.declared.event.Event.{Event};
+ghost use Rattle.stamp_runs.specs.declared.event.Event.{Event};
 ghost use Rattle.stamp_watch.specs.Verdict.{AreOfLock};
 ghost use Rattle.stamp_watch.specs.Course.{HasRoom, IsCourse, IsRest, IsSmall, KeepsEndOf};
 ghost use Rattle.stamp_watch.specs.inner.Course.{HasGoneOn, HasLetGo, IsEndAtFront, IsFresh, IsFront, IsKnown, IsOneLonger, IsOnCourse, IsOnward, IsToldBy, IsUnknown};
 ghost use Rattle.stamp_watch.specs.inner.Kept.{StaysKept};
 
 use crate::ending::Ending;
-use crate::event::Event;
 use crate::judge::{Outcome, end_told, find_stuck, judge_rest, step};
 use crate::progress::Progress;
 use crate::stream_event::StreamEvent;
 use crate::verdict::{Verdict, Why};
 use crate::watch::Watch;
 use stamp_core::Limits;
+use stamp_runs::Event;
 use std::alloc::{AllocError, Global};
 use std::mem::replace;
 use std::slice::from_ref;

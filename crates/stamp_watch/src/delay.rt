@@ -6,9 +6,10 @@
 //! by the call's late beginning.
 ghost use Rattle.std.specs.Prelude.{◌≡◌, ◌+◌, ◌*◌, ◌↔◌, false, true, ◌^◌, ◌<◌, ◌≤◌, ◌++◌, ◌∷◌, ℕ, List, [], IfOk, IsSome, IsTrue, MatchOption, Some, None, ⊤, length};
 ghost use Rattle.stamp_core.specs.Limits.{AreInRange, Bounds};
+ghost use Rattle.stamp_runs.specs.Run.{lane_of};
+ghost use Rattle.stamp_runs.specs.declared.event.Event.{Event};
 ghost use Rattle.stamp_watch.specs.Issued.{LosesNothing};
-ghost use Rattle.stamp_watch.specs.Ahead.{IsSpared, lane_of};
-ghost use Rattle.stamp_watch.specs.declared.event.Event.{Event};
+ghost use Rattle.stamp_watch.specs.Ahead.{IsSpared};
 ghost use Rattle.stamp_watch.specs.Delay.{IsDelayed, IsSmallDelay, kept_of};
 ghost use Rattle.stamp_watch.specs.Judge.{IsJudge, IsJudgeOfSome};
 ghost use Rattle.stamp_watch.specs.Late.{IsLateFound};

@@ -2,9 +2,9 @@
 ghost use Rattle.std.specs.Prelude.{◌≡◌};
 ghost use Rattle.stamp_watch.specs.EndedCall.{begun_in, begun_then, ended_by};
 
-use crate::event::Event;
 use crate::stream_event::StreamEvent;
 use stamp_core::{Call, Reply};
+use stamp_runs::Event;
 
 /// A call that ends at an event of a run.
 #[derive(Clone, Copy, Debug, PartialEq, Eq)]

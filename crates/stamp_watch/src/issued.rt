@@ -5,10 +5,10 @@ ghost use Rattle.stamp_core.specs.Layout.{units_of};
 ghost use Rattle.stamp_core.specs.Limits.{AreInRange};
 ghost use Rattle.stamp_core.specs.Stamp.{IsStamp};
 
-use crate::event::Event;
 use crate::places::{lane_of, place_of};
 use crate::stream_event::StreamEvent;
 use stamp_core::{Call, Layout, Limits, Reply, StampKind, stamp_kind_in};
+use stamp_runs::Event;
 
 /// Whether the call issues a stamp, and takes none.
 fn issues_stamp(call: &Call) -> bool

@@ -2,7 +2,7 @@
 ghost use Rattle.std.specs.Prelude.{◌≡◌, ◌+◌, ◌^◌, ◌<◌, ◌∷◌, ◌++◌, IfOk, List, None, Option, ℕ, length};
 ghost use Rattle.std.specs.List.{All};
 ghost use Rattle.stamp_core.specs.Limits.{Bounds};
-ghost use Rattle.stamp_watch.specs.declared.event.Event.{Event};
+ghost use Rattle.stamp_runs.specs.declared.event.Event.{Event};
 ghost use Rattle.stamp_watch.specs.Watch.{IsWatched};
 ghost use Rattle.stamp_watch.specs.Verdict.{IsOfLock, IsVerdict};
 ghost use Rattle.stamp_watch.specs.Judging.{IsFound, IsJudging};
@@ -10,13 +10,13 @@ ghost use Rattle.stamp_watch.specs.inner.Judging.{IsBase, IsEndTold, IsJudgingOn
 
 use crate::ahead::end_ahead;
 use crate::ending::Ending;
-use crate::event::Event;
 use crate::lanes::in_form;
 use crate::progress::Progress;
 use crate::stream_event::StreamEvent;
 use crate::verdict::{Verdict, Why};
 use crate::watch::Watch;
 use stamp_core::Limits;
+use stamp_runs::Event;
 use std::alloc::{AllocError, Global};
 
 /// What is found of events behind others, which are all in form.

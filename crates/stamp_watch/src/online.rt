@@ -10,8 +10,8 @@
 //! of. A call that is open for more events than were allowed ends the judging, so few events are kept.
 ghost use Rattle.std.specs.Prelude.{◌≡◌, ◌+◌, ◌*◌, ◌≤◌, ◌↔◌, [], IfOk, IfSome, None, Some, List, ℕ, false, length};
 ghost use Rattle.stamp_core.specs.Limits.{Bounds};
+ghost use Rattle.stamp_runs.specs.declared.event.Event.{Event};
 ghost use Rattle.stamp_watch.specs.Course.{IsRest, KeepsEndOf};
-ghost use Rattle.stamp_watch.specs.declared.event.Event.{Event};
 ghost use Rattle.stamp_watch.specs.EndedCall.{IsEndedAt, ended_from};
 ghost use Rattle.stamp_watch.specs.Judge.{HasFoundNothing, HasRoomForOne, IsFoundThen, IsGiven, IsJudge, IsJudgeOfSome};
 ghost use Rattle.stamp_watch.specs.Possible.{IsKeeping, KeepsBase, KeepsOn};

@@ -4,9 +4,9 @@ ghost use Rattle.stamp_watch.specs.Foretold.{open_at};
 ghost use Rattle.stamp_watch.specs.inner.Effect.{AreEndless, IsAhead, GivesWay, IsUnchanging};
 
 use crate::ending::{Ending, is_same_reply};
-use crate::lock_call::LockCall;
+use crate::lock_calls::{does_same, is_unchanging};
 use crate::position::{first_lane, has_lane, without_lane};
-use stamp_core::Limits;
+use stamp_core::{Limits, LockCall};
 use std::alloc::{AllocError, Global};
 
 /// A call that has begun and has not ended, and how it ends.
@@ -53,7 +53,7 @@ impl OpenCall {
         ensures { IsTrue result → IsUnchanging self.now }
     {
         match self.ends {
-            Ending::Returns(told, _) => self.asks.is_unchanging(told),
+            Ending::Returns(told, _) => is_unchanging(self.asks, told),
             _ => false,
         }
     }
@@ -74,7 +74,7 @@ impl OpenCall {
         if !is_same_reply(reply, answer) {
             return false;
         }
-        self.asks.does_same(limits, other.asks)
+        does_same(limits, self.asks, other.asks)
     }
 
     /// Whether both are one call, and neither ends.
@@ -83,7 +83,7 @@ impl OpenCall {
     {
         matches!(self.ends, Ending::Never)
             && matches!(other.ends, Ending::Never)
-            && self.asks.is_same(other.asks)
+            && self.asks == other.asks
     }
 
     /// Whether a call of these lanes is not in effect that goes before this one of the lane: it is ahead of it, or

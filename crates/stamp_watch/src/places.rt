@@ -1,10 +1,11 @@
 //! The lanes of events.
 ghost use Rattle.std.specs.Prelude.{◌≡◌, MatchOption};
-ghost use Rattle.stamp_watch.specs.Ahead.{IsSpared, lane_of};
+ghost use Rattle.stamp_runs.specs.Run.{lane_of};
+ghost use Rattle.stamp_watch.specs.Ahead.{IsSpared};
 ghost use Rattle.stamp_watch.specs.inner.Delay.{IsFirstOfLaneAt};
 
-use crate::event::Event;
 use crate::stream_event::StreamEvent;
+use stamp_runs::Event;
 
 pub(crate) fn lane_of(event: &StreamEvent) -> u64
     ensures { result ≡ lane_of event.now }

@@ -1,16 +1,16 @@
 //! Which replies were possible at a return of a run, as a judge can tell from the events that it keeps.
 ghost use Rattle.std.specs.Prelude.{◌≡◌, ◌+◌, ◌<◌, ◌≤◌, IfOk, List, Some, length, slice_get};
 ghost use Rattle.stamp_core.specs.Limits.{Bounds};
-ghost use Rattle.stamp_watch.specs.declared.event.Event.{Event};
+ghost use Rattle.stamp_runs.specs.declared.event.Event.{Event};
 ghost use Rattle.stamp_watch.specs.Possible.{IsKept, IsTold, IsToldOf, KeepsSome, counts_below, items_in, plain_replies};
 ghost use Rattle.stamp_watch.specs.inner.Possible.{IsKeptReturn, IsOutcomeWith, IsPossibleSo, IsReturnFor, IsReturnHere, KeepsSomeCourse, replies_in};
 
 use crate::course::Course;
-use crate::event::Event;
 use crate::judge::{Outcome, judge_rest};
 use crate::online::Judge;
 use crate::stream_event::StreamEvent;
 use stamp_core::{Call, Limits, LockReply, Reply};
+use stamp_runs::Event;
 use std::alloc::{AllocError, Global};
 use std::slice::from_ref;
 

@@ -1,7 +1,7 @@
 //! How far a judge has come with a run.
 ghost use Rattle.std.specs.Prelude.{◌≡◌, List, ℕ, drop};
 ghost use Rattle.stamp_core.specs.Limits.{Bounds};
-ghost use Rattle.stamp_watch.specs.declared.event.Event.{Event};
+ghost use Rattle.stamp_runs.specs.declared.event.Event.{Event};
 ghost use Rattle.stamp_watch.specs.Judge.{HasFoundNothing, IsJudge, IsJudgeOfSome};
 ghost use Rattle.stamp_watch.specs.SoFar.{BeginWithOpenCall, IsExplainedUpTo, open_calls};
 ghost use Rattle.stamp_watch.specs.inner.Lanes.{lanes_in};

@@ -1,14 +1,13 @@
 //! The events of a run of a lock, in few bytes.
 ghost use Rattle.std.specs.Prelude.{◌≡◌, ◌≤◌, MatchOption};
 ghost use Rattle.stamp_core.specs.LockDecision.{reply_as};
-ghost use Rattle.stamp_watch.specs.declared.event.Event.{Event};
-ghost use Rattle.stamp_watch.specs.LockCall.{call_as};
+ghost use Rattle.stamp_runs.specs.declared.event.Event.{Event};
+ghost use Rattle.stamp_core.specs.LockCall.{call_as};
 ghost use Rattle.stamp_watch.specs.Stream.{IsOfStream};
 
-use crate::event::Event;
 use crate::lanes::lock_reply;
-use crate::lock_call::{LockCall, lock_call};
-use stamp_core::LockReply;
+use stamp_core::{LockCall, LockReply};
+use stamp_runs::Event;
 use std::marker::Model;
 
 #[derive(Clone, Copy)]
@@ -25,7 +24,7 @@ pub struct StreamEvent {
 }
 
 impl Model for StreamEvent {
-    ghost use Rattle.stamp_watch.specs.declared.event.Event.{Event};
+    ghost use Rattle.stamp_runs.specs.declared.event.Event.{Event};
 
     ghost Value = { Event };
 
@@ -81,7 +80,7 @@ impl StreamEvent {
         match event {
             Event::Begins(lane, call) => {
                 let lane = small_lane(*lane)?;
-                let call = lock_call(call)?;
+                let call = LockCall::of(call)?;
                 Some(StreamEvent::begins(lane, call))
             }
             Event::Returns(lane, reply) => {

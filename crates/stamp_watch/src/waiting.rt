@@ -1,12 +1,12 @@
 //! Events that wait, and how many of each lane do.
 ghost use Rattle.std.specs.Prelude.{◌≡◌, ◌+◌, ◌^◌, ◌<◌, ◌++◌, ◌∷◌, ◌↔◌, IsTrue, OnOk, [], length};
-ghost use Rattle.stamp_watch.specs.Ahead.{lane_of};
+ghost use Rattle.stamp_runs.specs.Run.{lane_of};
 ghost use Rattle.stamp_watch.specs.Waiting.{IsCounted};
 ghost use Rattle.stamp_watch.specs.inner.Delay.{IsAloneInFront};
 
-use crate::event::Event;
 use crate::places::lane_of;
 use crate::stream_event::StreamEvent;
+use stamp_runs::Event;
 use std::alloc::{AllocError, Global};
 use std::collections::VecDeque;
 use std::slice::from_ref;

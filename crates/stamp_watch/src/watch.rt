@@ -2,7 +2,7 @@
 ghost use Rattle.std.specs.Prelude.{◌≡◌, ◌<◌, IfOk, OnErr, List, [], ℕ, None};
 ghost use Rattle.std.specs.List.{All};
 ghost use Rattle.stamp_core.specs.Word.{IsAdmitted, word_at};
-ghost use Rattle.stamp_watch.specs.declared.event.Event.{Event};
+ghost use Rattle.stamp_runs.specs.declared.event.Event.{Event};
 ghost use Rattle.stamp_watch.specs.declared.position.Position.{Position};
 ghost use Rattle.stamp_watch.specs.Watch.{IsWatching, IsWatched, IsCopy, IsProgress, IsTaken, BeginsTold, ReturnsTold, WithdrawsTold, IsUntold};
 ghost use Rattle.stamp_watch.specs.inner.Step.{IsOpening, BeginsIn, AreBegun, IsAnswer};
@@ -10,11 +10,10 @@ ghost use Rattle.stamp_watch.specs.inner.Step.{IsOpening, BeginsIn, AreBegun, Is
 use crate::effect::at_once;
 use crate::ending::Ending;
 use crate::layers::return_call;
-use crate::lock_call::lock_call;
 use crate::open_call::{OpenCall, idle_lanes, open_in, put};
 use crate::position::{Position, with_lane, without_lane};
 use crate::progress::Progress;
-use stamp_core::{Call, Limits, Reply, Word};
+use stamp_core::{Call, Limits, LockCall, Reply, Word};
 use std::alloc::{AllocError, Global};
 
 /// The configurations of a lock and its lanes that are possible after the events of a run, as far as they matter: one
@@ -120,7 +119,7 @@ impl Watch {
         if lane >= 64 || open_in(self.table.as_slice(), lane).is_some() {
             return Progress::Refused;
         }
-        let Some(asks) = lock_call(call) else {
+        let Some(asks) = LockCall::of(call) else {
             return Progress::Refused;
         };
         let begun = OpenCall { asks, ends };

@@ -2,8 +2,8 @@ ghost use Rattle.std.specs.Prelude.{IfOk, OnOk};
 ghost use Rattle.stamp_watch.specs.LateJudge.{IsLateJudgeOfSome};
 
 use crate::fixtures::{limits, not_full, of_lock};
-use stamp_core::{Call, Reply};
-use stamp_watch::{EndedCall, Event, LateJudge, LateVerdict, LockCall, StreamEvent, Verdict};
+use stamp_core::{Call, LockCall, Reply};
+use stamp_watch::{EndedCall, Event, LateJudge, LateVerdict, StreamEvent, Verdict};
 use std::test::Fail;
 
 /// Gives these events to the judge: what is found then.

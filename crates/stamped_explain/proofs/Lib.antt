@@ -1,2 +1,1 @@
 pub mod Overlaps
-mod Words

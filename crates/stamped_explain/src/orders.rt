@@ -1,9 +1,10 @@
 //! The command line.
 
-ghost use Rattle.std.specs.Prelude.{◌≡◌, map};
+ghost use Rattle.std.specs.Prelude.{◌≡◌};
+ghost use Rattle.stamp_cli.specs.Given.{items_given, texts};
 ghost use Rattle.stamped_explain.specs.Order as order;
 
-use stamp_cli::{CommandFault, number_in};
+use stamp_cli::{CommandFault, Given, Options, given_in, number_in};
 
 /// The most configurations that a search looks at, if the command line says no other number.
 pub const MOST_CONFIGURATIONS: u64 = 4_000_000;
@@ -57,85 +58,68 @@ pub enum ExplainOrder {
     Explain(Explaining),
 }
 
-/// The options that are given.
-#[derive(Clone, Copy)]
-pub(crate) struct Options {
-    form: Option<Form>,
-    told: Option<Told>,
-    shown: Option<Shown>,
-    most: Option<u64>,
-}
-
-/// No option.
-const NO_OPTIONS: Options = Options {
-    form: None,
-    told: None,
-    shown: None,
-    most: None,
+/// The options of an explanation.
+const OPTIONS: Options = Options {
+    flags: &["--judge", "--told", "--small"],
+    worded: &["--most"],
 };
 
-/// With an option of one word besides, if that isn't given before.
-fn with_word(options: Options, word: &str) -> Option<Options>
-    ensures { result ≡ order.with_word options word.now }
+fn form_in(given: &Given) -> Form
+    ensures { result ≡ order.form_in (items_given given.now) }
 {
-    match word {
-        "--judge" if options.form.is_none() => Some(Options {
-            form: Some(Form::Judgement),
-            ..options
-        }),
-        "--told" if options.told.is_none() => Some(Options {
-            told: Some(Told::Trials),
-            ..options
-        }),
-        "--small" if options.shown.is_none() => Some(Options {
-            shown: Some(Shown::Small),
-            ..options
-        }),
-        _ => None,
+    if given.has("--judge") {
+        Form::Judgement
+    } else {
+        Form::History
     }
 }
 
-/// With `--most` and this number besides, if that isn't given before.
-fn with_most(options: Options, number: &str) -> Option<Options>
-    ensures { result ≡ order.with_most options number.now }
+fn told_in(given: &Given) -> Told
+    ensures { result ≡ order.told_in (items_given given.now) }
 {
-    let most = number_in(number)?;
-    match options.most {
-        None => Some(Options {
-            most: Some(most),
-            ..options
-        }),
-        Some(_) => None,
+    if given.has("--told") {
+        Told::Trials
+    } else {
+        Told::Nothing
     }
 }
 
-/// With the options of these words besides.
-fn with_words(options: Options, words: &[&str]) -> Option<Options>
-    ensures { result ≡ order.with_words options (map (λ word. word.now) words.now) }
+fn shown_in(given: &Given) -> Shown
+    ensures { result ≡ order.shown_in (items_given given.now) }
 {
-    match words {
-        [] => Some(options),
-        [word] => with_word(options, word),
-        [option, number, rest @ ..] if *option == "--most" => {
-            with_words(with_most(options, number)?, rest)
-        }
-        [word, rest @ ..] => with_words(with_word(options, word)?, rest),
+    if given.has("--small") {
+        Shown::Small
+    } else {
+        Shown::Entry
     }
 }
 
-fn asked(options: Options) -> ExplainOrder
-    ensures { result ≡ order.asked options }
+fn most_in(given: &Given) -> Option<u64>
+    ensures { result ≡ order.most_in (items_given given.now) }
 {
-    ExplainOrder::Explain(Explaining {
-        form: options.form.unwrap_or(Form::History),
-        told: options.told.unwrap_or(Told::Nothing),
-        shown: options.shown.unwrap_or(Shown::Entry),
-        most: options.most.unwrap_or(MOST_CONFIGURATIONS),
+    match given.word_of("--most") {
+        Some(word) => number_in(word),
+        None => Some(MOST_CONFIGURATIONS),
+    }
+}
+
+/// How a history is to be explained by these options, unless a file is named or the word behind `--most` is no number.
+fn explaining_of(given: &Given) -> Option<Explaining>
+    ensures { result ≡ order.explaining_of (items_given given.now) }
+{
+    if given.file().is_some() {
+        return None;
+    }
+    Some(Explaining {
+        form: form_in(given),
+        told: told_in(given),
+        shown: shown_in(given),
+        most: most_in(given)?,
     })
 }
 
 fn asks_for_help(args: &[&str]) -> bool
-    ensures { result ≡ order.asks_for_help (map (λ arg. arg.now) args.now) }
+    ensures { result ≡ order.asks_for_help (texts args.now) }
 {
     match args {
         [arg] => *arg == "--help",
@@ -144,12 +128,13 @@ fn asks_for_help(args: &[&str]) -> bool
 }
 
 fn form_of(args: &[&str]) -> Option<ExplainOrder>
-    ensures { result ≡ order.form_of (map (λ arg. arg.now) args.now) }
+    ensures { result ≡ order.form_of (texts args.now) }
 {
     if asks_for_help(args) {
         return Some(ExplainOrder::Help);
     }
-    Some(asked(with_words(NO_OPTIONS, args)?))
+    let given = given_in(OPTIONS, args)?;
+    Some(ExplainOrder::Explain(explaining_of(&given)?))
 }
 
 /// What the program's arguments ask for. `--help` alone asks how it is called. Otherwise a history is
@@ -158,7 +143,7 @@ fn form_of(args: &[&str]) -> Option<ExplainOrder>
 /// 2^64 in decimal digits alone; without it they are 4,000,000. These stand in any order, each at most once.
 /// It refuses as 1 `Bad` exactly where the arguments are no such form.
 pub fn order_of(args: &[&str]) -> Result<ExplainOrder, CommandFault>
-    ensures { result ≡ order.order_in (map (λ arg. arg.now) args.now) }
+    ensures { result ≡ order.order_in (texts args.now) }
 {
     form_of(args).ok_or(CommandFault::Bad)
 }

@@ -1,12 +1,8 @@
 -- Typed answers as replies.
-use Rattle.std.specs.Prelude.{ℕ, Bool, true, false, Option, Some, None, Result, Ok, Err}
+use Rattle.std.specs.Prelude.{ℕ, Bool, true, false, Option, Result, Ok, Err}
 use Rattle.stamp_core.specs.declared.reply.Reply.{Reply}
 use Rattle.stamp_core.specs.declared.reply.Reply.TheVariants.{Stamp, Yes, No, Done, Mismatch}
-
--- 0 is no stamp
-abbrev pub stamp_or_zero : Option ℕ → ℕ
-stamp_or_zero None = 0
-stamp_or_zero (Some s) = s
+use Rattle.stamp_threads.specs.MayReply.{stamp_or_zero}
 
 -- the reply of a call that answers a stamp
 abbrev pub stamped : Option ℕ → Reply

@@ -1,13 +1,16 @@
 //! What a handle stands on.
 ghost use Rattle.std.specs.Prelude.{◌≡◌, IfOk, IsOk, IsTrue};
 ghost use Rattle.stamp_core.specs.Call.{is_lock_call};
+ghost use Rattle.stamp_core.specs.declared.call.Call.TheVariants.{Optimistic};
 ghost use Rattle.stamp_threads.specs.Made.{try_form};
 ghost use Rattle.stamp_threads.specs.MayReply.{MayReply};
 ghost use Rattle.stamp_threads.specs.PassView.{after_split, split_off};
 ghost use Rattle.stamped_lock.specs.Accesses.{AccessesOnce, AccessesOnceOrTwice};
 ghost use Rattle.stamped_lock.specs.Made.{Made, MadeOrLost};
+ghost use Rattle.stamped_lock.specs.Replies.{stamped};
 ghost use Rattle.stamped_lock.specs.inner.Replies.{AsksOnly};
 
+use crate::stamp::Stamp;
 use stamp_core::{Call, KnownLayout, Limits, Reply};
 use stamp_threads::{Lost, Pass, RunningLock};
 use std::marker::Model;
@@ -62,6 +65,18 @@ impl<'a> Entered<'a> {
         ensures asked { AsksOnly call → IsOk result → AccessesOnce self.old self.new }
     {
         self.running.once_in::<L>(&mut self.pass, call)
+    }
+
+    /// An optimistic stamp. None while there is a writer. One load.
+    #[inline(always)]
+    pub(crate) fn optimistic<L: KnownLayout>(&mut self) -> Option<Stamp>
+        requires layout { L.seen self.old.running.limits.layout ≡ self.old.running.limits.layout }
+        ensures same { self.new.running ≡ self.old.running }
+        ensures made { Made Optimistic (stamped result) self.old self.new }
+        ensures accesses { AccessesOnce self.old self.new }
+    {
+        let number = self.running.optimistic_in::<L>(&mut self.pass)?;
+        Some(Stamp::of_some(number))
     }
 
     /// Makes the call: it waits where the call does, and tries again where its exchange lost.

@@ -152,7 +152,7 @@ impl<'a, L: KnownLayout> LockHandle<'a, L> {
         ensures made { Made Optimistic (stamped result) self.old self.new }
         ensures accesses { AccessesOnce self.old self.new }
     {
-        stamp_unless_zero(self.once_surely(Call::Optimistic))
+        self.entered.optimistic::<L>()
     }
 
     /// Whether nobody acquired write mode since the stamp was issued (`validate`). Also true of a stamp

@@ -2,7 +2,7 @@
 ghost use Rattle.std.specs.Prelude.{◌≡◌, ◌<◌};
 ghost use Rattle.stamp_core.specs.Layout.{units_of};
 ghost use Rattle.stamp_core.specs.StampKind.{HasKind};
-ghost use Rattle.stamped_lock.specs.Replies.{stamp_or_zero};
+ghost use Rattle.stamp_threads.specs.MayReply.{stamp_or_zero};
 
 use stamp_core::{Layout, StampKind, stamp_kind_in};
 use std::marker::Model;
@@ -37,6 +37,15 @@ impl Stamp {
         } else {
             Some(Stamp { number })
         }
+    }
+
+    /// The stamp of a number that is known not to be 0.
+    #[inline(always)]
+    pub(crate) fn of_some(number: u64) -> Stamp
+        requires { 0 < number }
+        ensures { result ≡ number }
+    {
+        Stamp { number }
     }
 
     /// The number, as Java has it.

@@ -3,8 +3,8 @@ use Rattle.std.proofs.Common.{ℕ, ◌≡◌, ◌++◌, List, Option, Some, sym,
 use Rattle.std.specs.Prelude.{IfSome}
 use Rattle.std.proofs.lemmas.Option.{same_Some}
 use Rattle.stamp_core.specs.Limits.{Bounds}
+use Rattle.stamp_runs.specs.declared.event.Event.{Event}
 use Rattle.stamp_watch.specs.declared.ended_call.EndedCall.{EndedCall}
-use Rattle.stamp_watch.specs.declared.event.Event.{Event}
 use Rattle.stamp_watch.specs.declared.late.LateJudge.{LateJudge}
 use Rattle.stamp_watch.specs.EndedCall.{IsEndedAt}
 use Rattle.stamp_watch.specs.declared.late_verdict.LateVerdict.{LateVerdict}

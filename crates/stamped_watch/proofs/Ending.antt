@@ -4,7 +4,7 @@ use Rattle.std.proofs.Common.{refl, sym, ◌∙◌, ap, subst, inl, inr, arith, 
 use Rattle.std.specs.Prelude.{◌-◌, MatchOption}
 use Rattle.std.proofs.lemmas.List.{length-append, length-take}
 use Rattle.stamp_core.specs.Limits.{Bounds}
-use Rattle.stamp_watch.specs.declared.event.Event.{Event}
+use Rattle.stamp_runs.specs.declared.event.Event.{Event}
 use Rattle.stamp_watch.specs.declared.late.LateJudge.{LateJudge}
 use Rattle.stamp_watch.specs.LateJudge.{HasFoundNothingLater, IsLateJudge}
 use Rattle.stamp_watch.specs.SoFar.{IsExplainedUpTo, open_calls}

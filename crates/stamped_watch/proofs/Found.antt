@@ -3,7 +3,7 @@ use Rattle.std.proofs.Common.{ℕ, ◌≡◌, ◌+◌, ◌^◌, ◌≤◌, List,
 use Rattle.std.proofs.Common.{inl, inr, arith, append_assoc}
 use Rattle.std.proofs.lemmas.List.{length-append}
 use Rattle.stamp_core.specs.Limits.{Bounds}
-use Rattle.stamp_watch.specs.declared.event.Event.{Event}
+use Rattle.stamp_runs.specs.declared.event.Event.{Event}
 use Rattle.stamp_watch.specs.declared.late_verdict.LateVerdict.{LateVerdict}
 use Rattle.stamp_watch.specs.declared.late_verdict.LateVerdict.TheVariants.{Is, Late}
 use Rattle.stamp_watch.specs.declared.verdict.Verdict.TheVariants as verdict
@@ -12,9 +12,9 @@ use Rattle.stamped_watch.specs.declared.finding.Finding.{Finding}
 use Rattle.stamped_watch.specs.declared.finding.Finding.TheVariants as found
 use Rattle.stamped_watch.specs.EventBytes.{HasBytes}
 use Rattle.stamped_watch.specs.Finding.{IsFindingOf, IsFoundOf, IsJudged}
+use Rattle.stamped_watch.specs.Finding.{verdict_of}
 use Rattle.stamped_watch.specs.Stream.{BeginsNoEvent, IsStream}
 use Rattle.stamped_watch.specs.inner.StreamJudge.{IsFoundSo, IsFoundWith, IsVerdictHere}
-use Rattle.stamped_watch.specs.Finding.{verdict_of}
 use Rattle.stamped_watch.proofs.Streaming.{first_of, stream_behind, stream_more}
 
 -- a verdict that is judged so is what is found

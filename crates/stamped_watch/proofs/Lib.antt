@@ -5,7 +5,6 @@ pub mod Found
 pub mod Ending
 pub mod Taking
 pub mod ReadingOn
-pub mod Files
 pub mod LinesTold
 pub mod Witnessing
 pub mod Showing
@@ -14,3 +13,4 @@ pub mod Replying
 pub mod Watching
 pub mod CallsTold
 pub mod Searching
+pub mod Starts

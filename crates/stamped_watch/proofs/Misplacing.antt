@@ -13,8 +13,9 @@ use Rattle.stamp_core.specs.declared.call.Call.{Call}
 use Rattle.stamp_core.specs.declared.call.Call.TheVariants as call
 use Rattle.stamp_core.specs.declared.reply.Reply.{Reply}
 use Rattle.stamp_core.specs.declared.reply.Reply.TheVariants as reply
-use Rattle.stamp_watch.specs.declared.event.Event.{Event}
-use Rattle.stamp_watch.specs.declared.event.Event.TheVariants.{Begins, Returns, Withdraws}
+use Rattle.stamp_runs.specs.declared.event.Event.{Event}
+use Rattle.stamp_runs.specs.declared.event.Event.TheVariants.{Begins, Returns, Withdraws}
+use Rattle.stamp_runs.specs.LockRun.{AreExplained}
 use Rattle.stamp_watch.specs.declared.late.LateJudge.{LateJudge}
 use Rattle.stamp_watch.specs.declared.late_verdict.LateVerdict.{LateVerdict}
 use Rattle.stamp_watch.specs.declared.late_verdict.LateVerdict.TheVariants.{Is, Late}
@@ -24,7 +25,6 @@ use Rattle.stamp_watch.specs.Form.{is_busy_after, MayCome}
 use Rattle.stamp_watch.specs.Late.{IsLateFound, IsLateVerdict}
 use Rattle.stamp_watch.specs.LateJudge.{IsLateFoundThen, IsLateJudge}
 use Rattle.stamp_watch.specs.Judging.{IsFound}
-use Rattle.stamp_watch.specs.Run.{AreExplained}
 use Rattle.stamp_watch.specs.Verdict.{AreBrokenAt, AreOfLock, IsOfLock, IsVerdict, is_lock_reply}
 use Rattle.stamp_watch.proofs.Form.{form_goes_on}
 use Rattle.stamp_watch.proofs.Forming.{next_of_lock, of_lock_up_to}
@@ -33,8 +33,8 @@ use Rattle.stamped_watch.specs.declared.misplaced.Misplaced.{Misplaced}
 use Rattle.stamped_watch.specs.declared.misplaced.Misplaced.TheVariants.{Lane, Open, Idle}
 use Rattle.stamped_watch.specs.EventBytes.{call_kind, kind_of, reply_kind}
 use Rattle.stamped_watch.specs.Finding.{IsMisplaced}
-use Rattle.stamped_watch.specs.inner.StreamJudge.{IsMisplacedAt}
 use Rattle.stamped_watch.specs.Finding.{IsLateOfForm, IsMisplacedSo, IsOfForm}
+use Rattle.stamped_watch.specs.inner.StreamJudge.{IsMisplacedAt}
 
 -- what has a kind is of the lock
 call_of_lock : (c : Call) → IsSome (call_kind c) → is_lock_call c ≡ true

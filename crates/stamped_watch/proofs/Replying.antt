@@ -10,14 +10,13 @@ use Rattle.stamp_core.specs.Limits.{Bounds}
 use Rattle.stamp_core.specs.declared.call.Call.{Call}
 use Rattle.stamp_core.specs.declared.lock_decision.LockReply.{LockReply}
 use Rattle.stamp_core.specs.declared.reply.Reply.{Reply}
+use Rattle.stamp_runs.specs.declared.event.Event.{Event}
+use Rattle.stamp_runs.specs.declared.event.Event.TheVariants.{Begins, Returns, Withdraws}
 use Rattle.stamp_watch.specs.declared.ended_call.EndedCall.{EndedCall}
-use Rattle.stamp_watch.specs.declared.event.Event.{Event}
-use Rattle.stamp_watch.specs.declared.event.Event.TheVariants.{Begins, Returns, Withdraws}
 use Rattle.stamp_watch.specs.declared.late.LateJudge.{LateJudge}
 use Rattle.stamp_watch.specs.Course.{KeepsEnd}
 use Rattle.stamp_watch.specs.EndedCall.{begun_in, ended, ended_at, ended_by, ended_from}
-use Rattle.stamp_watch.specs.Possible.{AreTooManyWith, plain_replies}
-use Rattle.stamp_watch.specs.Possible.{items_in as replies_told}
+use Rattle.stamp_watch.specs.Possible.{AreTooManyWith, plain_replies, items_in as replies_told}
 use Rattle.stamp_watch.specs.PossibleLate.{IsToldLater, IsToldLaterOf}
 use Rattle.stamp_watch.specs.Start.{BeganLateBy}
 use Rattle.stamp_watch.specs.Verdict.{IsOpenFor}

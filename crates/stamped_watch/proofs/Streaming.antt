@@ -6,7 +6,7 @@ use Rattle.std.proofs.lemmas.List.{drop_all, drop-append-le, length-append, leng
 use Rattle.std.proofs.lemmas.List.{take_all}
 use Rattle.std.proofs.Math.Seq.{take-append_seam}
 use Rattle.stamp_core.specs.Limits.{Bounds}
-use Rattle.stamp_watch.specs.declared.event.Event.{Event}
+use Rattle.stamp_runs.specs.declared.event.Event.{Event}
 use Rattle.stamp_watch.specs.declared.late.LateJudge.{LateJudge}
 use Rattle.stamp_watch.proofs.JudgingLate.{late_way, run_long}
 use Rattle.stamped_watch.specs.declared.finding.Finding.{Finding}

@@ -6,12 +6,12 @@ use Rattle.std.specs.declared.alloc.Global.{Global}
 use Rattle.stamp_core.specs.Limits.{Bounds}
 use Rattle.stamp_core.specs.Texts.{call_text, reply_text}
 use Rattle.stamp_core.specs.declared.reply.Reply.{Reply}
+use Rattle.stamp_runs.specs.declared.event.Event.{Event}
 use Rattle.stamp_watch.specs.declared.ended_call.EndedCall.{EndedCall}
 use Rattle.stamped_watch.specs.declared.finding.Finding.{Finding}
 use Rattle.stamped_watch.specs.declared.finding.Finding.TheVariants.{Stuck, StuckWithin, Late}
 use Rattle.stamped_watch.specs.declared.orders.Watching.{Watching}
 use Rattle.stamp_watch.specs.EndedCall.{IsEndedAt}
-use Rattle.stamp_watch.specs.declared.event.Event.{Event}
 use Rattle.stamped_watch.specs.Possible.{AreToldOf, possible_text}
 use Rattle.stamped_watch.specs.Stream.{IsStream}
 

@@ -4,12 +4,12 @@ use Rattle.std.specs.Prelude.{◌-◌, decimal, not, Option, Some, None, Result,
 use Rattle.std.specs.declared.alloc.AllocError.{AllocError}
 use Rattle.std.specs.Io.KnownBytes.{Appends, Consumes}
 use Rattle.std.specs.List.{list_any}
+use Rattle.stamp_runs.specs.declared.event.Event.{Event}
 use Rattle.stamp_cli.specs.Results.{EachTakes, Results, taken_since}
 use Rattle.stamp_cli.specs.Sink.{AppendsFront}
 use Rattle.stamp_cli.specs.TakesNone.{takes_none}
 use Rattle.stamp_cli.specs.declared.faults.ServeFault.{ServeFault}
 use Rattle.stamp_core.specs.Limits.{Bounds}
-use Rattle.stamp_watch.specs.declared.event.Event.{Event}
 use Rattle.stamp_watch.specs.SoFar.{IsExplainedUpTo, open_calls}
 use Rattle.stamped_watch.specs.declared.finding.Finding.{Finding}
 use Rattle.stamped_watch.specs.declared.orders.Watching.{Watching}

@@ -1,7 +1,7 @@
 -- The bytes of a stream: a header, and then events, each of 16 bytes.
 use Rattle.std.specs.Prelude.{ℕ, ◌≡◌, ◌++◌, List, [], ◌∷◌, take, drop}
 use Rattle.stamp_core.specs.Limits.{Bounds}
-use Rattle.stamp_watch.specs.declared.event.Event.{Event}
+use Rattle.stamp_runs.specs.declared.event.Event.{Event}
 use Rattle.stamped_watch.specs.EventBytes.{HasBytes}
 use Rattle.stamped_watch.specs.Header.{IsHeader}
 

@@ -2,6 +2,7 @@
 use Rattle.std.specs.Prelude.{ℕ, ◌≡◌, ◌+◌, ◌-◌, ◌++◌, ◌∷◌, [], List, length, take, min, Option, Some, None, Bool, true}
 use Rattle.std.specs.Prelude.{Result, Ok, Err, Vec}
 use Rattle.std.specs.declared.alloc.Global.{Global}
+use Rattle.stamp_runs.specs.declared.event.Event.{Event}
 use Rattle.stamp_cli.specs.Shell.{SinkView}
 use Rattle.stamp_cli.specs.declared.shell.Lack.{Lack}
 use Rattle.stamp_cli.specs.declared.shell.Lack.TheVariants as told
@@ -15,7 +16,6 @@ use Rattle.stamp_observed.specs.Behind.{IsSought, IsStuckWith}
 use Rattle.stamp_observed.specs.declared.behind.Sought.{Sought}
 use Rattle.stamp_observed.specs.ObservedText.{observed_text}
 use Rattle.stamp_watch.specs.declared.ended_call.EndedCall.{EndedCall}
-use Rattle.stamp_watch.specs.declared.event.Event.{Event}
 use Rattle.stamp_watch.specs.declared.late.LateJudge.{LateJudge}
 use Rattle.stamp_watch.specs.declared.online.Judge.{Judge}
 use Rattle.stamp_watch.specs.EndedCall.{ended_at, ended_from}

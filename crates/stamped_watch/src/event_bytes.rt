@@ -3,12 +3,12 @@
 ghost use Rattle.std.specs.Prelude.{◌≡◌, ◌↔◌, IfErr, IfOk, IsTrue};
 ghost use Rattle.std.specs.List.{All};
 ghost use Rattle.stamp_core.specs.LockDecision.{reply_as};
-ghost use Rattle.stamp_watch.specs.LockCall.{call_as};
+ghost use Rattle.stamp_core.specs.LockCall.{call_as};
 ghost use Rattle.stamped_watch.specs.EventBytes.{call_number, HasBytes, IsNoEvent, number_in, number_of, reply_number};
 ghost use Rattle.stamped_watch.specs.inner.EventBytes.{IsCallOf, IsEventOf, IsReplyOf};
 
-use stamp_core::{Call, LockReply, Reply};
-use stamp_watch::{Event, LockCall, StreamEvent};
+use stamp_core::{Call, LockCall, LockReply, Reply};
+use stamp_watch::{Event, StreamEvent};
 
 /// Why 16 bytes are no event.
 #[derive(Clone, Copy, Debug, PartialEq, Eq)]

@@ -3,7 +3,7 @@
 /// The forms of the command line.
 pub(crate) const HELP: &str =
     "stamped_watch [--progress] [--most N] [--ahead N] [--witness FILE] [FILE]
-  judges a stream of a lock's events, of any length, from FILE or standard input
+  judges a stream of a lock's events, of any length, from FILE or standard input; options in any order
   writes ok N (calls), stuck E, undecided E, bad E WHY or bad header WHY; status 0 for ok alone
   --progress on standard error tells how far the stream is judged, each 2^24 events
   --most N   before an event so many configurations at most (1000000)

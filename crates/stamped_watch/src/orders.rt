@@ -1,9 +1,10 @@
 //! The command line.
 
-ghost use Rattle.std.specs.Prelude.{◌≡◌, map, option_map};
+ghost use Rattle.std.specs.Prelude.{◌≡◌, option_map};
+ghost use Rattle.stamp_cli.specs.Given.{items_given, texts};
 ghost use Rattle.stamped_watch.specs.Order as order;
 
-use stamp_cli::{CommandFault, number_in};
+use stamp_cli::{CommandFault, Given, Options, given_in, number_in};
 
 /// The most configurations before an event, if the command line says no other number.
 pub const MOST_CONFIGURATIONS: u64 = 1_000_000;
@@ -36,12 +37,10 @@ pub enum WatchOrder {
     Watch(Watching),
 }
 
-/// What is asked for without options.
-const PLAIN: Watching = Watching {
-    most: MOST_CONFIGURATIONS,
-    ahead: EVENTS_AHEAD,
-    progress: false,
-    witness: false,
+/// The options of a judgement.
+const OPTIONS: Options = Options {
+    flags: &["--progress"],
+    worded: &["--most", "--ahead", "--witness"],
 };
 
 /// So many events, if they are not too many.
@@ -55,61 +54,6 @@ fn ahead_in(text: &str) -> Option<usize>
     Some(ahead as usize)
 }
 
-fn three_options(
-    first: &str,
-    number: &str,
-    second: &str,
-    other: &str,
-    third: &str,
-    last: &str,
-) -> Option<WatchOrder>
-    ensures { result ≡ order.three_options first.now number.now second.now other.now third.now last.now }
-{
-    if first == second || first == third || second == third {
-        return None;
-    }
-    let asked = with_option(PLAIN, first, number)?;
-    let asked = with_option(asked, second, other)?;
-    Some(WatchOrder::Watch(with_option(asked, third, last)?))
-}
-
-/// What is asked for by this option besides, with the word behind it.
-fn with_option(asked: Watching, option: &str, word: &str) -> Option<Watching>
-    ensures { result ≡ order.with_option asked option.now word.now }
-{
-    match option {
-        "--most" => Some(Watching {
-            most: number_in(word)?,
-            ..asked
-        }),
-        "--ahead" => Some(Watching {
-            ahead: ahead_in(word)?,
-            ..asked
-        }),
-        "--witness" if is_file(word) => Some(Watching {
-            witness: true,
-            ..asked
-        }),
-        _ => None,
-    }
-}
-
-fn one_option(option: &str, number: &str) -> Option<WatchOrder>
-    ensures { result ≡ order.one_option option.now number.now }
-{
-    Some(WatchOrder::Watch(with_option(PLAIN, option, number)?))
-}
-
-fn two_options(first: &str, number: &str, second: &str, other: &str) -> Option<WatchOrder>
-    ensures { result ≡ order.two_options first.now number.now second.now other.now }
-{
-    if first == second {
-        return None;
-    }
-    let asked = with_option(PLAIN, first, number)?;
-    Some(WatchOrder::Watch(with_option(asked, second, other)?))
-}
-
 /// Whether the word may name a file: it doesn't begin as an option.
 fn is_file(word: &str) -> bool
     ensures { result ≡ order.is_file word.now }
@@ -120,139 +64,95 @@ fn is_file(word: &str) -> bool
     }
 }
 
-/// What one word asks for: how the program is called, or that a file is judged.
-fn one_word(word: &str) -> Option<WatchOrder>
-    ensures { result ≡ order.one_word word.now }
+fn most_in(given: &Given) -> Option<u64>
+    ensures { result ≡ order.most_in (items_given given.now) }
 {
-    if word == "--help" {
-        Some(WatchOrder::Help)
-    } else if is_file(word) {
-        Some(WatchOrder::Watch(PLAIN))
-    } else {
-        None
+    match given.word_of("--most") {
+        Some(word) => number_in(word),
+        None => Some(MOST_CONFIGURATIONS),
     }
 }
 
-/// What is asked for by these arguments, none of which is `--progress`.
-fn plain_form(args: &[&str]) -> Option<WatchOrder>
-    ensures { result ≡ order.plain_form (map (λ arg. arg.now) args.now) }
+fn ahead_of(given: &Given) -> Option<usize>
+    ensures { result ≡ order.ahead_of (items_given given.now) }
+{
+    match given.word_of("--ahead") {
+        Some(word) => ahead_in(word),
+        None => Some(EVENTS_AHEAD),
+    }
+}
+
+/// Whether a witness is asked for, unless the word behind that option names no file.
+fn witness_of(given: &Given) -> Option<bool>
+    ensures { result ≡ order.witness_of (items_given given.now) }
+{
+    match given.word_of("--witness") {
+        Some(word) if is_file(word) => Some(true),
+        Some(_) => None,
+        None => Some(false),
+    }
+}
+
+/// How a stream is to be judged by these options, unless the word behind one of them doesn't fit it.
+fn watching_of(given: &Given) -> Option<Watching>
+    ensures { result ≡ order.watching_of (items_given given.now) }
+{
+    Some(Watching {
+        most: most_in(given)?,
+        ahead: ahead_of(given)?,
+        progress: given.has("--progress"),
+        witness: witness_of(given)?,
+    })
+}
+
+/// How a stream is to be judged, and what else the arguments give, if they ask for that.
+fn judged_in<'b, 'a>(args: &'b [&'a str]) -> Option<(Watching, Given<'b, 'a>)>
+    ensures { option_map (λ judged. (judged.0, items_given judged.1)) result ≡ order.judged_in (texts args.now) }
+{
+    let given = given_in(OPTIONS, args)?;
+    Some((watching_of(&given)?, given))
+}
+
+fn asks_for_help(args: &[&str]) -> bool
+    ensures { result ≡ order.asks_for_help (texts args.now) }
 {
     match args {
-        [] => Some(WatchOrder::Watch(PLAIN)),
-        [word] => one_word(word),
-        [option, number] => one_option(option, number),
-        [option, number, file] if is_file(file) => one_option(option, number),
-        [first, number, second, other] => two_options(first, number, second, other),
-        [first, number, second, other, file] if is_file(file) => {
-            two_options(first, number, second, other)
-        }
-        [first, number, second, other, third, last] => {
-            three_options(first, number, second, other, third, last)
-        }
-        [first, number, second, other, third, last, file] if is_file(file) => {
-            three_options(first, number, second, other, third, last)
-        }
-        _ => None,
-    }
-}
-
-/// The same judgement, of which it is told how far it is.
-fn with_progress(judged: WatchOrder) -> Option<WatchOrder>
-    ensures { result ≡ order.with_progress judged }
-{
-    match judged {
-        WatchOrder::Help => None,
-        WatchOrder::Watch(asked) => Some(WatchOrder::Watch(Watching {
-            progress: true,
-            ..asked
-        })),
-    }
-}
-
-/// Whether `--progress` is the first of the arguments.
-fn begins_with_progress(args: &[&str]) -> bool
-    ensures { result ≡ order.begins_with_progress (map (λ arg. arg.now) args.now) }
-{
-    match args.first() {
-        Some(first) => *first == "--progress",
-        None => false,
+        [arg] => *arg == "--help",
+        _ => false,
     }
 }
 
 fn form_of(args: &[&str]) -> Option<WatchOrder>
-    ensures { result ≡ order.form_of (map (λ arg. arg.now) args.now) }
+    ensures { result ≡ order.form_of (texts args.now) }
 {
-    if begins_with_progress(args) {
-        with_progress(plain_form(&args[1..])?)
-    } else {
-        plain_form(args)
+    if asks_for_help(args) {
+        return Some(WatchOrder::Help);
     }
+    Some(WatchOrder::Watch(judged_in(args)?.0))
 }
 
 /// What the program's arguments ask for. `--help` alone asks how it is called. Otherwise a stream is judged.
-/// `--progress`, before all others, asks to be told how far. `--most N` gives the most configurations before an event,
+/// `--progress` asks to be told how far. `--most N` gives the most configurations before an event,
 /// and `--ahead N` among how many events the end of a call is looked for, up to 2^32, both numbers below 2^64 in decimal
-/// digits alone; without them they are 1,000,000 and 4,194,304. `--witness FILE` names a file for a witness. Each of these
-/// three comes once at most, in any order. Behind them a file may be named that is judged. A word that begins with `-`
-/// names no file. It refuses as 1 `Bad` exactly where the arguments are no such form.
+/// digits alone; without them they are 1,000,000 and 4,194,304. `--witness FILE` names a file for a witness. A file that
+/// is judged may be named, too. These come in any order, each at most once. A word that begins with `-` names no file.
+/// It refuses as 1 `Bad` exactly where the arguments are no such form.
 pub fn order_of(args: &[&str]) -> Result<WatchOrder, CommandFault>
-    ensures { result ≡ order.order_in (map (λ arg. arg.now) args.now) }
+    ensures { result ≡ order.order_in (texts args.now) }
 {
     form_of(args).ok_or(CommandFault::Bad)
 }
 
-/// The word, if it may name a file and what stands before it is in form.
-fn file_behind(is_form: bool, word: &str) -> Option<&str>
-    ensures { option_map (λ file. file.now) result ≡ order.file_behind is_form word.now }
-{
-    if is_form && is_file(word) {
-        Some(word)
-    } else {
-        None
-    }
-}
-
-/// The file that these arguments name, none of which is `--progress`.
-fn plain_file<'a>(args: &[&'a str]) -> Option<&'a str>
-    ensures { option_map (λ file. file.now) result ≡ order.plain_file (map (λ arg. arg.now) args.now) }
-{
-    match args {
-        [] => None,
-        [file] => file_behind(true, file),
-        [_, _] => None,
-        [option, number, file] => file_behind(one_option(option, number).is_some(), file),
-        [_, _, _, _] => None,
-        [first, number, second, other, file] => {
-            file_behind(two_options(first, number, second, other).is_some(), file)
-        }
-        [_, _, _, _, _, _] => None,
-        [first, number, second, other, third, last, file] => {
-            let asked = three_options(first, number, second, other, third, last);
-            file_behind(asked.is_some(), file)
-        }
-        _ => None,
-    }
-}
-
-/// The file that the arguments name, if they are such a form with a file.
+/// The file that is judged, if the arguments ask for a judgement and name one.
 pub fn file_in<'a>(args: &[&'a str]) -> Option<&'a str>
-    ensures { option_map (λ file. file.now) result ≡ order.file_in (map (λ arg. arg.now) args.now) }
+    ensures { option_map (λ file. file.now) result ≡ order.file_in (texts args.now) }
 {
-    if begins_with_progress(args) {
-        plain_file(&args[1..])
-    } else {
-        plain_file(args)
-    }
+    judged_in(args)?.1.file()
 }
 
-/// The file for a witness: the word behind the first `--witness` of the arguments, if there is one.
+/// The file for a witness, if the arguments ask for a judgement and name one.
 pub fn witness_in<'a>(args: &[&'a str]) -> Option<&'a str>
-    ensures { option_map (λ file. file.now) result ≡ order.witness_in (map (λ arg. arg.now) args.now) }
+    ensures { option_map (λ file. file.now) result ≡ order.witness_in (texts args.now) }
 {
-    for (i, arg) in args.iter().enumerate() {
-        if *arg == "--witness" {
-            return args.get(i + 1).copied();
-        }
-    }
-    None
+    judged_in(args)?.1.word_of("--witness")
 }

@@ -5,7 +5,7 @@
 
 ghost use Rattle.std.specs.Prelude.{◌≡◌, ◌+◌, ◌^◌, ◌<◌, ◌++◌, ◌∷◌, [], ⊤, IfOk, IsSome, MatchOption, OnOk, List, None, Some, length, ℕ};
 ghost use Rattle.stamp_core.specs.Limits.{Bounds};
-ghost use Rattle.stamp_watch.specs.declared.event.Event.{Event};
+ghost use Rattle.stamp_runs.specs.declared.event.Event.{Event};
 ghost use Rattle.stamp_watch.specs.LateJudge.{HasFoundNothingLater, IsLateJudge, IsLateJudgeOfSome};
 ghost use Rattle.stamped_watch.specs.EventBytes.{kind_of};
 ghost use Rattle.stamped_watch.specs.Finding.{IsFindingOf, IsSoFar};

@@ -2,6 +2,9 @@
 use Rattle.std.specs.Prelude.{ℕ, ◌≡◌, ◌≢◌, ◌⊎◌, ◌↔◌, ◌+◌, ◌-◌, ◌^◌, ◌<◌, ◌≤◌, Bool, true, List, [], ◌∷◌, ◌++◌, length}
 use Rattle.std.specs.Prelude.{slice_index_or, take, Option, Some, None}
 use Rattle.stamp_core.specs.Limits.{Bounds}
+use Rattle.stamp_runs.specs.Run.{lane_of}
+use Rattle.stamp_runs.specs.declared.event.Event.{Event}
+use Rattle.stamp_runs.specs.declared.event.Event.TheVariants.{Begins, Returns, Withdraws}
 use Rattle.stamp_watch.specs.Course.{IsOver, IsRest}
 use Rattle.stamp_watch.specs.Delay.{AreLate, AreNear, IsDelayed, IsHandedOn, IsShownIfAny, reach_of}
 use Rattle.stamp_watch.specs.Issued.{LosesNothing}
@@ -9,12 +12,10 @@ use Rattle.stamp_watch.specs.Judge.{IsJudge}
 use Rattle.stamp_watch.specs.Possible.{KeepsBase}
 use Rattle.stamp_watch.specs.Verdict.{AreOfLock}
 use Rattle.stamp_watch.specs.Waiting.{IsCounted}
-use Rattle.stamp_watch.specs.Ahead.{IsSpared, lane_of}
+use Rattle.stamp_watch.specs.Ahead.{IsSpared}
 use Rattle.stamp_watch.specs.declared.delay.Delay.{Delay}
 use Rattle.stamp_watch.specs.declared.delay.Handed.{Handed}
 use Rattle.stamp_watch.specs.declared.delay.Handed.TheVariants as handed
-use Rattle.stamp_watch.specs.declared.event.Event.{Event}
-use Rattle.stamp_watch.specs.declared.event.Event.TheVariants.{Begins, Returns, Withdraws}
 use Rattle.stamp_watch.specs.declared.late_verdict.LateVerdict.{LateVerdict}
 use Rattle.stamp_watch.specs.declared.late_verdict.LateVerdict.TheVariants.{Is, Late}
 use Rattle.stamp_watch.specs.declared.online.Judge.{Judge}

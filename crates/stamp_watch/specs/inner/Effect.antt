@@ -11,13 +11,15 @@ use Rattle.stamp_core.specs.declared.lock_decision.LockReply.{LockReply}
 use Rattle.stamp_core.specs.declared.call.Call.{Call}
 use Rattle.stamp_core.specs.declared.reply.Reply.{Reply}
 use Rattle.stamp_explain.specs.Unchanging.{changes_nothing}
-use Rattle.stamp_watch.specs.declared.event.Event.{Event}
+use Rattle.stamp_runs.specs.declared.event.Event.{Event}
+use Rattle.stamp_runs.specs.Object.{LockStep}
+use Rattle.stamp_runs.specs.Run.{Lanes, Sets, Survives}
+use Rattle.stamp_runs.specs.LockRun.{Configuration, DoSame}
+use Rattle.stamp_runs.specs.Run.Phase.{Asks, Gets}
 use Rattle.stamp_watch.specs.declared.ending.Ending.TheVariants.{Returns, Never}
 use Rattle.stamp_watch.specs.declared.open_call.OpenCall.{OpenCall}
 use Rattle.stamp_watch.specs.declared.position.Position.{Position}
-use Rattle.stamp_watch.specs.LockCall.{call_as}
-use Rattle.stamp_watch.specs.Run.{Configuration, DoSame, Lanes, LockStep, Sets, Survives}
-use Rattle.stamp_watch.specs.Run.Phase.{Asks, Gets}
+use Rattle.stamp_core.specs.LockCall.{call_as}
 use Rattle.stamp_watch.specs.Foretold.{open_at, MayGet, ComesAsTold}
 use Rattle.stamp_watch.specs.Watch.{StandsFor, IsPossible, MayGoOn}
 use Rattle.stamp_watch.specs.inner.Lanes.{lanes_in}
@@ -72,7 +74,7 @@ pub record EffectGoesOn (limits : Bounds) (table : List (Option OpenCall)) (even
   pub step : LockStep limits one.state call reply next
   pub after : Lanes
   pub sets : Sets one.lanes after lane (Gets reply)
-  pub survives : Survives limits events next after
+  pub survives : Survives (LockStep limits) events next after
   pub needed : IsFree table lane ⊎ (appended_by (transition limits one.state call) ≢ [])
 
 -- the position is come to from the other by an effect and what settles then

@@ -6,9 +6,9 @@ use Rattle.stamp_core.specs.Limits.{Bounds}
 use Rattle.stamp_core.specs.LockDecision.{reply_as}
 use Rattle.stamp_core.specs.declared.lock_decision.LockReply.{LockReply}
 use Rattle.stamp_core.specs.declared.reply.Reply.{Reply}
+use Rattle.stamp_runs.specs.declared.event.Event.{Event}
+use Rattle.stamp_runs.specs.declared.event.Event.TheVariants.{Returns}
 use Rattle.stamp_watch.specs.declared.course.Course.{Course}
-use Rattle.stamp_watch.specs.declared.event.Event.{Event}
-use Rattle.stamp_watch.specs.declared.event.Event.TheVariants.{Returns}
 use Rattle.stamp_watch.specs.declared.judge.Outcome.{Outcome}
 use Rattle.stamp_watch.specs.declared.online.Judge.{Judge}
 use Rattle.stamp_watch.specs.declared.possible.KeptReturn.{KeptReturn}

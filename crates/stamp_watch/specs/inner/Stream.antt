@@ -8,13 +8,13 @@ use Rattle.stamp_core.specs.declared.lock_decision.LockReply.{LockReply}
 use Rattle.stamp_core.specs.declared.lock_decision.LockReply.TheVariants as own
 use Rattle.stamp_core.specs.declared.reply.Reply.{Reply}
 use Rattle.stamp_core.specs.declared.reply.Reply.TheVariants as reply
-use Rattle.stamp_watch.specs.declared.event.Event.{Event}
-use Rattle.stamp_watch.specs.declared.event.Event.TheVariants.{Begins, Returns, Withdraws}
-use Rattle.stamp_watch.specs.declared.lock_call.LockCall.{LockCall}
-use Rattle.stamp_watch.specs.declared.lock_call.LockCall.TheVariants as lock
+use Rattle.stamp_runs.specs.declared.event.Event.{Event}
+use Rattle.stamp_runs.specs.declared.event.Event.TheVariants.{Begins, Returns, Withdraws}
+use Rattle.stamp_core.specs.declared.lock_call.LockCall.{LockCall}
+use Rattle.stamp_core.specs.declared.lock_call.LockCall.TheVariants as lock
 use Rattle.stamp_watch.specs.declared.stream_event.SmallEvent.{SmallEvent}
 use Rattle.stamp_watch.specs.declared.stream_event.SmallEvent.TheVariants as small
-use Rattle.stamp_watch.specs.LockCall.{call_as}
+use Rattle.stamp_core.specs.LockCall.{call_as}
 use Rattle.stamp_watch.specs.Stream.{event_of}
 
 -- the call of the lock; one of a record has none

@@ -4,9 +4,9 @@ use Rattle.stamp_core.specs.LockDecision.{reply_as}
 use Rattle.stamp_core.specs.declared.call.Call.{Call}
 use Rattle.stamp_core.specs.declared.lock_decision.LockReply.{LockReply}
 use Rattle.stamp_core.specs.declared.reply.Reply.{Reply}
-use Rattle.stamp_watch.specs.declared.event.Event.{Event}
-use Rattle.stamp_watch.specs.declared.lock_call.LockCall.{LockCall}
-use Rattle.stamp_watch.specs.LockCall.{call_as}
+use Rattle.stamp_runs.specs.declared.event.Event.{Event}
+use Rattle.stamp_core.specs.declared.lock_call.LockCall.{LockCall}
+use Rattle.stamp_core.specs.LockCall.{call_as}
 use Rattle.stamped_watch.specs.EventBytes.{call_kind, call_number, reply_kind, reply_number}
 use Rattle.stamped_watch.specs.EventBytes.{kind_of, lane_of, number_of}
 

@@ -1,15 +1,15 @@
 use Rattle.std.proofs.Common.{◌≡◌, length, arith}
 use Rattle.std.proofs.lemmas.Grind.{common_steps}
-use Rattle.stamp_history.proofs.SmallCalls.{call_at_index}
+use Rattle.stamp_history.proofs.LockCalls.{call_at_index}
 use Rattle.stamp_history.proofs.RepliesSoFar.{goes_on, ends}
 use Rattle.stamp_history.proofs.replay_answer.push_replies_to.Goals as goal
 
 pub loop-index-preserved : goal.loop-index-preserved
 loop-index-preserved c =
-    let there = call_at_index c.args.calls.now c.loop-index.index _ c.call.result c.loop-index-test.true
-    c.call.ensures.call in
-    goes_on c.args.limits c.args.calls.now c.loop-index.index c.call.result c.loop-index.word _ _ _ _ _ _ there
-    c.call.ensures.lock_call c.in_ok-push_comma.ensures c.in_ok-push_reply.ensures.text c.loop-index.invariant
+    let there = call_at_index c.args.calls.now c.loop-index.index _ c.as_call.result c.loop-index-test.true
+    c.as_call.ensures.call in
+    goes_on c.args.limits c.args.calls.now c.loop-index.index c.as_call.result c.loop-index.word _ _ _ _ _ _ there
+    c.as_call.ensures.lock_call c.in_ok-push_comma.ensures c.in_ok-push_reply.ensures.text c.loop-index.invariant
     c.in-Some.ensures
 
 pub returns : goal.returns

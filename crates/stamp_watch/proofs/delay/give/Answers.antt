@@ -29,3 +29,7 @@ loop-event-preserved c = record {
       c.push.new.self c.loop-event-test.true c.event-item.is c.in_ok-push.ensures.given c.loop-event.invariant.known
       (c.has_found.ensures.0 c.if-has_found.false) c.loop-event.invariant.room;
 }
+
+pub returns-clause-kept : goal.returns-clause-kept
+returns-clause-kept c limits most ahead run is keeps = kept_rest limits run c.args.events.now c.loop-event.event-index
+    c.loop-event.judge (c.loop-event.invariant.kept limits most ahead run is keeps)

@@ -1,7 +1,7 @@
 use Rattle.std.proofs.Common.{ℕ, ◌++◌, ◌-◌, List, length}
 use Rattle.std.specs.Prelude.{take}
 use Rattle.stamp_core.specs.Limits.{Bounds}
-use Rattle.stamp_watch.specs.declared.event.Event.{Event}
+use Rattle.stamp_runs.specs.declared.event.Event.{Event}
 use Rattle.stamp_watch.specs.Judge.{IsJudge, IsJudgeOfSome}
 use Rattle.stamp_watch.specs.Possible.{KeepsBase}
 use Rattle.stamp_watch.specs.inner.Delay.{HasRoomFor}

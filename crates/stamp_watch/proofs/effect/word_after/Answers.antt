@@ -3,7 +3,7 @@ use Rattle.std.proofs.lemmas.Bool.{false≢true}
 use Rattle.stamp_core.specs.LockDecision.{reply_as}
 use Rattle.stamp_core.specs.Word.{word_at}
 use Rattle.stamp_core.specs.declared.decision.Decision.TheVariants.{Answer, Change}
-use Rattle.stamp_watch.specs.LockCall.{call_as}
+use Rattle.stamp_core.specs.LockCall.{call_as}
 use Rattle.stamp_watch.proofs.TakingEffect.{decides_at, answer_taken, change_taken, change_left}
 use Rattle.stamp_watch.proofs.effect.word_after.Goals as goal
 

@@ -3,8 +3,8 @@ use Rattle.std.proofs.Common.{length}
 use Rattle.std.specs.Prelude.{drop, take}
 use Rattle.std.proofs.lemmas.Bool.{cases_lt, false≢true}
 use Rattle.std.proofs.lemmas.List.{get_or_default, length-drop, take_all}
+use Rattle.stamp_runs.specs.declared.event.Event.{Event}
 use Rattle.stamp_watch.specs.Issued.{IssuesOlder}
-use Rattle.stamp_watch.specs.declared.event.Event.{Event}
 use Rattle.stamp_watch.proofs.Issuing.{no_older}
 use Rattle.stamp_watch.proofs.issued.returns_older.Goals as goal
 use Rattle.stamp_watch.proofs.issued.returns_older.Goals.{Else-issues_older}

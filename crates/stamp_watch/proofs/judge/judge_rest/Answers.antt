@@ -4,7 +4,7 @@ use Rattle.std.proofs.lemmas.List.{take_rest}
 use Rattle.std.specs.Prelude.{take, drop}
 use Rattle.std.proofs.lemmas.List.Elements.{All-drop}
 use Rattle.stamp_core.specs.Limits.{Bounds}
-use Rattle.stamp_watch.specs.declared.event.Event.{Event}
+use Rattle.stamp_runs.specs.declared.event.Event.{Event}
 use Rattle.stamp_watch.specs.Verdict.{IsOfLock}
 use Rattle.stamp_watch.specs.Judging.{IsJudging}
 use Rattle.stamp_watch.specs.inner.Judging.{IsEndTold, IsStep}

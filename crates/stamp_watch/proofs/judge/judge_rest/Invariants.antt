@@ -1,7 +1,7 @@
 use Rattle.std.proofs.Common.{List, ◌+◌, ◌++◌}
 use Rattle.std.specs.Prelude.{take, drop}
 use Rattle.stamp_core.specs.Limits.{Bounds}
-use Rattle.stamp_watch.specs.declared.event.Event.{Event}
+use Rattle.stamp_runs.specs.declared.event.Event.{Event}
 use Rattle.stamp_watch.specs.Judging.{IsJudging}
 use Rattle.stamp_watch.proofs.judge.judge_rest.Given as goal
 

@@ -1,7 +1,7 @@
 use Rattle.std.proofs.Common.{ℕ, List, None, [], ◌≡◌, ◌∙◌, length, ap, subst, sym}
 use Rattle.std.specs.Prelude.{take}
 use Rattle.std.proofs.lemmas.Result.{IfOk-weaker}
-use Rattle.stamp_watch.specs.declared.event.Event.{Event}
+use Rattle.stamp_runs.specs.declared.event.Event.{Event}
 use Rattle.stamp_watch.specs.Judging.{IsFound}
 use Rattle.stamp_watch.specs.inner.Judging.{IsOutcome}
 use Rattle.stamp_watch.specs.Verdict.{AreOfLock, IsInFormUpTo}

@@ -1,5 +1,5 @@
 use Rattle.std.proofs.Common.{subst}
-use Rattle.stamp_watch.specs.declared.event.Event.{Event}
+use Rattle.stamp_runs.specs.declared.event.Event.{Event}
 use Rattle.stamp_watch.specs.inner.Judging.{IsBusyThen}
 use Rattle.stamp_watch.proofs.lanes.busy_with.Goals as goal
 

@@ -1,4 +1,4 @@
-use Rattle.stamp_watch.proofs.Endless.{endless_alike_first}
+use Rattle.stamp_watch.proofs.Surviving.{endless_alike_first}
 use Rattle.stamp_watch.proofs.watch_laws.endless_alike_first.Goals as goal
 
 pub returns : goal.returns

@@ -1,9 +1,12 @@
 use Rattle.std.proofs.Common.{ℕ, ◌≡◌, ◌+◌, ◌-◌, ◌++◌, List, Option, None, length, take, ap, arith, refl, rules}
-use Rattle.std.proofs.Common.{subst, ◌∙◌}
+use Rattle.std.proofs.Common.{subst, sym, ◌∙◌}
+use Rattle.std.proofs.lemmas.Bool.{false≢true}
 use Rattle.std.specs.Prelude.{fold, min, option_map, slice_set, unwrap_or}
 use Rattle.std.proofs.lemmas.List.{take_min}
+use Rattle.stamp_core.specs.Limits.{Bounds}
+use Rattle.stamp_core.specs.Word.{IsAdmitted, word_at}
 use Rattle.stamp_explain.specs.declared.observed.Observation.{Observation}
-use Rattle.stamp_watch.specs.declared.event.Event.{Event}
+use Rattle.stamp_runs.specs.declared.event.Event.{Event}
 use Rattle.stamp_watch.specs.Start.{waiting_of}
 use Rattle.stamped_watch.specs.Calls.{Told, ended_call, first_in, open_in, return, told_beside, told_end, told_first}
 use Rattle.stamped_watch.specs.Calls.{IsTold, told_with, under_way}
@@ -11,7 +14,17 @@ use Rattle.stamped_watch.specs.declared.begun.Begun.{Begun}
 use Rattle.stamped_watch.specs.Witness.{told_before}
 use Rattle.stamped_watch.proofs.CallsTold.{events_told}
 use Rattle.stamped_watch.proofs.Searching.{searched_if}
+use Rattle.stamped_watch.proofs.Starts.{is_admitted}
 use Rattle.stamped_watch.proofs.witness.witness_from.Goals as goal
+
+pub unreachable-requires-in_default-word_from_bits : goal.unreachable-requires-in_default-word_from_bits
+unreachable-requires-in_default-word_from_bits c =
+    let base = c.args.judge.now.course.base in
+    let kept = c.requires.keeps.keeps.from_base.judging.watching.kept in
+    let admitted = is_admitted base.limits _ base.table.items base.positions.items c.args.start kept.possible
+    c.in-Some-word_at.bits (sym c.in-Some-word_at.ensures) in
+    false≢true (c.in_default-word_from_bits.ensures.some.1
+    (subst (λ (l : Bounds). IsAdmitted l (word_at l c.in-Some-word_at.bits)) (sym c.limits.ensures) admitted))
 
 pub returns : goal.returns
 returns c =

@@ -1,6 +1,6 @@
 use Rattle.std.proofs.Common.{List, ◌≡◌, ◌∷◌, ◌++◌, [], ◌∙◌, ◌+◌, ap, length, length-append, refl, subst, sym}
 use Rattle.std.specs.Prelude.{drop}
-use Rattle.stamp_watch.specs.declared.event.Event.{Event}
+use Rattle.stamp_runs.specs.declared.event.Event.{Event}
 use Rattle.stamp_watch.specs.Course.{IsLooked}
 use Rattle.stamp_watch.proofs.LettingGo.{spare_added}
 use Rattle.stamp_watch.proofs.Looking.{looked_added}

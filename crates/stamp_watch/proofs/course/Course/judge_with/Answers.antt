@@ -1,8 +1,11 @@
-use Rattle.std.proofs.Common.{List, ◌≡◌, ◌++◌, ◌∷◌, [], ◌∙◌, ap, rules, subst, sym}
+use Rattle.std.proofs.Common.{List, ◌≡◌, ◌<◌, ◌++◌, ◌∷◌, [], ◌∙◌, ap, arith, length, rules, subst, sym}
 use Rattle.std.specs.Prelude.{take}
+use Rattle.std.proofs.lemmas.List.{length-take-le, length_push}
+use Rattle.std.proofs.lemmas.Option.{slice_get_within}
 use Rattle.std.proofs.lemmas.Result.{IfOk-weaker}
 use Rattle.stamp_core.specs.Limits.{Bounds}
-use Rattle.stamp_watch.specs.declared.event.Event.{Event}
+use Rattle.stamp_runs.specs.declared.event.Event.{Event}
+use Rattle.stamp_runs.specs.declared.event.Event.TheVariants.{Returns}
 use Rattle.stamp_watch.specs.Judging.{IsJudging}
 use Rattle.stamp_watch.specs.Possible.{IsKept}
 use Rattle.stamp_watch.specs.inner.Judging.{IsOutcome}
@@ -32,6 +35,20 @@ judge_rest-requires-clause-judging c =
       past = some.keeps.past;
       judging = judging_here c some.limits some.run some.keeps;
     }
+
+pub judge_rest-requires-clause-room : goal.judge_rest-requires-clause-room
+judge_rest-requires-clause-room c =
+    let items : List Event = c.args.self.now.events.items in
+    let within : c.args.at < length items = slice_get_within items c.args.at
+    (Returns c.requires.is_return.lane c.requires.is_return.own) c.requires.is_return.there in
+    omega (
+      arith,
+      c.requires.kept.keeps.room,
+      within,
+      ap (λ (xs : List Event). length xs) (same_trial c),
+      length_push (take c.args.at items) c.args.event.now,
+      length-take-le c.args.at items (omega (arith, within)),
+    )
 
 pub returns : goal.returns
 returns c = IfOk-weaker c.judge_rest.result _ _ (λ outcome says limits run kept.

@@ -2,7 +2,7 @@ use Rattle.std.proofs.Common.{ℕ, List, ◌≡◌, ◌+◌, ◌<◌, ◌++◌, 
 use Rattle.std.specs.Prelude.{take, drop}
 use Rattle.std.proofs.lemmas.Result.{IfOk-weaker}
 use Rattle.stamp_core.specs.Limits.{Bounds}
-use Rattle.stamp_watch.specs.declared.event.Event.{Event}
+use Rattle.stamp_runs.specs.declared.event.Event.{Event}
 use Rattle.stamp_watch.specs.declared.judge.Outcome.TheVariants.{Unexplained}
 use Rattle.stamp_watch.specs.declared.verdict.Verdict.{Verdict}
 use Rattle.stamp_watch.specs.Judging.{IsFound}

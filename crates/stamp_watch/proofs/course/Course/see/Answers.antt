@@ -1,7 +1,7 @@
 use Rattle.std.proofs.Common.{List, ◌+◌, ◌++◌, Some, arith, length, refl, subst}
 use Rattle.std.specs.Prelude.{take, drop}
 use Rattle.stamp_core.specs.Limits.{Bounds}
-use Rattle.stamp_watch.specs.declared.event.Event.{Event}
+use Rattle.stamp_runs.specs.declared.event.Event.{Event}
 use Rattle.stamp_watch.specs.Course.{IsCourse}
 use Rattle.stamp_watch.specs.inner.Judging.{IsStep, IsStuckAmong}
 use Rattle.stamp_watch.proofs.Judged.{never_refused}

@@ -1,7 +1,7 @@
 use Rattle.std.proofs.Common.{List, ◌≡◌, ◌+◌, ◌-◌, ◌≤◌, length, length-drop, get_or, arith, refl, subst}
 use Rattle.std.specs.Prelude.{drop}
 use Rattle.std.proofs.lemmas.Result.{IfOk-weaker}
-use Rattle.stamp_watch.specs.declared.event.Event.{Event}
+use Rattle.stamp_runs.specs.declared.event.Event.{Event}
 use Rattle.stamp_watch.proofs.Looking.{looked_all}
 use Rattle.stamp_watch.proofs.TooFar.{front_waits, run_too_far}
 use Rattle.stamp_watch.proofs.Kept.{kept_of, kept_same}

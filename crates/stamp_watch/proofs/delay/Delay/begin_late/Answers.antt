@@ -1,7 +1,8 @@
 use Rattle.std.proofs.Common.{◌+◌, ◌-◌, ◌<◌, List, [], ◌∷◌, ◌++◌, arith, length, subst, sym}
 use Rattle.std.proofs.lemmas.Result.{IfOk-weaker}
-use Rattle.stamp_watch.specs.Ahead.{IsSpared, lane_of}
-use Rattle.stamp_watch.specs.declared.event.Event.{Event}
+use Rattle.stamp_runs.specs.Run.{lane_of}
+use Rattle.stamp_runs.specs.declared.event.Event.{Event}
+use Rattle.stamp_watch.specs.Ahead.{IsSpared}
 use Rattle.stamp_watch.specs.Delay.{AreLate, AreNear, IsHandedOn, IsShownIfAny, reach_of}
 use Rattle.stamp_watch.proofs.Delaying.{late_shown, late_then, near_begun, room_for_one}
 use Rattle.stamp_watch.proofs.HandingOn.{handed_begins, rest_spared}

@@ -1,7 +1,7 @@
 use Rattle.std.proofs.Common.{◌≡◌, ◌≢◌, ◌⊎◌, ◌+◌, ◌-◌, ◌<◌, ◌≤◌, suc, List, [], ◌++◌, arith, length, refl, ap, ◌∙◌}
 use Rattle.std.proofs.Common.{sym, subst, inl, inr}
 use Rattle.std.proofs.lemmas.Bool.{cases_lt, false≢true}
-use Rattle.stamp_watch.specs.declared.event.Event.{Event}
+use Rattle.stamp_runs.specs.declared.event.Event.{Event}
 use Rattle.stamp_watch.specs.inner.Delay.{IsAloneInFront, IsToBeAside}
 use Rattle.stamp_watch.proofs.Delaying.{delayed_aside, delayed_passes, room_for_one}
 use Rattle.stamp_watch.proofs.HandingOn.{first_or_none, first_or_some}

@@ -1,7 +1,7 @@
 use Rattle.std.proofs.Common.{◌≡◌, ◌∙◌, ◌++◌, List, sym, subst, ap, ℕ}
 use Rattle.std.proofs.lemmas.Bool.{false≢true}
+use Rattle.stamp_runs.specs.declared.event.Event.{Event}
 use Rattle.stamp_watch.specs.Issued.{ReturnsOlder}
-use Rattle.stamp_watch.specs.declared.event.Event.{Event}
 use Rattle.stamp_watch.proofs.Issuing.{issued_once}
 use Rattle.stamp_watch.proofs.delay.Delay.loses_nothing.Goals as goal
 use Rattle.stamp_watch.proofs.delay.Delay.loses_nothing.Goals.{After-drop-events-2}

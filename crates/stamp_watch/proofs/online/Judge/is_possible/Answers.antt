@@ -3,8 +3,8 @@ use Rattle.std.specs.Prelude.{take}
 use Rattle.std.proofs.lemmas.Bool.{false≢true}
 use Rattle.stamp_core.specs.Limits.{Bounds}
 use Rattle.stamp_core.specs.LockDecision.{reply_as}
-use Rattle.stamp_watch.specs.declared.event.Event.{Event}
-use Rattle.stamp_watch.specs.declared.event.Event.TheVariants.{Returns}
+use Rattle.stamp_runs.specs.declared.event.Event.{Event}
+use Rattle.stamp_runs.specs.declared.event.Event.TheVariants.{Returns}
 use Rattle.stamp_watch.specs.Possible.{KeepsBase}
 use Rattle.stamp_watch.specs.inner.Judging.{IsOutcome}
 use Rattle.stamp_watch.specs.inner.Possible.{IsReturnFor}

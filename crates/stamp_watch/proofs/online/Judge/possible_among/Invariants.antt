@@ -3,7 +3,7 @@ use Rattle.std.specs.Prelude.{map, take}
 use Rattle.stamp_core.specs.Limits.{Bounds}
 use Rattle.stamp_core.specs.LockDecision.{reply_as}
 use Rattle.stamp_explain.proofs.Choosing.{AreChosen}
-use Rattle.stamp_watch.specs.declared.event.Event.{Event}
+use Rattle.stamp_runs.specs.declared.event.Event.{Event}
 use Rattle.stamp_watch.specs.Possible.{IsPossibleReply, KeepsBase}
 use Rattle.stamp_watch.proofs.online.Judge.possible_among.Given as goal
 

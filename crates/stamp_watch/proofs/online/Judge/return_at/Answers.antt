@@ -1,6 +1,9 @@
-use Rattle.std.proofs.Common.{ℕ, ◌≡◌, ◌+◌, ◌-◌, ◌<◌, ◌∙◌, Some, ap, arith, rules, sym}
+use Rattle.std.proofs.Common.{ℕ, ◌≡◌, ◌+◌, ◌-◌, ◌<◌, ◌≤◌, ◌∙◌, List, Some, ap, arith, length, rules, subst, sym}
 use Rattle.std.specs.Prelude.{slice_get}
-use Rattle.stamp_watch.specs.declared.event.Event.TheVariants.{Returns}
+use Rattle.std.proofs.lemmas.Option.{slice_get_within}
+use Rattle.stamp_runs.specs.declared.event.Event.{Event}
+use Rattle.stamp_runs.specs.declared.event.Event.TheVariants.{Returns}
+use Rattle.stamp_watch.specs.inner.Possible.{IsKeptReturn}
 use Rattle.stamp_watch.proofs.TryingReplies.{kept_lane, read_there, some_same}
 use Rattle.stamp_watch.proofs.online.Judge.return_at.Goals as goal
 use Rattle.stamp_watch.proofs.online.Judge.return_at.Goals.{In-Returns, In_default}
@@ -41,3 +44,21 @@ pub returns-in_default : goal.returns-in_default
 returns-in_default c can = c.in_default.not-Returns can.lane can.own (c.as_event.ensures ∙
     some_same (sym (here c) ∙ ap (λ (n : ℕ). slice_get c.args.self.now.course.events.items n) (sym (place_is c)) ∙
     can.there))
+
+pub returns-in_err-get : goal.returns-in_err-get
+returns-in_err-get c = subst (IsKeptReturn c.args.self.now c.args.number) (sym c.from_residual-in_err-get.ensures)
+    (λ can. none can.there)
+  where
+    events : List Event
+    events = c.args.self.now.course.events.items
+
+    place_at : c.args.number - c.args.self.now.course.first ≡ c.in_ok-place.place
+    place_at = search rules
+
+    high : length events ≤ c.in_ok-place.place
+    high = search rules
+
+    none : {x : Event} → slice_get events (c.args.number - c.args.self.now.course.first) ≡ Some x → ⊥
+    none {x} there =
+        let low = slice_get_within events (c.args.number - c.args.self.now.course.first) x there in
+        omega (arith, low, place_at, high)

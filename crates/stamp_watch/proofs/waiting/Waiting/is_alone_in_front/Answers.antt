@@ -1,8 +1,8 @@
 use Rattle.std.proofs.Common.{◌≡◌, ◌∙◌, ◌<◌, sym, subst, get_or, length, rules}
 use Rattle.std.proofs.lemmas.List.{get_or_default}
-use Rattle.stamp_watch.specs.declared.event.Event.{Event}
-use Rattle.stamp_watch.specs.declared.event.Event.TheVariants.{Begins}
-use Rattle.stamp_watch.specs.Ahead.{lane_of}
+use Rattle.stamp_runs.specs.declared.event.Event.{Event}
+use Rattle.stamp_runs.specs.declared.event.Event.TheVariants.{Begins}
+use Rattle.stamp_runs.specs.Run.{lane_of}
 use Rattle.stamp_watch.proofs.CountingWaiting.{alone}
 use Rattle.stamp_watch.proofs.waiting.Waiting.is_alone_in_front.Goals as goal
 

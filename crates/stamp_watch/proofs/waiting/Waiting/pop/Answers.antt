@@ -1,5 +1,5 @@
 use Rattle.std.proofs.Common.{◌≡◌, ◌+◌, ◌-◌, ◌∙◌, ap, arith, ℕ, get_or, set}
-use Rattle.stamp_watch.specs.Ahead.{lane_of}
+use Rattle.stamp_runs.specs.Run.{lane_of}
 use Rattle.stamp_watch.specs.Waiting.{count_of}
 use Rattle.stamp_watch.proofs.CountingWaiting.{counted_pop, first_counted}
 use Rattle.stamp_watch.proofs.waiting.Waiting.pop.Goals as goal

@@ -1,5 +1,5 @@
 use Rattle.std.proofs.Common.{arith, Some}
-use Rattle.stamp_watch.specs.declared.event.Event.TheVariants.{Begins}
+use Rattle.stamp_runs.specs.declared.event.Event.TheVariants.{Begins}
 use Rattle.stamp_watch.proofs.Stepping.{answered, answer_read, begun_read, busy_begun, idle_read, still_watched}
 use Rattle.stamp_watch.proofs.watch.Watch.begins.Goals as goal
 
@@ -20,7 +20,7 @@ returns-clause-progress c past most watching = answered past (Begins c.args.lane
           (record { asks = c.in-Some.asks; ends = c.args.ends })
           c.put.new.table.items c.begin_in_each.new.positions.items watching (omega arith)
           (idle_read c.args.self.now.table.items c.as_slice.result.now c.args.lane c.open_in.result c.is_some.result
-          c.as_slice.ensures.value c.open_in.ensures c.is_some.ensures c.if-is_some.false) c.in-Some.ensures
+          c.as_slice.ensures.value c.open_in.ensures c.is_some.ensures c.if-is_some.false) c.in-Some.ensures.same
           c.put.ensures c.begin_in_each.ensures;
       busy = busy_begun c.args.self.now.table.items c.put.new.table.items c.args.lane c.args.self.now.busy
           c.with_lane-self.result watching.busy (Some (record { asks = c.in-Some.asks; ends = c.args.ends }))

@@ -1,5 +1,5 @@
 use Rattle.std.proofs.Common.{refl, sym, ◌∙◌, Bool, subst}
-use Rattle.stamp_watch.specs.declared.event.Event.TheVariants as event
+use Rattle.stamp_runs.specs.declared.event.Event.TheVariants as event
 use Rattle.stamp_watch.specs.inner.Layer.{IsAfterReturn}
 use Rattle.stamp_watch.proofs.Stepping.{answered, answer_read, busy_ended, returned_read, too_many_read, open_read}
 use Rattle.stamp_watch.proofs.Stepping.{still_watched}

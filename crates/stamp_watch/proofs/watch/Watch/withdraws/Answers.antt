@@ -1,4 +1,4 @@
-use Rattle.stamp_watch.specs.declared.event.Event.TheVariants as event
+use Rattle.stamp_runs.specs.declared.event.Event.TheVariants as event
 use Rattle.stamp_watch.proofs.Stepping.{answered, answer_read, busy_ended, withdrawn_read, open_read, still_watched}
 use Rattle.stamp_watch.proofs.watch.Watch.withdraws.Goals as goal
 

@@ -2,7 +2,7 @@ use Rattle.std.proofs.Common.{◌≡◌, ◌<◌, List, length, take, get_or, ar
 use Rattle.std.specs.Prelude.{fold}
 use Rattle.std.proofs.lemmas.List.{length-take-le}
 use Rattle.std.proofs.lemmas.List.Sums.{fold_more}
-use Rattle.stamp_watch.specs.declared.event.Event.{Event}
+use Rattle.stamp_runs.specs.declared.event.Event.{Event}
 use Rattle.stamped_watch.specs.Calls.{IsTold, Told, told_with}
 use Rattle.stamped_watch.proofs.CallsTold.{events_told}
 use Rattle.stamped_watch.proofs.begun.Calls.push_all.Goals as goal

@@ -1,0 +1,12 @@
+pub mod Object
+pub mod Run
+pub mod LockRun
+pub mod Pairs
+pub mod Own
+pub mod Watching
+pub mod Position
+pub mod Stepping
+pub mod Returning
+pub mod RunLaws
+pub mod WorkedReturns
+pub mod WorkedEqual

@@ -1,0 +1,196 @@
+//! Laws of runs, of the sets of configurations that a judge keeps, and of positions. Each function does nothing; its
+//! contract is the law, over the definitions alone: of the lock and of the record where it holds of any object.
+ghost use Rattle.stamp_core.specs.Call.{is_lock_call};
+ghost use Rattle.stamp_core.specs.Limits.{Bounds};
+ghost use Rattle.stamp_runs.specs.Object.{LockStep, RecordStep};
+ghost use Rattle.stamp_runs.specs.RunLaws.{AtOnceLosesNothing, BeginsGoOn, EndlessAlikeFirst, EndlessMayAsk, ExplainedApart, ExplainedByOwn, FreeCovers, FreeOrAsks, HiddenAlikeFirst, HiddenIsPossible, HiddenLosesNothing, HiddenWithReaders, KeptStand, LockOverwritesNever, OpeningStands, OthersStay, OverwritingIsPossible, OverwritingLosesNothing, OwnEventsTell, PositionsGoOn, PositionsTell, PutsOverwrite, ReadersLoseNothing, ReadsChangeNothing, ReturnsGoOn, SameAreAlike, SoonerAlikeFirst, StuckIsExact, ToldGoesFirst, WithdrawsGoOn};
+ghost use Rattle.stamp_runs.specs.WorkedEqual.{EqualReturns};
+ghost use Rattle.stamp_runs.specs.WorkedReturns.{GetReturns, PutReturns};
+
+/// A call whose reply tells that it changes nothing may take effect as soon as it may.
+pub fn at_once_loses_nothing()
+    ensures of_lock { (limits : Bounds) → AtOnceLosesNothing (LockStep limits) }
+    ensures of_record { AtOnceLosesNothing RecordStep }
+{}
+
+/// Calls whose replies tell that they change nothing may be in effect together.
+pub fn readers_lose_nothing()
+    ensures of_lock { (limits : Bounds) → ReadersLoseNothing (LockStep limits) }
+    ensures of_record { ReadersLoseNothing RecordStep }
+{}
+
+/// Of two open calls that are alike the one that returns sooner may take effect first.
+pub fn sooner_alike_first()
+    ensures of_lock { (limits : Bounds) → SoonerAlikeFirst (LockStep limits) }
+    ensures of_record { SoonerAlikeFirst RecordStep }
+{}
+
+/// Of two open calls that are alike, and of which neither ends, either may take effect first.
+pub fn endless_alike_first()
+    ensures of_lock { (limits : Bounds) → EndlessAlikeFirst (LockStep limits) }
+    ensures of_record { EndlessAlikeFirst RecordStep }
+{}
+
+/// What goes on where a call that never ends is in effect goes on where it is not.
+pub fn endless_may_ask()
+    ensures of_lock { (limits : Bounds) → EndlessMayAsk (LockStep limits) }
+    ensures of_record { EndlessMayAsk RecordStep }
+{}
+
+/// A run of lock and record is explained exactly where it is as a run of each among calls of the other.
+pub fn explained_apart()
+    ensures { (limits : Bounds) → ExplainedApart is_lock_call (LockStep limits) RecordStep }
+{}
+
+/// A run among calls of others, in form, is explained exactly where it is as a run of its own calls.
+pub fn own_events_tell()
+    ensures of_lock { (limits : Bounds) → OwnEventsTell (LockStep limits) }
+    ensures of_record { OwnEventsTell RecordStep }
+{}
+
+/// A run of lock and record, in form, is explained exactly where the events of each are.
+pub fn explained_by_own()
+    ensures { (limits : Bounds) → ExplainedByOwn is_lock_call (LockStep limits) RecordStep }
+{}
+
+/// Of the calls of the record just puts overwrite.
+pub fn puts_overwrite()
+    ensures { PutsOverwrite }
+{}
+
+/// Of the calls of the lock none overwrites.
+pub fn lock_overwrites_never()
+    ensures { LockOverwritesNever }
+{}
+
+/// A get changes nothing, nor does a `PutIf` that is answered no.
+pub fn reads_change_nothing()
+    ensures { ReadsChangeNothing }
+{}
+
+/// Calls of the lock that do the same are alike.
+pub fn same_are_alike()
+    ensures { SameAreAlike }
+{}
+
+/// All that a position stands for is possible once an overwriting call has taken effect.
+pub fn overwriting_is_possible()
+    ensures of_lock { (limits : Bounds) → OverwritingIsPossible (LockStep limits) }
+    ensures of_record { OverwritingIsPossible RecordStep }
+{}
+
+/// Nothing is lost where an overwriting call takes effect.
+pub fn overwriting_loses_nothing()
+    ensures of_lock { (limits : Bounds) → OverwritingLosesNothing (LockStep limits) }
+    ensures of_record { OverwritingLosesNothing RecordStep }
+{}
+
+/// What becomes of a lane whose call is not free becomes of it in all that the position stands for.
+pub fn others_stay()
+    ensures of_lock { (limits : Bounds) → OthersStay (LockStep limits) }
+    ensures of_record { OthersStay RecordStep }
+{}
+
+/// Where a free call is not in effect it may be taken out of the free ones.
+pub fn free_or_asks()
+    ensures of_lock { (limits : Bounds) → FreeOrAsks (LockStep limits) }
+    ensures of_record { FreeOrAsks RecordStep }
+{}
+
+/// A free call that overwrites covers the same call in effect.
+pub fn free_covers()
+    ensures of_lock { (limits : Bounds) → FreeCovers (LockStep limits) }
+    ensures of_record { FreeCovers RecordStep }
+{}
+
+/// What comes of a position by hidden calls it stood for before.
+pub fn hidden_is_possible()
+    ensures of_lock { (limits : Bounds) → HiddenIsPossible (LockStep limits) }
+    ensures of_record { HiddenIsPossible RecordStep }
+{}
+
+/// Where a free call that overwrites is in effect, it may be taken to be hidden first.
+pub fn hidden_loses_nothing()
+    ensures of_lock { (limits : Bounds) → HiddenLosesNothing (LockStep limits) }
+    ensures of_record { HiddenLosesNothing RecordStep }
+{}
+
+/// A free call that overwrites is hidden with all that read what it left.
+pub fn hidden_with_readers()
+    ensures of_lock { (limits : Bounds) → HiddenWithReaders (LockStep limits) }
+    ensures of_record { HiddenWithReaders RecordStep }
+{}
+
+/// Of two free calls that overwrite and are alike the one that goes first may be hidden instead of the other.
+pub fn hidden_alike_first()
+    ensures of_lock { (limits : Bounds) → HiddenAlikeFirst (LockStep limits) }
+    ensures of_record { HiddenAlikeFirst RecordStep }
+{}
+
+/// Of two calls the one goes first of which that is told.
+pub fn told_goes_first()
+    ensures { ToldGoesFirst }
+{}
+
+/// At first a judge keeps the opening alone.
+pub fn opening_stands()
+    ensures of_lock { (limits : Bounds) → OpeningStands (LockStep limits) }
+    ensures of_record { OpeningStands RecordStep }
+{}
+
+/// Where a call begins, each position goes on by its beginning.
+pub fn begins_go_on()
+    ensures of_lock { (limits : Bounds) → BeginsGoOn (LockStep limits) }
+    ensures of_record { BeginsGoOn RecordStep }
+{}
+
+/// Where a call is withdrawn, those positions go on in which it is not in effect.
+pub fn withdraws_go_on()
+    ensures of_lock { (limits : Bounds) → WithdrawsGoOn (LockStep limits) }
+    ensures of_record { WithdrawsGoOn RecordStep }
+{}
+
+/// A return by positions loses nothing and adds nothing.
+pub fn returns_go_on()
+    ensures of_lock { (limits : Bounds) → ReturnsGoOn (LockStep limits) }
+    ensures of_record { ReturnsGoOn RecordStep }
+{}
+
+/// A set may be made smaller at any time, if each of its positions is kept as one that is reached.
+pub fn kept_stand()
+    ensures of_lock { (limits : Bounds) → KeptStand (LockStep limits) }
+    ensures of_record { KeptStand RecordStep }
+{}
+
+/// What stands for the configurations after some events stands for those after one more, if it goes on by it.
+pub fn positions_go_on()
+    ensures of_lock { (limits : Bounds) → PositionsGoOn (LockStep limits) }
+    ensures of_record { PositionsGoOn RecordStep }
+{}
+
+/// While a position is kept the run is explained so far, and where none is nothing is that fits what is told.
+pub fn positions_tell()
+    ensures of_lock { (limits : Bounds) → PositionsTell (LockStep limits) }
+    ensures of_record { PositionsTell RecordStep }
+{}
+
+/// A judge to whom nothing of what comes later is told says exactly at which event a run is stuck.
+pub fn stuck_is_exact()
+    ensures of_lock { (limits : Bounds) → StuckIsExact (LockStep limits) }
+    ensures of_record { StuckIsExact RecordStep }
+{}
+
+/// A return of a put, worked out.
+pub fn put_returns()
+    ensures { PutReturns }
+{}
+
+/// A return of a get, worked out.
+pub fn get_returns()
+    ensures { GetReturns }
+{}
+
+/// A return of a get where two puts are alike, worked out.
+pub fn equal_returns()
+    ensures { EqualReturns }
+{}

@@ -1,0 +1,14 @@
+pub mod CountingLanes
+pub mod Tables
+pub mod Telling
+pub mod Reading
+pub mod Settled
+pub mod Going
+pub mod Returned
+pub mod Stepping
+pub mod Answering
+pub mod DoingSame
+pub mod Unchanging
+pub mod Effects
+pub mod Expanding
+pub mod Layering

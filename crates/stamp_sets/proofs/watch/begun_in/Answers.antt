@@ -1,0 +1,10 @@
+use Rattle.std.proofs.Common.{refl}
+use Rattle.stamp_sets.proofs.watch.begun_in.Goals as goal
+
+pub returns : goal.returns
+returns c = record {
+  plain = record { state = c.args.position.state; in_effect = c.without_lane.result };
+  state = refl;
+  clears = c.without_lane.ensures;
+  settles = c.at_once.ensures;
+}

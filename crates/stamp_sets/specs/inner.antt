@@ -1,0 +1,9 @@
+pub mod Ended
+pub mod State
+pub mod Lanes
+pub mod Stamps
+pub mod Alike
+pub mod Unchanging
+pub mod Effect
+pub mod Layer
+pub mod Step

@@ -1,0 +1,5 @@
+//! The tests of `stamp_sets`, in a crate of their own, since one with tests is proved twice.
+#![tactic(auto)]
+
+#[cfg(test)]
+mod watch_tests;
