@@ -5,7 +5,8 @@ use Rattle.std.proofs.Common.{inr, arith}
 use Rattle.std.proofs.lemmas.Bool.{cases_eq, false≢true}
 use Rattle.std.proofs.lemmas.Nat.Bits.{bit_at-lt, bit_at-zero}
 use Rattle.std.specs.Int.{bit_at}
-use Rattle.stamp_sets.specs.inner.Lanes.{SetsBit, lanes_below, lanes_in}
+use Rattle.stamp_sets.specs.Lanes.{SetsBit}
+use Rattle.stamp_sets.specs.inner.Lanes.{lanes_below, lanes_in}
 
 lanes_below_le : (n lanes : ℕ) → lanes_below n lanes ≤ n
 unfolding lanes_below

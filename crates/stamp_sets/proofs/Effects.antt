@@ -25,7 +25,7 @@ use Rattle.stamp_sets.specs.Told.{MayGet, open_at}
 use Rattle.stamp_sets.specs.inner.Ended.{IsReturn}
 use Rattle.stamp_sets.specs.inner.Effect.{IsEffect, IsAfterEffect, IsUnchanging, Leaves, Settles, TakesEffectTo}
 use Rattle.stamp_sets.specs.inner.Effect.Settles.{as_it_is, one_more}
-use Rattle.stamp_sets.specs.inner.Lanes.{SetsBit}
+use Rattle.stamp_sets.specs.Lanes.{SetsBit}
 
 pub admitted : (limits : Bounds) (number : ℕ) → IsState (lock limits) number → IsAdmitted limits (word_at limits number)
 admitted limits number is = record { events = is.state; represented = is.holds }

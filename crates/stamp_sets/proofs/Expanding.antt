@@ -14,7 +14,7 @@ use Rattle.stamp_sets.specs.declared.position.Position.{Position}
 use Rattle.stamp_sets.specs.Judged.{Judged}
 use Rattle.stamp_sets.specs.Told.{HasEachOpen, open_at}
 use Rattle.stamp_sets.specs.inner.Effect.{GivesWay, IsAfterEffect, IsEffect}
-use Rattle.stamp_sets.specs.inner.Lanes.{SetsBit}
+use Rattle.stamp_sets.specs.Lanes.{SetsBit}
 use Rattle.stamp_sets.specs.inner.Layer.{Adds, ComesAmong, Expands, FollowsIt, Includes, IsTried}
 use Rattle.stamp_sets.proofs.Tables.{one_open}
 

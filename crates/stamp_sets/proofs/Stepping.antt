@@ -34,7 +34,7 @@ use Rattle.stamp_sets.specs.Kept.{AreKept, HasPhase, IsKept, IsPossible, MayBe, 
 use Rattle.stamp_sets.specs.Kept.{ReadsOne}
 use Rattle.stamp_sets.specs.Told.{ComesAsTold, HasEachOpen, MayGet, open_at}
 use Rattle.stamp_sets.specs.inner.Effect.{Settles}
-use Rattle.stamp_sets.specs.inner.Lanes.{SetsBit}
+use Rattle.stamp_sets.specs.Lanes.{SetsBit}
 use Rattle.stamp_sets.specs.inner.Step.{AreBegun, BeginsIn, IsOpening}
 use Rattle.stamp_sets.proofs.Layering.{all_from, contains_one}
 use Rattle.stamp_sets.proofs.Reading.{moved, phase_at, reached_on, reads_set}

@@ -20,8 +20,8 @@ use Rattle.stamp_sets.specs.Told.{ComesAsTold, EndsSo, ReturnsBefore, open_at}
 use Rattle.stamp_sets.proofs.Tables.{idle_apart, one_open, open_at_set_other}
 
 -- an event that ends no call of the lane may come first
-ends_past : (u : ℕ) (ends : Ending) (event : Event) (events : List Event) → ¬ IsEndOf u event → EndsSo u ends events →
-    EndsSo u ends (event ∷ events)
+pub ends_past : (u : ℕ) (ends : Ending) (event : Event) (events : List Event) → ¬ IsEndOf u event →
+    EndsSo u ends events → EndsSo u ends (event ∷ events)
 ends_past u (Returns told place) event events not is = ends_later event not is
 ends_past u Withdraws event events not is = ends_later event not is
 ends_past u Never event events not is = All-cons (λ (e : Event). ¬ IsEndOf u e) event events not is

@@ -7,8 +7,9 @@ ghost use Rattle.stamp_sets.specs.inner.State.{IsState};
 ghost use Rattle.stamp_sets.specs.Told.{open_at};
 ghost use Rattle.stamp_sets.specs.inner.Effect.{IsEffect, IsFoundAfter, Settles};
 
+use crate::lanes::{first_lane, has_lane, with_lane, without_lane};
 use crate::open_call::{OpenCall, open_in};
-use crate::position::{Position, first_lane, has_lane, with_lane, without_lane};
+use crate::position::Position;
 use stamp_core::{Limits, LockDecision, decide_lock};
 
 /// The number of the state once the call has taken effect in this one, with a reply that it may get. Nothing also where

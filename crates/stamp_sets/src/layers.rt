@@ -9,8 +9,9 @@ ghost use Rattle.stamp_sets.specs.Told.{HasEachOpen};
 ghost use Rattle.stamp_sets.specs.inner.Layer.{Adds, Expands, LooksAt, LooksThrough, MoreFollow, IsUnderWay, IsReturnedFrom, AreReturned, IsAfterReturn};
 
 use crate::effect::after_effect;
+use crate::lanes::{first_lane, has_lane, without_lane};
 use crate::open_call::{OpenCall, open_in};
-use crate::position::{Position, first_lane, has_lane, without_lane};
+use crate::position::Position;
 use stamp_core::Limits;
 use std::alloc::{AllocError, Global};
 

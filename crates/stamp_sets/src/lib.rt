@@ -3,13 +3,16 @@
 
 mod effect;
 mod ending;
+mod lanes;
 mod layers;
 mod lock_calls;
 mod open_call;
 mod position;
+mod positions;
 mod progress;
 mod watch;
 
 pub use ending::Ending;
+pub use lanes::{first_lane, has_lane, with_lane, without_lane};
 pub use progress::Progress;
 pub use watch::Watch;

@@ -6,8 +6,8 @@ ghost use Rattle.stamp_sets.specs.Told.{open_at};
 ghost use Rattle.stamp_sets.specs.inner.Effect.{AreEndless, IsAhead, GivesWay, IsUnchanging};
 
 use crate::ending::{Ending, is_same_reply};
+use crate::lanes::{first_lane, has_lane, without_lane};
 use crate::lock_calls::{does_same, is_unchanging};
-use crate::position::{first_lane, has_lane, without_lane};
 use stamp_core::{Limits, LockCall};
 use std::alloc::{AllocError, Global};
 

@@ -10,9 +10,10 @@ ghost use Rattle.stamp_sets.specs.inner.Step.{IsOpening, BeginsIn, AreBegun, IsA
 
 use crate::effect::at_once;
 use crate::ending::Ending;
+use crate::lanes::{with_lane, without_lane};
 use crate::layers::return_call;
 use crate::open_call::{OpenCall, idle_lanes, open_in, put};
-use crate::position::{Position, with_lane, without_lane};
+use crate::position::Position;
 use crate::progress::Progress;
 use stamp_core::{Call, Limits, LockCall, Reply, Word};
 use std::alloc::{AllocError, Global};
@@ -23,11 +24,11 @@ use std::alloc::{AllocError, Global};
 #[derive(Drop)]
 pub struct Watch {
     alloc: Global,
-    limits: Limits,
-    table: Vec<Option<OpenCall>>,
+    pub(crate) limits: Limits,
+    pub(crate) table: Vec<Option<OpenCall>>,
     busy: u64,
     last: u64,
-    positions: Vec<Position>,
+    pub(crate) positions: Vec<Position>,
 }
 
 fn opening(limits: Limits) -> Position

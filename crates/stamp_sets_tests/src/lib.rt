@@ -2,4 +2,6 @@
 #![tactic(auto)]
 
 #[cfg(test)]
+mod lanes_tests;
+#[cfg(test)]
 mod watch_tests;

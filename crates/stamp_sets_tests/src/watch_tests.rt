@@ -90,3 +90,17 @@ fn calls_that_are_alike_have_one_order(rt: HostRuntime) -> Result<(), Fail> {
     assert!(rt; watch.returns(0, &Reply::Yes, 8)? == Progress::Dead);
     Ok(())
 }
+
+#[test]
+fn positions_are_told_one_by_one(rt: HostRuntime) -> Result<(), Fail> {
+    let mut watch = watch(&rt)?;
+    assert!(rt; watch.limits().readers() == 127 && watch.positions() == 1);
+    assert!(rt; watch.word_at(0) == Some(256) && watch.word_at(1) == None);
+    assert!(rt; watch.begins(0, &Call::TryRead, Ending::Never) == Progress::Going);
+    let told = Ending::Returns(LockReply::Count(0), 1);
+    assert!(rt; watch.begins(2, &Call::ReadCount, told) == Progress::Going);
+    assert!(rt; watch.waiting_at(0, 0) == Some(Call::TryRead) && watch.waiting_at(0, 1) == None);
+    assert!(rt; watch.waiting_at(0, 2) == None && watch.waiting_at(0, 64) == None);
+    assert!(rt; watch.waiting_at(1, 0) == None);
+    Ok(())
+}

@@ -10,8 +10,8 @@ use Rattle.stamp_core.specs.declared.call.Call.{Call}
 use Rattle.stamp_core.specs.declared.reply.Reply.{Reply}
 use Rattle.stamp_runs.specs.declared.event.Event.{Event}
 use Rattle.stamp_runs.specs.declared.event.Event.TheVariants as event
-use Rattle.stamp_watch.specs.declared.ending.Ending.{Ending}
-use Rattle.stamp_watch.specs.declared.ending.Ending.TheVariants.{Returns, Withdraws, Never}
+use Rattle.stamp_sets.specs.declared.ending.Ending.{Ending}
+use Rattle.stamp_sets.specs.declared.ending.Ending.TheVariants.{Returns, Withdraws, Never}
 use Rattle.stamp_watch.specs.AsObserved.{ending_of}
 use Rattle.stamp_watch.specs.AsObserved.Ending.{EndsReturned}
 use Rattle.stamp_watch.specs.Verdict.{IsOfLock, is_lock_reply}

@@ -9,14 +9,14 @@ use Rattle.std.proofs.Math.Seq.{take-append-add}
 use Rattle.stamp_core.specs.Limits.{Bounds}
 use Rattle.stamp_runs.specs.declared.event.Event.{Event}
 use Rattle.stamp_runs.specs.LockRun.{AreExplained}
-use Rattle.stamp_watch.specs.declared.progress.Progress.{Progress}
-use Rattle.stamp_watch.specs.declared.progress.Progress.TheVariants as progress
+use Rattle.stamp_sets.specs.declared.progress.Progress.{Progress}
+use Rattle.stamp_sets.specs.declared.progress.Progress.TheVariants as progress
 use Rattle.stamp_watch.specs.declared.verdict.Verdict.{Verdict}
 use Rattle.stamp_watch.specs.declared.verdict.Verdict.TheVariants.{Explained, Stuck, StuckWithin, Undecided, Broken}
 use Rattle.stamp_watch.specs.declared.verdict.Why.TheVariants as cause
-use Rattle.stamp_watch.specs.declared.watch.Watch.{Watch}
+use Rattle.stamp_sets.specs.declared.watch.Watch.{Watch}
 use Rattle.stamp_watch.specs.Verdict.{AreOfLock, AreTooMany, IsInFormUpTo, IsVerdict}
-use Rattle.stamp_watch.specs.Watch.{IsCopy, IsUntold, IsWatching}
+use Rattle.stamp_sets.specs.Watch.{IsCopy, IsUntold, IsWatching}
 use Rattle.stamp_watch.specs.Judging.{IsJudging, IsFound}
 use Rattle.stamp_watch.specs.inner.Judging.{IsStep, IsBetween, IsOutcome, IsBase, IsStuckBehind}
 use Rattle.stamp_watch.specs.declared.judge.Outcome.{Outcome}

@@ -19,29 +19,30 @@ use Rattle.stamp_runs.specs.Run.{EndsBy, IsEndOf, ReturnsSooner}
 use Rattle.stamp_runs.specs.Run.EndsBy.{ends_next, ends_later}
 use Rattle.stamp_runs.specs.Run.ReturnsSooner.{sooner_next, sooner_later}
 use Rattle.stamp_runs.specs.LockRun.{AreExplained}
-use Rattle.stamp_watch.specs.declared.ending.Ending.{Ending}
-use Rattle.stamp_watch.specs.declared.ending.Ending.TheVariants.{Returns, Withdraws, Never}
-use Rattle.stamp_watch.specs.declared.open_call.OpenCall.{OpenCall}
-use Rattle.stamp_watch.specs.declared.position.Position.{Position}
-use Rattle.stamp_watch.specs.declared.progress.Progress.{Progress}
-use Rattle.stamp_watch.specs.declared.progress.Progress.TheVariants.{Going, Dead, TooMany, Refused}
-use Rattle.stamp_watch.specs.declared.watch.Watch.{Watch}
+use Rattle.stamp_sets.specs.declared.ending.Ending.{Ending}
+use Rattle.stamp_sets.specs.declared.ending.Ending.TheVariants.{Returns, Withdraws, Never}
+use Rattle.stamp_sets.specs.declared.open_call.OpenCall.{OpenCall}
+use Rattle.stamp_sets.specs.declared.progress.Progress.{Progress}
+use Rattle.stamp_sets.specs.declared.progress.Progress.TheVariants.{Going, Dead, TooMany, Refused}
+use Rattle.stamp_sets.specs.declared.watch.Watch.{Watch}
 use Rattle.stamp_watch.specs.AsObserved.{ending_of}
 use Rattle.stamp_watch.specs.AsObserved.Ending.{StaysOpen, EndsReturned, EndsWithdrawn}
-use Rattle.stamp_watch.specs.Foretold.{open_at, ends_as, EndsSo, HasEachOpen, ComesAsTold}
+use Rattle.stamp_sets.specs.Told.{open_at, EndsSo, ComesAsTold}
+use Rattle.stamp_watch.specs.Foretold.{ends_as}
 use Rattle.stamp_watch.specs.Form.{is_busy_then, is_busy_after, MayCome}
 use Rattle.stamp_watch.specs.Verdict.{AreOfLock}
-use Rattle.stamp_watch.specs.Watch.{AreKept, IsCopy, IsWatching, IsUntold, IsInForm, IsProgress, IsTaken, BeginsTold}
-use Rattle.stamp_watch.specs.Watch.{ReturnsTold, WithdrawsTold}
+use Rattle.stamp_sets.specs.Watch.{IsCopy, IsWatching, IsUntold, IsInForm, IsProgress, IsTaken, BeginsTold}
+use Rattle.stamp_sets.specs.Watch.{ReturnsTold, WithdrawsTold}
 use Rattle.stamp_watch.specs.Judging.{IsFollowed, IsJudging}
 use Rattle.stamp_watch.specs.inner.Judging.{IsEndTold, IsStep}
+use Rattle.stamp_watch.proofs.Configurations.{more_are_possible, watching_copied}
 use Rattle.stamp_watch.proofs.Form.{busy_after_one}
 use Rattle.stamp_watch.proofs.Forming.{next_comes, next_of_lock}
-use Rattle.stamp_watch.proofs.Foretelling.{ends_beyond}
+use Rattle.stamp_sets.proofs.Telling.{ends_past}
 use Rattle.stamp_watch.proofs.Numbered.{end_or_not, ended_by, ending_last, ending_spares, one_return, open_or_ended}
 use Rattle.stamp_watch.proofs.Numbered.{return_ends, withdrawal_ends, withdrawn_or_ended}
 use Rattle.stamp_watch.proofs.Ways.{at_end}
-use Rattle.stamp_watch.proofs.Tables.{open_at_set_here, open_at_set_other}
+use Rattle.stamp_sets.proofs.Tables.{open_at_set_here, open_at_set_other}
 
 withdrawn_or_open : EndsWithdrawn ≡ StaysOpen → ⊥
 withdrawn_or_open same = cc
@@ -97,7 +98,7 @@ ends_so lane n (event ∷ events) ends is =
     by : (ends_as ends ≡ ending_of lane (n + 1) events → EndsSo lane ends events) →
         IsEndOf lane event ⊎ (¬ IsEndOf lane event) → EndsSo lane ends (event ∷ events)
     by later (inl end) = ends_at lane n event events ends end is
-    by later (inr not) = ends_beyond lane ends event events not (later (is ∙ ending_spares lane n event events not))
+    by later (inr not) = ends_past lane ends event events not (later (is ∙ ending_spares lane n event events not))
 
 -- calls return in the order of their places
 sooner_so : (lane than n : ℕ) (events : List Event) (a b : Returned) → ending_of lane n events ≡ EndsReturned a →
@@ -325,7 +326,7 @@ stepped limits n past e ahead most old new TooMany is same follows judging = rec
   limits_are = judging.limits_are;
   watching = judging.watching;
   told = judging.followed.told;
-  more = is.0;
+  more = more_are_possible past most old is.0;
 }
 stepped limits n past e ahead most old new Refused is same follows judging =
     is.0 (in_form n past e ahead old judging.followed)
@@ -402,16 +403,7 @@ pub judging_copied : (limits : Bounds) (n : ℕ) (past future : List Event) (wat
     IsJudging limits n past future watch → IsJudging limits n past future copy
 judging_copied limits n past future watch copy same judging = record {
   limits_are = same.limits ∙ judging.limits_are;
-  watching = record {
-    kept = subst (λ (l : Bounds). AreKept l past copy.table.items copy.last copy.positions.items) (sym same.limits)
-        (subst (λ (t : List (Option OpenCall)). AreKept watch.limits past t copy.last copy.positions.items)
-        (sym same.table)
-        (subst (λ (m : ℕ). AreKept watch.limits past watch.table.items m copy.positions.items) (sym same.last)
-        (subst (λ (xs : List Position). AreKept watch.limits past watch.table.items watch.last xs)
-        (sym same.positions) judging.watching.kept)));
-    busy = subst (λ (t : List (Option OpenCall)). HasEachOpen t copy.busy) (sym same.table)
-        (subst (λ (m : ℕ). HasEachOpen watch.table.items m) (sym same.busy) judging.watching.busy);
-  };
+  watching = watching_copied past watch copy same judging.watching;
   explained = judging.explained;
   followed = record {
     whole = judging.followed.whole;

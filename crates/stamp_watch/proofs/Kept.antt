@@ -7,7 +7,7 @@ use Rattle.std.specs.declared.alloc.Global.{Global}
 use Rattle.stamp_core.specs.Limits.{Bounds}
 use Rattle.stamp_runs.specs.declared.event.Event.{Event}
 use Rattle.stamp_watch.specs.declared.course.Course.{Course}
-use Rattle.stamp_watch.specs.declared.watch.Watch.{Watch}
+use Rattle.stamp_sets.specs.declared.watch.Watch.{Watch}
 use Rattle.stamp_watch.specs.Course.{HasRoom, IsCourse, IsStanding}
 use Rattle.stamp_watch.specs.Verdict.{AreOfLock}
 use Rattle.stamp_watch.specs.declared.online.Judge.{Judge}

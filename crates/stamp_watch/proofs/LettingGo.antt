@@ -7,9 +7,9 @@ use Rattle.std.proofs.lemmas.List.{length-append, length-drop, length-take-le}
 use Rattle.std.proofs.Math.Seq.{take-add, drop-append-add}
 use Rattle.stamp_core.specs.Limits.{Bounds}
 use Rattle.stamp_runs.specs.declared.event.Event.{Event}
-use Rattle.stamp_watch.specs.declared.watch.Watch.{Watch}
+use Rattle.stamp_sets.specs.declared.watch.Watch.{Watch}
 use Rattle.stamp_watch.specs.Verdict.{AreOfLock}
-use Rattle.stamp_watch.specs.Watch.{IsCopy}
+use Rattle.stamp_sets.specs.Watch.{IsCopy}
 use Rattle.stamp_watch.specs.Course.{IsLooked, IsRunOn, IsSpare, IsStanding}
 use Rattle.stamp_watch.proofs.Judged.{cut_behind, length_behind}
 use Rattle.stamp_watch.proofs.Judging.{judging_copied}

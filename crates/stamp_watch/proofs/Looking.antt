@@ -9,8 +9,8 @@ use Rattle.std.proofs.lemmas.List.{drop-append-le, length-take-le}
 use Rattle.stamp_runs.specs.declared.event.Event.{Event}
 use Rattle.stamp_runs.specs.declared.event.Event.TheVariants.{Begins, Returns, Withdraws}
 use Rattle.stamp_runs.specs.Run.{IsEndOf, EndsNever}
-use Rattle.stamp_watch.specs.declared.ending.Ending.{Ending}
-use Rattle.stamp_watch.specs.declared.ending.Ending.TheVariants.{Never}
+use Rattle.stamp_sets.specs.declared.ending.Ending.{Ending}
+use Rattle.stamp_sets.specs.declared.ending.Ending.TheVariants.{Never}
 use Rattle.stamp_watch.specs.AsObserved.{ending_of}
 use Rattle.stamp_watch.specs.Foretold.{ends_as}
 use Rattle.stamp_watch.specs.Course.{LeavesOpen, IsLooked}

@@ -13,15 +13,16 @@ use Rattle.stamp_runs.specs.declared.event.Event.{Event}
 use Rattle.stamp_runs.specs.declared.event.Event.TheVariants.{Begins, Returns, Withdraws}
 use Rattle.stamp_runs.specs.LockRun.{AreExplained}
 use Rattle.stamp_runs.specs.Run.{IsEndOf}
-use Rattle.stamp_watch.specs.declared.ending.Ending.{Ending}
-use Rattle.stamp_watch.specs.declared.ending.Ending.TheVariants as ending
-use Rattle.stamp_watch.specs.declared.open_call.OpenCall.{OpenCall}
-use Rattle.stamp_watch.specs.declared.progress.Progress.{Progress}
-use Rattle.stamp_watch.specs.declared.progress.Progress.TheVariants as progress
-use Rattle.stamp_watch.specs.declared.watch.Watch.{Watch}
+use Rattle.stamp_sets.specs.declared.ending.Ending.{Ending}
+use Rattle.stamp_sets.specs.declared.ending.Ending.TheVariants as ending
+use Rattle.stamp_sets.specs.declared.open_call.OpenCall.{OpenCall}
+use Rattle.stamp_sets.specs.declared.progress.Progress.{Progress}
+use Rattle.stamp_sets.specs.declared.progress.Progress.TheVariants as progress
+use Rattle.stamp_sets.specs.declared.watch.Watch.{Watch}
 use Rattle.stamp_watch.specs.AsObserved.{AreEnded, ending_of}
 use Rattle.stamp_watch.specs.AsObserved.Ending.{StaysOpen}
-use Rattle.stamp_watch.specs.Foretold.{open_at, ends_as}
+use Rattle.stamp_sets.specs.Told.{open_at}
+use Rattle.stamp_watch.specs.Foretold.{ends_as}
 use Rattle.stamp_watch.specs.Form.{is_busy_then, is_busy_after}
 use Rattle.stamp_watch.specs.Verdict.{AreOfLock, AreTooMany, IsFarEnough, IsVerdict, MayComeNext}
 use Rattle.stamp_watch.specs.Judging.{IsFound, IsJudging}
@@ -39,7 +40,7 @@ use Rattle.stamp_watch.proofs.Judged.{cut_behind, rest_behind, judging_here, jud
 use Rattle.stamp_watch.proofs.Judged.{length_behind, too_many_here}
 use Rattle.stamp_watch.proofs.Judging.{judging_first, judging_copied}
 use Rattle.stamp_watch.proofs.Reading.{drop_read}
-use Rattle.stamp_watch.specs.Watch.{IsCopy, IsUntold, IsWatching}
+use Rattle.stamp_sets.specs.Watch.{IsCopy, IsUntold, IsWatching}
 use Rattle.stamp_watch.proofs.Numbered.{end_or_not, end_told, ending_spares, open_or_ended}
 
 -- how a call ends stays as it is when more events come

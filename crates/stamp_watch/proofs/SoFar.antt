@@ -15,7 +15,7 @@ use Rattle.stamp_watch.specs.Course.{IsRunOn}
 use Rattle.stamp_watch.specs.Judge.{IsJudge, IsUnderWay}
 use Rattle.stamp_watch.specs.Judging.{AreBusyLanes}
 use Rattle.stamp_watch.specs.SoFar.{BeginWithOpenCall, IsExplainedUpTo, open_below, open_calls}
-use Rattle.stamp_watch.specs.inner.Lanes.{lanes_below, lanes_in}
+use Rattle.stamp_sets.specs.inner.Lanes.{lanes_below, lanes_in}
 use Rattle.stamp_watch.proofs.GoingOn.{run_long, way_of}
 use Rattle.stamp_watch.proofs.LettingGo.{run_behind}
 use Rattle.stamp_watch.proofs.Running.{cut_run}

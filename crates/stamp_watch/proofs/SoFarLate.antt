@@ -10,7 +10,7 @@ use Rattle.stamp_watch.specs.Delay.{reach_of}
 use Rattle.stamp_watch.specs.Late.{BeginsLater}
 use Rattle.stamp_watch.specs.LateJudge.{IsLateJudge, IsLateUnderWay}
 use Rattle.stamp_watch.specs.SoFar.{BeginWithOpenCall, IsExplainedUpTo, open_calls}
-use Rattle.stamp_watch.specs.inner.Lanes.{lanes_in}
+use Rattle.stamp_sets.specs.inner.Lanes.{lanes_in}
 use Rattle.stamp_watch.proofs.BeginningLater.{later_explains_no_more}
 use Rattle.stamp_watch.proofs.Closeness.{few_aside, near_open}
 use Rattle.stamp_watch.proofs.HandingOn.{given_length}

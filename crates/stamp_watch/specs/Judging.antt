@@ -5,14 +5,15 @@ use Rattle.std.specs.Option.{is_some}
 use Rattle.stamp_core.specs.Limits.{Bounds}
 use Rattle.stamp_runs.specs.declared.event.Event.{Event}
 use Rattle.stamp_runs.specs.LockRun.{AreExplained}
-use Rattle.stamp_watch.specs.declared.open_call.OpenCall.{OpenCall}
+use Rattle.stamp_sets.specs.declared.open_call.OpenCall.{OpenCall}
 use Rattle.stamp_watch.specs.declared.verdict.Verdict.{Verdict}
-use Rattle.stamp_watch.specs.declared.watch.Watch.{Watch}
+use Rattle.stamp_sets.specs.declared.watch.Watch.{Watch}
 use Rattle.stamp_watch.specs.AsObserved.{ending_of}
-use Rattle.stamp_watch.specs.Foretold.{open_at, ends_as}
+use Rattle.stamp_sets.specs.Told.{open_at}
+use Rattle.stamp_watch.specs.Foretold.{ends_as}
 use Rattle.stamp_watch.specs.Form.{is_busy_after}
 use Rattle.stamp_watch.specs.Verdict.{AreOfLock, IsVerdict}
-use Rattle.stamp_watch.specs.Watch.{IsWatching}
+use Rattle.stamp_sets.specs.Watch.{IsWatching}
 
 -- the lanes of this number are those with an open call
 pub record AreBusyLanes (past : List Event) (busy : ℕ) : Type 0 where

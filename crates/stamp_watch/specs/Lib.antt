@@ -3,7 +3,7 @@ pub mod Stream
 pub mod EndedCall
 pub mod Start
 pub mod Foretold
-pub mod Watch
+pub mod Configurations
 pub mod Verdict
 pub mod Judging
 pub mod Course

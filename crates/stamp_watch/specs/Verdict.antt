@@ -10,15 +10,17 @@ use Rattle.stamp_runs.specs.declared.event.Event.{Event}
 use Rattle.stamp_runs.specs.declared.event.Event.TheVariants.{Begins, Returns, Withdraws}
 use Rattle.stamp_runs.specs.Run.{EndsNever}
 use Rattle.stamp_runs.specs.LockRun.{AreExplained, AreStuckAt}
-use Rattle.stamp_watch.specs.declared.open_call.OpenCall.{OpenCall}
+use Rattle.stamp_sets.specs.declared.open_call.OpenCall.{OpenCall}
 use Rattle.stamp_watch.specs.declared.verdict.Verdict.{Verdict}
 use Rattle.stamp_watch.specs.declared.verdict.Verdict.TheVariants.{Explained, Stuck, StuckWithin, Undecided, Broken}
 use Rattle.stamp_watch.specs.declared.verdict.Why.TheVariants.{TooMany, TooFar}
-use Rattle.stamp_watch.specs.declared.watch.Watch.{Watch}
+use Rattle.stamp_sets.specs.declared.watch.Watch.{Watch}
 use Rattle.stamp_watch.specs.AsObserved.{AreEnded, ending_of}
-use Rattle.stamp_watch.specs.Foretold.{ends_as, open_at}
+use Rattle.stamp_sets.specs.Told.{open_at}
+use Rattle.stamp_watch.specs.Foretold.{ends_as}
 use Rattle.stamp_watch.specs.Form.{AreInForm}
-use Rattle.stamp_watch.specs.Watch.{IsWatching, MoreArePossible}
+use Rattle.stamp_sets.specs.Watch.{IsWatching}
+use Rattle.stamp_watch.specs.Configurations.{MoreArePossible}
 
 -- all replies but the words of a record are the lock's
 abbrev pub is_lock_reply : Reply → Bool

@@ -1,13 +1,6 @@
-pub mod Lanes
-pub mod Effect
-pub mod Layer
-pub mod Step
 pub mod Judging
 pub mod Course
-pub mod Stamps
-pub mod Foretold
 pub mod Stream
-pub mod Alike
 pub mod Delay
 pub mod Possible
 pub mod Kept

@@ -6,10 +6,10 @@ ghost use Rattle.stamp_watch.specs.Verdict.{IsOfLock};
 ghost use Rattle.stamp_watch.specs.Foretold.{ends_as};
 ghost use Rattle.stamp_watch.specs.inner.Judging.{IsEndBy};
 
-use crate::ending::Ending;
 use crate::lanes::lock_reply;
 use crate::stream_event::StreamEvent;
 use stamp_runs::Event;
+use stamp_sets::Ending;
 
 /// How the event with this number ends the call of the lane, if it does.
 fn end_by(event: &Event, lane: u64, number: u64) -> Option<Ending>

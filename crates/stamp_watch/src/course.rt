@@ -7,14 +7,12 @@ ghost use Rattle.stamp_watch.specs.Course.{HasRoom, IsCourse, IsRest, IsSmall, K
 ghost use Rattle.stamp_watch.specs.inner.Course.{HasGoneOn, HasLetGo, IsEndAtFront, IsFresh, IsFront, IsKnown, IsOneLonger, IsOnCourse, IsOnward, IsToldBy, IsUnknown};
 ghost use Rattle.stamp_watch.specs.inner.Kept.{StaysKept};
 
-use crate::ending::Ending;
 use crate::judge::{Outcome, end_told, find_stuck, judge_rest, step};
-use crate::progress::Progress;
 use crate::stream_event::StreamEvent;
 use crate::verdict::{Verdict, Why};
-use crate::watch::Watch;
 use stamp_core::Limits;
 use stamp_runs::Event;
+use stamp_sets::{Ending, Progress, Watch};
 use std::alloc::{AllocError, Global};
 use std::mem::replace;
 use std::slice::from_ref;

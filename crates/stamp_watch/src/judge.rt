@@ -3,20 +3,18 @@ ghost use Rattle.std.specs.Prelude.{◌≡◌, ◌+◌, ◌^◌, ◌<◌, ◌∷
 ghost use Rattle.std.specs.List.{All};
 ghost use Rattle.stamp_core.specs.Limits.{Bounds};
 ghost use Rattle.stamp_runs.specs.declared.event.Event.{Event};
-ghost use Rattle.stamp_watch.specs.Watch.{IsWatched};
+ghost use Rattle.stamp_sets.specs.Watch.{IsWatched};
 ghost use Rattle.stamp_watch.specs.Verdict.{IsOfLock, IsVerdict};
 ghost use Rattle.stamp_watch.specs.Judging.{IsFound, IsJudging};
 ghost use Rattle.stamp_watch.specs.inner.Judging.{IsBase, IsEndTold, IsJudgingOn, IsOutcome, IsStep, IsStuckAmong, IsStuckBehind, IsStuckFrom};
 
 use crate::ahead::end_ahead;
-use crate::ending::Ending;
 use crate::lanes::in_form;
-use crate::progress::Progress;
 use crate::stream_event::StreamEvent;
 use crate::verdict::{Verdict, Why};
-use crate::watch::Watch;
 use stamp_core::Limits;
 use stamp_runs::Event;
+use stamp_sets::{Ending, Progress, Watch};
 use std::alloc::{AllocError, Global};
 
 /// What is found of events behind others, which are all in form.

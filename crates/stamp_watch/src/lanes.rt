@@ -4,10 +4,10 @@ ghost use Rattle.stamp_core.specs.LockDecision.{reply_as};
 ghost use Rattle.stamp_watch.specs.Verdict.{is_lock_reply};
 ghost use Rattle.stamp_watch.specs.inner.Judging.{IsFreeLane, IsTakenLane, AreTaken, IsBusyThen};
 
-use crate::position::{has_lane, with_lane, without_lane};
 use crate::stream_event::StreamEvent;
 use stamp_core::{LockReply, Reply};
 use stamp_runs::Event;
+use stamp_sets::{has_lane, with_lane, without_lane};
 use std::alloc::{AllocError, Global};
 
 /// The reply, if it is one of the lock.

@@ -156,7 +156,7 @@ impl Judge {
         ensures { IfOk result (λ told. IsToldOf self.now number call.now (items_in told)) }
     {
         let alloc = self.course.alloc;
-        match plain_replies(alloc, self.course.base.limits, call)? {
+        match plain_replies(alloc, self.course.base.limits(), call)? {
             Some(replies) => self.possible_among(number, replies.as_slice()),
             None => Ok(None),
         }

@@ -4,10 +4,10 @@ ghost use Rattle.stamp_core.specs.Limits.{Bounds};
 ghost use Rattle.stamp_runs.specs.declared.event.Event.{Event};
 ghost use Rattle.stamp_watch.specs.Judge.{HasFoundNothing, IsJudge, IsJudgeOfSome};
 ghost use Rattle.stamp_watch.specs.SoFar.{BeginWithOpenCall, IsExplainedUpTo, open_calls};
-ghost use Rattle.stamp_watch.specs.inner.Lanes.{lanes_in};
+ghost use Rattle.stamp_sets.specs.inner.Lanes.{lanes_in};
 
 use crate::online::Judge;
-use crate::position::{first_lane, without_lane};
+use stamp_sets::{first_lane, without_lane};
 
 /// How many lanes these are.
 pub(crate) fn lanes_in(lanes: u64) -> u64

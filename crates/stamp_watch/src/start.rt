@@ -1,33 +1,20 @@
 //! Where the events that a judge keeps begin. It doesn't know in which of some configurations lock and lanes are there:
 //! each is a start. From one of them at least the events are explained as far as the run is.
 ghost use Rattle.std.specs.Prelude.{◌≡◌, MatchOption, length};
-ghost use Rattle.stamp_watch.specs.Start.{BeganLateBy, IsJudgeUpTo, waiting_in, waiting_of, word_of};
+ghost use Rattle.stamp_sets.specs.Positions.{waiting_of, word_of};
+ghost use Rattle.stamp_watch.specs.Start.{BeganLateBy, IsJudgeUpTo};
 
 use crate::late::LateJudge;
 use crate::online::Judge;
-use crate::open_call::open_in;
-use crate::position::{Position, has_lane};
 use crate::stream_event::StreamEvent;
-use crate::watch::Watch;
 use stamp_core::{Call, Limits};
-
-/// The call that is open in the lane, and not in effect in the position.
-fn waiting_in(watch: &Watch, lane: u64, position: &Position) -> Option<Call>
-    ensures { result ≡ waiting_in watch.now lane position.now }
-{
-    if lane >= 64 || has_lane(position.in_effect, lane) {
-        return None;
-    }
-    let begun = open_in(watch.table.as_slice(), lane)?;
-    Some(begun.asks.as_call())
-}
 
 impl Judge {
     /// The limits of the lock.
     pub fn limits(&self) -> Limits
         ensures { result ≡ self.now.course.base.limits }
     {
-        self.course.base.limits
+        self.course.base.limits()
     }
 
     /// The events that it keeps.
@@ -48,23 +35,21 @@ impl Judge {
     pub fn starts(&self) -> usize
         ensures { result ≡ length self.now.course.base.positions.items }
     {
-        self.course.base.positions.len()
+        self.course.base.positions()
     }
 
     /// The number of the lock's word at a start; none where there is no such start.
     pub fn word_at(&self, start: usize) -> Option<u64>
         ensures { result ≡ word_of self.now.course.base start }
     {
-        let position = self.course.base.positions.as_slice().get(start)?;
-        Some(position.word)
+        self.course.base.word_at(start)
     }
 
     /// The call that is open in the lane at a start and has taken no effect there, if there is one.
     pub fn waiting_at(&self, start: usize, lane: u64) -> Option<Call>
         ensures { result ≡ waiting_of self.now.course.base start lane }
     {
-        let position = self.course.base.positions.as_slice().get(start)?;
-        waiting_in(&self.course.base, lane, position)
+        self.course.base.waiting_at(start, lane)
     }
 }
 

@@ -10,5 +10,3 @@ mod judge_tests;
 mod late_tests;
 #[cfg(test)]
 mod online_tests;
-#[cfg(test)]
-mod watch_tests;

@@ -19,7 +19,7 @@ use Rattle.stamp_watch.specs.declared.ended_call.EndedCall.{EndedCall}
 use Rattle.stamp_watch.specs.declared.late.LateJudge.{LateJudge}
 use Rattle.stamp_watch.specs.declared.online.Judge.{Judge}
 use Rattle.stamp_watch.specs.EndedCall.{ended_at, ended_from}
-use Rattle.stamp_watch.specs.Start.{waiting_of, word_of}
+use Rattle.stamp_sets.specs.Positions.{waiting_of, word_of}
 use Rattle.stamped_watch.specs.Calls.{Told, told_along, told_beside, told_end}
 use Rattle.stamped_watch.specs.declared.finding.Finding.{Finding}
 use Rattle.stamped_watch.specs.declared.finding.Finding.TheVariants.{Stuck}

@@ -10,7 +10,7 @@ use Rattle.stamp_sets.specs.declared.open_call.OpenCall.{OpenCall}
 use Rattle.stamp_sets.specs.declared.position.Position.{Position}
 use Rattle.stamp_sets.specs.Judged.{Judged}
 use Rattle.stamp_sets.specs.Told.{MayGet, open_at}
-use Rattle.stamp_sets.specs.inner.Lanes.{SetsBit}
+use Rattle.stamp_sets.specs.Lanes.{SetsBit}
 
 -- in this state the call may take effect so, and leaves a state of this number
 pub record TakesEffectTo {S : Type 0} (o : Judged S) (begun : OpenCall) (s : S) (number : ℕ) : Type 0 where

@@ -7,7 +7,8 @@ use Rattle.stamp_sets.specs.declared.open_call.OpenCall.{OpenCall}
 use Rattle.stamp_sets.specs.declared.position.Position.{Position}
 use Rattle.stamp_sets.specs.Judged.{Judged}
 use Rattle.stamp_sets.specs.Told.{open_at}
-use Rattle.stamp_sets.specs.inner.Lanes.{SetsBit, lanes_in}
+use Rattle.stamp_sets.specs.Lanes.{SetsBit}
+use Rattle.stamp_sets.specs.inner.Lanes.{lanes_in}
 use Rattle.stamp_sets.specs.inner.Effect.{GivesWay, IsAfterEffect, IsEffect}
 
 abbrev pub Includes : List Position → List Position → Type 0

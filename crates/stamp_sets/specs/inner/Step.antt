@@ -6,7 +6,7 @@ use Rattle.stamp_sets.specs.declared.progress.Progress.{Progress}
 use Rattle.stamp_sets.specs.declared.progress.Progress.TheVariants.{Going, Dead, TooMany, Refused}
 use Rattle.stamp_sets.specs.Judged.{Judged}
 use Rattle.stamp_sets.specs.Told.{open_at}
-use Rattle.stamp_sets.specs.inner.Lanes.{SetsBit}
+use Rattle.stamp_sets.specs.Lanes.{SetsBit}
 use Rattle.stamp_sets.specs.inner.Effect.{Settles}
 
 -- the numbers of an object at first

@@ -7,19 +7,19 @@ use Rattle.stamp_core.specs.Call.{is_lock_call}
 use Rattle.stamp_runs.specs.declared.event.Event.{Event}
 use Rattle.stamp_runs.specs.declared.event.Event.TheVariants as event
 use Rattle.stamp_runs.specs.LockRun.{AreExplained}
-use Rattle.stamp_watch.specs.declared.ending.Ending.{Ending}
+use Rattle.stamp_sets.specs.declared.ending.Ending.{Ending}
 use Rattle.stamp_watch.specs.declared.judge.Outcome.{Outcome}
 use Rattle.stamp_watch.specs.declared.judge.Outcome.TheVariants.{Explained, Unexplained, TooMany}
-use Rattle.stamp_watch.specs.declared.progress.Progress.{Progress}
-use Rattle.stamp_watch.specs.declared.progress.Progress.TheVariants as progress
+use Rattle.stamp_sets.specs.declared.progress.Progress.{Progress}
+use Rattle.stamp_sets.specs.declared.progress.Progress.TheVariants as progress
 use Rattle.stamp_watch.specs.declared.verdict.Verdict.{Verdict}
 use Rattle.stamp_watch.specs.declared.verdict.Verdict.TheVariants as verdict
-use Rattle.stamp_watch.specs.declared.watch.Watch.{Watch}
+use Rattle.stamp_sets.specs.declared.watch.Watch.{Watch}
 use Rattle.stamp_watch.specs.AsObserved.{ending_of}
 use Rattle.stamp_watch.specs.Foretold.{ends_as}
 use Rattle.stamp_watch.specs.Judging.{IsJudging}
 use Rattle.stamp_watch.specs.Verdict.{AreTooMany, IsInFormUpTo, is_lock_reply}
-use Rattle.stamp_watch.specs.inner.Lanes.{SetsBit}
+use Rattle.stamp_sets.specs.Lanes.{SetsBit}
 
 abbrev pub IsFreeLane : ℕ → ℕ → Type 0
 IsFreeLane busy lane = (lane < 64) × (bit_at busy lane ≢ 1)

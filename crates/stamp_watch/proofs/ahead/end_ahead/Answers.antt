@@ -3,7 +3,7 @@ use Rattle.std.proofs.lemmas.List.Elements.{All-get_or}
 use Rattle.stamp_runs.specs.declared.event.Event.{Event}
 use Rattle.stamp_watch.specs.AsObserved.{ending_of}
 use Rattle.stamp_watch.specs.Verdict.{IsOfLock}
-use Rattle.stamp_watch.specs.declared.ending.Ending.{Ending}
+use Rattle.stamp_sets.specs.declared.ending.Ending.{Ending}
 use Rattle.stamp_watch.specs.inner.Judging.{IsEndBy}
 use Rattle.stamp_watch.proofs.EndingAhead.{ending_more, ending_here, ending_none}
 use Rattle.stamp_watch.proofs.ahead.end_ahead.Goals as goal

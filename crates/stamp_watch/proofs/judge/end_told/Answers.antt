@@ -1,6 +1,6 @@
 use Rattle.std.proofs.Common.{subst}
 use Rattle.stamp_runs.specs.declared.event.Event.{Event}
-use Rattle.stamp_watch.specs.declared.ending.Ending.TheVariants.{Never}
+use Rattle.stamp_sets.specs.declared.ending.Ending.TheVariants.{Never}
 use Rattle.stamp_watch.specs.inner.Judging.{IsEndTold}
 use Rattle.stamp_watch.proofs.judge.end_told.Goals as goal
 

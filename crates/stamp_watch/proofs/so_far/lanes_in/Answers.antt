@@ -1,6 +1,6 @@
 use Rattle.std.proofs.Common.{◌≡◌, ◌+◌, ◌≤◌, arith, ap, ◌∙◌}
-use Rattle.stamp_watch.specs.inner.Lanes.{lanes_in}
-use Rattle.stamp_watch.proofs.CountingLanes.{lanes_in_le, lanes_in_less, lanes_in_none, lanes_in_one}
+use Rattle.stamp_sets.specs.inner.Lanes.{lanes_in}
+use Rattle.stamp_sets.proofs.CountingLanes.{lanes_in_le, lanes_in_less, lanes_in_none, lanes_in_one}
 use Rattle.stamp_watch.proofs.so_far.lanes_in.Goals as goal
 
 pub overflow_add-count : goal.overflow_add-count

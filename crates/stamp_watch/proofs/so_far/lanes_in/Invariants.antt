@@ -1,5 +1,5 @@
 use Rattle.std.specs.Prelude.{◌≡◌, ◌+◌}
-use Rattle.stamp_watch.specs.inner.Lanes.{lanes_in}
+use Rattle.stamp_sets.specs.inner.Lanes.{lanes_in}
 use Rattle.stamp_watch.proofs.so_far.lanes_in.Given as goal
 
 abbrev pub invariant-loop-rest : goal.invariant-loop-rest

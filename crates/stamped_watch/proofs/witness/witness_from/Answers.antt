@@ -7,7 +7,8 @@ use Rattle.stamp_core.specs.Limits.{Bounds}
 use Rattle.stamp_core.specs.Word.{IsAdmitted, word_at}
 use Rattle.stamp_explain.specs.declared.observed.Observation.{Observation}
 use Rattle.stamp_runs.specs.declared.event.Event.{Event}
-use Rattle.stamp_watch.specs.Start.{waiting_of}
+use Rattle.stamp_sets.specs.Positions.{waiting_of}
+use Rattle.stamp_watch.proofs.Configurations.{each_possible}
 use Rattle.stamped_watch.specs.Calls.{Told, ended_call, first_in, open_in, return, told_beside, told_end, told_first}
 use Rattle.stamped_watch.specs.Calls.{IsTold, told_with, under_way}
 use Rattle.stamped_watch.specs.declared.begun.Begun.{Begun}
@@ -20,8 +21,8 @@ use Rattle.stamped_watch.proofs.witness.witness_from.Goals as goal
 pub unreachable-requires-in_default-word_from_bits : goal.unreachable-requires-in_default-word_from_bits
 unreachable-requires-in_default-word_from_bits c =
     let base = c.args.judge.now.course.base in
-    let kept = c.requires.keeps.keeps.from_base.judging.watching.kept in
-    let admitted = is_admitted base.limits _ base.table.items base.positions.items c.args.start kept.possible
+    let possible = each_possible _ base c.requires.keeps.keeps.from_base.judging.watching in
+    let admitted = is_admitted base.limits _ base.table.items base.positions.items c.args.start possible
     c.in-Some-word_at.bits (sym c.in-Some-word_at.ensures) in
     false≢true (c.in_default-word_from_bits.ensures.some.1
     (subst (λ (l : Bounds). IsAdmitted l (word_at l c.in-Some-word_at.bits)) (sym c.limits.ensures) admitted))

@@ -3,7 +3,7 @@ use Rattle.std.specs.Prelude.{drop}
 use Rattle.std.proofs.lemmas.List.{take_rest}
 use Rattle.stamp_core.specs.Limits.{Bounds}
 use Rattle.stamp_runs.specs.declared.event.Event.{Event}
-use Rattle.stamp_watch.specs.declared.watch.Watch.{Watch}
+use Rattle.stamp_sets.specs.declared.watch.Watch.{Watch}
 use Rattle.stamp_watch.specs.Course.{IsCourse, IsRunOn, IsSpare}
 use Rattle.stamp_watch.proofs.LettingGo.{run_let_go, looked_let_go, long_let_go, spare_here}
 use Rattle.stamp_watch.proofs.course.Course.let_go.Goals as goal

@@ -1,7 +1,0 @@
-use Rattle.std.specs.Prelude.{take}
-use Rattle.stamp_watch.specs.inner.Layer.{LooksAt}
-use Rattle.stamp_watch.proofs.layers.look_through.Given as goal
-
-abbrev pub invariant-loop-position : goal.invariant-loop-position
-invariant-loop-position l = LooksAt l.limits l.table l.lane (take l.position-index l.layer) l.initial.done.items
-    l.done.items l.initial.next.items l.next.items

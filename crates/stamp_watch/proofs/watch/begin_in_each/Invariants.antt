@@ -1,6 +1,0 @@
-use Rattle.stamp_watch.proofs.Stepping.{BegunSoFar}
-use Rattle.stamp_watch.proofs.watch.begin_in_each.Given as goal
-
-abbrev pub invariant-loop-position : goal.invariant-loop-position
-invariant-loop-position l = BegunSoFar l.limits l.begun l.lane l.position-index l.initial.position-items
-    l.position-items
