@@ -1,5 +1,5 @@
 -- A call that begins later.
-use Rattle.std.proofs.Common.{◌≡◌, ◌≢◌, ◌⊎◌, ◌≤◌, ◌<◌, ◌+◌, ℕ, List, [], ◌∷◌, ◌++◌, refl, sym, ◌∙◌, ap, subst, inl}
+use Rattle.std.proofs.Common.{◌≡◌, ◌≢◌, ◌⊎◌, ◌≤◌, ◌<◌, ◌+◌, ℕ, List, ◌∷◌, ◌++◌, refl, sym, ◌∙◌, ap, subst, inl}
 use Rattle.std.proofs.Common.{inr, arith}
 use Rattle.std.specs.Prelude.{cond}
 use Rattle.std.proofs.lemmas.List.Sums.{sum_by-append}
@@ -11,9 +11,9 @@ use Rattle.stamp_core.specs.History.{appended_by}
 use Rattle.stamp_core.specs.declared.call.Call.{Call}
 use Rattle.stamp_core.specs.declared.reply.Reply.{Reply}
 use Rattle.stamp_runs.specs.declared.event.Event.{Event}
-use Rattle.stamp_runs.specs.declared.event.Event.TheVariants.{Begins, Returns}
+use Rattle.stamp_runs.specs.declared.event.Event.TheVariants.{Begins}
 use Rattle.stamp_runs.specs.Object.{LockStep}
-use Rattle.stamp_runs.specs.Run.{EndsBy, Lanes, Leads, Phase, Sets, Survives, EndsNever}
+use Rattle.stamp_runs.specs.Run.{Lanes, Leads, Survives}
 use Rattle.stamp_runs.specs.Run.Leads.{leads_nowhere, by_effect, by_event}
 use Rattle.stamp_runs.specs.Run.Phase.{Idle, Asks, Gets}
 use Rattle.stamp_runs.proofs.Lanes.{stays_beside, asks_or_gets, idle_or_asks, one_call, one_reply, set_of, sets_alike}

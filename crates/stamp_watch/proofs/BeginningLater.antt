@@ -1,7 +1,7 @@
 -- A run in which calls begin later is explained only where the run is.
 use Rattle.std.proofs.Common.{◌≡◌, ◌≢◌, ◌⊎◌, ◌+◌, ◌-◌, ◌<◌, ◌≤◌, ℕ, zero, suc, Bool, false, List, [], ◌∷◌, ◌++◌}
-use Rattle.std.proofs.Common.{length, refl, sym, ◌∙◌, ap, subst, inl, inr, arith, ne_eqb}
-use Rattle.std.specs.Prelude.{take, not, ◌&&◌, ◌||◌}
+use Rattle.std.proofs.Common.{length, refl, sym, ◌∙◌, ap, subst, inl, inr, arith}
+use Rattle.std.specs.Prelude.{take}
 use Rattle.std.specs.List.{All, fold}
 use Rattle.std.proofs.lemmas.Bool.{cases_eq, cases_lt}
 use Rattle.std.proofs.lemmas.List.{length-append, take-append-le}
@@ -17,7 +17,6 @@ use Rattle.stamp_runs.specs.Object.{LockStep}
 use Rattle.stamp_runs.specs.LockRun.{AreExplained}
 use Rattle.stamp_runs.specs.Run.Phase.{Idle, Asks}
 use Rattle.stamp_runs.proofs.Lanes.{set_of, sets_of}
-use Rattle.stamp_watch.specs.Ahead.{IsSpared}
 use Rattle.stamp_watch.specs.Form.{is_busy_then, is_busy_after, AreInForm, AreInFormFrom, MayCome}
 use Rattle.stamp_watch.specs.Late.{BeginsLater, BeginsOneLater, LaterExplainsNoMore}
 use Rattle.stamp_watch.specs.Late.BeginsLater.{as_it_is, then_later}

@@ -1,5 +1,5 @@
 -- In the lock no call is free: a position of a watch that may be is one configuration.
-use Rattle.std.proofs.Common.{ℕ, ◌≡◌, List, Option, refl, sym, subst}
+use Rattle.std.proofs.Common.{ℕ, List, Option, refl, sym, subst}
 use Rattle.std.specs.List.{All}
 use Rattle.stamp_core.specs.Limits.{Bounds}
 use Rattle.stamp_runs.specs.declared.event.Event.{Event}

@@ -1,5 +1,5 @@
 -- How the events of a run are handed on to a judge.
-use Rattle.std.proofs.Common.{◌≡◌, ◌≢◌, ◌⊎◌, ◌+◌, ◌-◌, ◌<◌, ◌≤◌, ℕ, zero, suc, List, [], ◌∷◌, ◌++◌, length, get_or}
+use Rattle.std.proofs.Common.{◌≡◌, ◌≢◌, ◌⊎◌, ◌+◌, ◌-◌, ◌<◌, ◌≤◌, ℕ, suc, List, [], ◌∷◌, ◌++◌, length, get_or}
 use Rattle.std.proofs.Common.{Option, true, false}
 use Rattle.std.proofs.Common.{Some, None, refl, sym, ◌∙◌, ap, subst, inl, inr, arith, append_assoc, append-nil}
 use Rattle.std.specs.Prelude.{take, drop}
@@ -10,11 +10,11 @@ use Rattle.std.proofs.lemmas.List.{length-append, length_push, take-append-le, g
 use Rattle.std.proofs.lemmas.List.{length-take-le, length-drop, take-append-drop}
 use Rattle.std.proofs.lemmas.List.Elements.{All-head, All-tail, All-push, All-take, All-drop, All-append}
 use Rattle.std.proofs.lemmas.List.Quantifiers.{all_pairs_push, all_pairs_remove}
-use Rattle.std.proofs.Math.Seq.{drop-append_seam, drop-cons, take-append_seam, take-length}
+use Rattle.std.proofs.Math.Seq.{drop-append_seam, drop-cons, take-append_seam}
 use Rattle.stamp_explain.proofs.Lists.{pairs_left}
 use Rattle.stamp_runs.specs.declared.event.Event.{Event}
 use Rattle.stamp_runs.specs.declared.event.Event.TheVariants.{Begins, Returns, Withdraws}
-use Rattle.stamp_runs.specs.Run.{lane_of, EndsNever}
+use Rattle.stamp_runs.specs.Run.{lane_of}
 use Rattle.stamp_watch.specs.Ahead.{IsSpared}
 use Rattle.stamp_watch.specs.Delay.{IsBeginning, IsFirstIfAny, IsFirstLate, IsHandedOn}
 use Rattle.stamp_watch.specs.Late.{BeginsLater, IsLongCall, LongCallsBeginLater}

@@ -16,7 +16,7 @@ use Rattle.stamp_explain.specs.declared.observed.Returned.{Returned}
 use Rattle.stamp_runs.specs.declared.event.Event.{Event}
 use Rattle.stamp_runs.specs.declared.event.Event.TheVariants as event
 use Rattle.stamp_runs.specs.Run.{EndsBy, IsEndOf, ReturnsSooner}
-use Rattle.stamp_runs.specs.Run.EndsBy.{ends_next, ends_later}
+use Rattle.stamp_runs.specs.Run.EndsBy.{ends_next}
 use Rattle.stamp_runs.specs.Run.ReturnsSooner.{sooner_next, sooner_later}
 use Rattle.stamp_runs.specs.LockRun.{AreExplained}
 use Rattle.stamp_sets.specs.declared.ending.Ending.{Ending}

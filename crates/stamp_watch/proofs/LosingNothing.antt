@@ -9,14 +9,14 @@ use Rattle.stamp_core.specs.declared.reply.Reply.{Reply}
 use Rattle.stamp_runs.specs.declared.event.Event.{Event}
 use Rattle.stamp_runs.specs.declared.event.Event.TheVariants.{Begins, Returns}
 use Rattle.stamp_runs.specs.Object.{LockStep}
-use Rattle.stamp_runs.specs.Run.{EndsBy, Lanes, Leads, Survives, all_idle, lane_of}
+use Rattle.stamp_runs.specs.Run.{EndsBy, Lanes, Leads, Survives, all_idle}
 use Rattle.stamp_runs.specs.Run.EndsBy.{ends_next, ends_later}
 use Rattle.stamp_runs.specs.Run.Leads.{leads_nowhere, by_effect, by_event}
 use Rattle.stamp_runs.specs.Run.Phase.{Idle, Asks, Gets}
 use Rattle.stamp_runs.proofs.Lanes.{open_apart, stays_beside, asks_or_gets, idle_or_asks, one_call, set_of, sets_of}
 use Rattle.stamp_watch.proofs.Ways.{gotten_is_told, ends_past}
 use Rattle.stamp_watch.specs.LateLaws.{LateLosesNothing, OlderIsTold, TellsLess}
-use Rattle.stamp_watch.proofs.BeginningLate.{begins_late, older, version_stays, versions_stay}
+use Rattle.stamp_watch.proofs.BeginningLate.{begins_late, older, version_stays}
 use Rattle.stamp_watch.proofs.Form.{past_free}
 use Rattle.stamp_watch.proofs.Surviving.{begins_first}
 

@@ -23,7 +23,6 @@ use Rattle.stamp_explain.proofs.Lists.{none_in_empty, contains_first, contains_r
 use Rattle.stamp_explain.proofs.Completing.{same_entry}
 use Rattle.stamp_explain.proofs.Finding.{has_returned}
 use Rattle.stamp_runs.specs.declared.event.Event.{Event}
-use Rattle.stamp_runs.specs.declared.event.Event.TheVariants.{Begins, Returns, Withdraws}
 use Rattle.stamp_runs.specs.Object.{LockStep}
 use Rattle.stamp_runs.specs.Run.{Lanes, Leads, Sets}
 use Rattle.stamp_runs.specs.Run.Leads.{leads_nowhere, by_effect, by_event}
@@ -32,7 +31,7 @@ use Rattle.stamp_runs.proofs.Lanes.{asks_or_gets}
 use Rattle.stamp_watch.specs.AsObserved.{ending_of}
 use Rattle.stamp_watch.proofs.Numbered.{IsEntryOf, HasEntry, entry_tells, entry_of_reply, entry_returned, one_entry}
 use Rattle.stamp_watch.proofs.Numbered.{open_or_ended}
-use Rattle.stamp_watch.proofs.Remaining.{IsAhead, begun_at, takes_there, takes_back, takes_apart, ahead_last}
+use Rattle.stamp_watch.proofs.Remaining.{IsAhead, takes_there, takes_back, takes_apart, ahead_last}
 use Rattle.stamp_watch.proofs.Remaining.{HaveBegun}
 use Rattle.stamp_watch.proofs.Remaining.{have_begun_still, HaveGot, MovesOn, begun_then, happens_moves}
 use Rattle.stamp_watch.proofs.Remaining.IsAhead.{of_open, of_later}
@@ -76,7 +75,7 @@ same_plan limits entries old new end then_end s order less there back plan = rec
         inr (record { begins = omega arith; open_still = late.open_still })
 
 -- the lock answers its own calls alone
-pub lock_replies : (limits : Bounds) (s : List LockEvent) (call : Call) (reply : Reply) →
+lock_replies : (limits : Bounds) (s : List LockEvent) (call : Call) (reply : Reply) →
     Replies (transition limits s call) reply → is_lock_call call ≡ true
 lock_replies limits s call reply replies = by (is_lock_call call) refl
   where

@@ -1,8 +1,8 @@
 -- A run that is judged while it goes on.
 use Rattle.std.proofs.Common.{ℕ, ◌≡◌, ◌≢◌, ◌⊎◌, ◌+◌, ◌-◌, ◌<◌, ◌≤◌, Bool, true, false, List, [], ◌∷◌, ◌++◌, length}
 use Rattle.std.proofs.Common.{get_or, Option, Some, refl, sym, ◌∙◌, ap, subst, inl, inr, arith, append_assoc}
-use Rattle.std.proofs.Common.{append-nil, add_assoc, eq-eqb, ne_eqb}
-use Rattle.std.specs.Prelude.{take, drop, not, ◌&&◌, ◌||◌}
+use Rattle.std.proofs.Common.{append-nil, add_assoc, ne_eqb}
+use Rattle.std.specs.Prelude.{take, drop, not, ◌||◌}
 use Rattle.std.specs.Option.{is_some}
 use Rattle.std.proofs.lemmas.Bool.{cases_eq, false≢true}
 use Rattle.std.proofs.lemmas.List.{take-append-drop, take-append-le, take_rest, drop-append-le, length-append}

@@ -13,7 +13,7 @@ use Rattle.stamp_core.specs.declared.reply.Reply.TheVariants.{Stamp}
 use Rattle.stamp_runs.specs.declared.event.Event.{Event}
 use Rattle.stamp_runs.specs.declared.event.Event.TheVariants.{Begins, Returns}
 use Rattle.stamp_runs.specs.Run.{EndsBy, lane_of}
-use Rattle.stamp_runs.specs.Run.EndsBy.{ends_next, ends_later}
+use Rattle.stamp_runs.specs.Run.EndsBy.{ends_next}
 use Rattle.stamp_runs.specs.LockRun.{AreExplained}
 use Rattle.stamp_watch.specs.Issued.{IssuesOf, LosesNothing, ReturnsOlder}
 use Rattle.stamp_watch.specs.Ahead.{IsSpared}

@@ -153,7 +153,7 @@ unchanging_never_needed limits t call reply events s lanes after asks sets never
     (λ c r is. absurd (asks_or_gets is sets.here)) way.way))
 
 -- a call that does the same takes the same step
-pub same_step : (limits : Bounds) (s : List LockEvent) (call other : Call) (reply : Reply) (next : List LockEvent) →
+same_step : (limits : Bounds) (s : List LockEvent) (call other : Call) (reply : Reply) (next : List LockEvent) →
     DoSame limits call other → LockStep limits s call reply next → LockStep limits s other reply next
 same_step limits s call other reply next does step = record {
   replies = subst (λ (t : Option Transition). Replies t reply) (does s) step.replies;

@@ -18,7 +18,7 @@ use Rattle.stamp_core.proofs.TwoLayouts.{either_layout}
 use Rattle.stamp_runs.specs.Run.{lane_of}
 use Rattle.stamp_runs.specs.declared.event.Event.{Event}
 use Rattle.stamp_runs.specs.declared.event.Event.TheVariants.{Begins, Returns}
-use Rattle.stamp_runs.specs.Run.EndsBy.{ends_next, ends_later}
+use Rattle.stamp_runs.specs.Run.EndsBy.{ends_next}
 use Rattle.stamp_runs.specs.Object.{LockStep}
 use Rattle.stamp_watch.specs.Issued.{IsReading, IsWriting, IssuesOf, IssuesOlder, ReturnsOlder}
 use Rattle.stamp_watch.specs.Ahead.{IsSpared}

@@ -1,5 +1,5 @@
 -- Ways along the events of a run.
-use Rattle.std.proofs.Common.{◌≡◌, ◌≢◌, ◌⊎◌, ℕ, List, [], ◌∷◌, ◌++◌, refl, sym, ◌∙◌, ap, subst, inl, inr}
+use Rattle.std.proofs.Common.{◌≡◌, ◌≢◌, ◌⊎◌, ℕ, List, [], ◌∷◌, ◌++◌, refl, sym, ◌∙◌, subst, inl, inr}
 use Rattle.std.proofs.lemmas.Bool.{cases_eq}
 use Rattle.std.proofs.lemmas.List.Elements.{All-cons, All-head, All-nil, All-tail, All-take, All-weaker}
 use Rattle.std.specs.Prelude.{take}
@@ -8,7 +8,7 @@ use Rattle.stamp_core.specs.declared.reply.Reply.{Reply}
 use Rattle.stamp_runs.specs.declared.event.Event.{Event}
 use Rattle.stamp_runs.specs.declared.event.Event.TheVariants.{Begins, Returns, Withdraws}
 use Rattle.stamp_runs.specs.Object.{Object}
-use Rattle.stamp_runs.specs.Run.{EndsBy, Happens, IsEndOf, Lanes, Leads, Phase, ReturnsSooner, Sets, Survives, lane_of}
+use Rattle.stamp_runs.specs.Run.{EndsBy, Happens, IsEndOf, Lanes, Leads, Phase, Sets, Survives, lane_of}
 use Rattle.stamp_runs.specs.Run.{EndsNever}
 use Rattle.stamp_runs.specs.Run.EndsBy.{ends_next, ends_later}
 use Rattle.stamp_runs.specs.Run.Leads.{leads_nowhere, by_effect, by_event}
