@@ -1,5 +1,9 @@
-use Rattle.std.proofs.Common.{inr, sym, ◌∙◌}
+use Rattle.std.proofs.Common.{inl, inr, refl, sym, ◌∙◌, subst}
 use Rattle.std.proofs.lemmas.Bool.{false≢true}
+use Rattle.stamp_runs.specs.LockRun.{AreExplained}
+use Rattle.stamp_watch.specs.declared.late_verdict.LateVerdict.{LateVerdict}
+use Rattle.stamp_watch.specs.Late.{IsLateVerdict}
+use Rattle.stamp_watch.specs.Verdict.{AreOfLock}
 use Rattle.stamped_watch.proofs.Ended.{call_kept, call_there}
 use Rattle.stamped_watch.proofs.Ending.{judge_whole}
 use Rattle.stamped_watch.proofs.Misplacing.{late_form_here}
@@ -12,6 +16,14 @@ finding_of-requires c =
     late_form_here some.limits some.run some.most some.ahead _ whole
     (c.in_ok-verdict.ensures.verdict some.limits some.most some.ahead some.run some.judge_of)
     (λ same. false≢true (sym c.if-is_explained.false ∙ c.is_explained.ensures.1 same))
+
+pub returns-then-is_explained-clause-found : goal.returns-then-is_explained-clause-found
+returns-then-is_explained-clause-found c limits most ahead run is =
+    let all : AreOfLock run × AreExplained limits run =
+    subst (λ (v : LateVerdict). IsLateVerdict limits run most ahead v)
+    (c.is_explained.ensures.0 c.if-is_explained.true)
+    (c.in_ok-verdict.ensures.verdict limits most ahead run is) in
+    inl (record { whole = all.0; explained = all.1 }, refl)
 
 pub returns-clause-found : goal.returns-clause-found
 returns-clause-found c limits most ahead run is = inr (record {
