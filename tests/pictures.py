@@ -7,7 +7,7 @@ lane, with as much of its call and reply as has room, and a mark for each of the
 faulty entry is of another class. Of one window bars and marks, and of two pictures ribbon, content and axis, stand
 where it is written here. Columns are as wide as is written here, by how many there are. In characters, some pictures
 are those that are written here, each is cut off where it is told, and a cut line says so; words that are no form are
-refused. Those of docs/pictures are made again and compared. With FOLDER all of them are written there: so
+refused, and options come in any order. Those of docs/pictures are made again and compared. With FOLDER all of them are written there: so
 `pictures.py PROGRAM docs/pictures` makes those pages' pictures again (it leaves the others there, which are
 not kept).
 
@@ -17,6 +17,7 @@ in view, and of many the fault stands in the middle. The pointer and the keys fi
 colours of what they are; the calls within a picked one are marked, and those around it; calls of a thread that overlap
 don't cover one another; and the wheel zooms and moves. It has 20,000 calls at once."""
 import html
+import itertools
 import json
 import os
 import re
@@ -416,12 +417,17 @@ BAD_WORDS = [
     ["--text", "--width"],
     ["--text", "--width", "0"],
     ["--text", "--width", "+8"],
-    ["--from", "1", "--to", "2", "--text"],
     ["--from", "4", "--to", "3"],
+    ["--from", "1"],
+    ["--text", "--to", "2"],
     ["--text", "--from", "1", "--to"],
-    ["--text", "--from", "1", "--to", "2", "--width", "8"],
+    ["--from", "1", "--to", "2", "--from", "1"],
+    ["--from", "1", "--to", "2", "--width", "8"],
+    ["--text", "run.json"],
     ["--help", "--text"],
 ]
+# Options that come in any order.
+ANY_ORDER = [["--text"], ["--width", "40"], ["--from", "2"], ["--to", "3"]]
 
 
 def ended(program, text, words):
@@ -679,6 +685,12 @@ def main():
         answer = ended(program, b"", words)
         if answer != (2, b"", b"stamped_picture: bad command line\n"):
             sys.exit(f"{words}: {answer}")
+    in_orders = {
+        ended(program, json.dumps(history(SCHEDULE)).encode(), [word for option in options for word in option])
+        for options in itertools.permutations(ANY_ORDER)
+    }
+    if len(in_orders) != 1 or {answer[0] for answer in in_orders} != {0}:
+        sys.exit(f"another order of options: {in_orders}")
     answer = ended(program, b"", [])
     if answer != (1, b"", b"stamped_picture: no input\n"):
         sys.exit(f"no input: {answer}")

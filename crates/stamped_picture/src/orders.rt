@@ -1,10 +1,10 @@
 //! The command line.
 
-ghost use Rattle.std.specs.Prelude.{◌≡◌, map, option_and_then, option_map};
-ghost use Rattle.stamped_picture.specs.Order.{width_in, text_format, wide_format, window_of, window_in, both, form_within, form_of};
-ghost use Rattle.stamped_picture.specs.Order.{asks_for_help, asks_for_page, command_of, order_in};
+ghost use Rattle.std.specs.Prelude.{◌≡◌};
+ghost use Rattle.stamp_cli.specs.Given.{items_given, texts};
+ghost use Rattle.stamped_picture.specs.Order as order;
 
-use stamp_cli::{CommandFault, number_in};
+use stamp_cli::{CommandFault, Given, Options, given_in, number_in};
 use stamp_picture::Window;
 
 /// How a picture is drawn.
@@ -36,8 +36,17 @@ pub(crate) enum PictureCommand {
     Page,
 }
 
+/// The options of a picture.
+const OPTIONS: Options = Options {
+    flags: &["--text"],
+    worded: &["--width", "--from", "--to"],
+};
+
+/// The characters of a line of text, if the command line says no other number.
+const PLAIN_WIDTH: u64 = 80;
+
 fn width_in(text: &str) -> Option<u64>
-    ensures { result ≡ width_in text.now }
+    ensures { result ≡ order.width_in text.now }
 {
     match number_in(text)? {
         0 => None,
@@ -45,31 +54,33 @@ fn width_in(text: &str) -> Option<u64>
     }
 }
 
-/// Lines for a terminal.
-fn text_format(text: &str) -> Option<PictureFormat>
-    ensures { result ≡ text_format text.now }
+/// Lines for a terminal, unless the word behind `--width` is no width.
+fn text_of(given: &Given) -> Option<PictureFormat>
+    ensures { result ≡ order.text_of (items_given given.now) }
 {
-    if text == "--text" {
-        Some(PictureFormat::Text(80))
-    } else {
-        None
+    match given.word_of("--width") {
+        Some(width) => Some(PictureFormat::Text(width_in(width)?)),
+        None => Some(PictureFormat::Text(PLAIN_WIDTH)),
     }
 }
 
-fn wide_format(text: &str, option: &str, width: &str) -> Option<PictureFormat>
-    ensures { result ≡ wide_format text.now option.now width.now }
+/// How a picture is drawn by these options: `--width` stands only beside `--text`.
+fn format_of(given: &Given) -> Option<PictureFormat>
+    ensures { result ≡ order.format_of (items_given given.now) }
 {
-    if text == "--text" && option == "--width" {
-        Some(PictureFormat::Text(width_in(width)?))
-    } else {
+    if given.has("--text") {
+        text_of(given)
+    } else if given.has("--width") {
         None
+    } else {
+        Some(PictureFormat::Svg)
     }
 }
 
 /// The window from a position to one that isn't before it.
-#[tactic(auto, unfolding(crate::specs::Order::window_of))]
-fn window_of(from: u64, to: u64) -> Option<Window>
-    ensures { result ≡ window_of from to }
+#[tactic(auto, unfolding(crate::specs::Order::window_between))]
+fn window_between(from: u64, to: u64) -> Option<Window>
+    ensures { result ≡ order.window_between from to }
 {
     if from <= to {
         Some(Window { from, to })
@@ -78,59 +89,32 @@ fn window_of(from: u64, to: u64) -> Option<Window>
     }
 }
 
-fn window_in(option: &str, from: &str, other: &str, to: &str) -> Option<Window>
-    ensures { result ≡ window_in option.now from.now other.now to.now }
+/// The part of the history that these options give: `--from` and `--to` stand only together.
+fn window_of(given: &Given) -> Option<Window>
+    ensures { result ≡ order.window_of (items_given given.now) }
 {
-    if option == "--from" && other == "--to" {
-        window_of(number_in(from)?, number_in(to)?)
-    } else {
-        None
-    }
-}
-
-fn both(format: Option<PictureFormat>, window: Option<Window>) -> Option<PictureOrder>
-    ensures { result ≡ both format window }
-{
-    Some(PictureOrder {
-        format: format?,
-        window: window?,
-    })
-}
-
-/// The forms with a window behind.
-fn form_within(args: &[&str]) -> Option<PictureOrder>
-    ensures { result ≡ form_within (map (λ arg. arg.now) args.now) }
-{
-    match args {
-        [option, from, other, to] => both(
-            Some(PictureFormat::Svg),
-            window_in(option, from, other, to),
-        ),
-        [text, option, from, other, to] => {
-            both(text_format(text), window_in(option, from, other, to))
-        }
-        [text, wide, width, option, from, other, to] => both(
-            wide_format(text, wide, width),
-            window_in(option, from, other, to),
-        ),
+    match (given.word_of("--from"), given.word_of("--to")) {
+        (Some(from), Some(to)) => window_between(number_in(from)?, number_in(to)?),
+        (None, None) => Some(Window::all()),
         _ => None,
     }
 }
 
-fn form_of(args: &[&str]) -> Option<PictureOrder>
-    ensures { result ≡ form_of (map (λ arg. arg.now) args.now) }
+/// What is to be drawn by these options, unless a file is named.
+fn drawn_by(given: &Given) -> Option<PictureOrder>
+    ensures { result ≡ order.drawn_by (items_given given.now) }
 {
-    let all = Some(Window::all());
-    match args {
-        [] => both(Some(PictureFormat::Svg), all),
-        [text] => both(text_format(text), all),
-        [text, option, width] => both(wide_format(text, option, width), all),
-        _ => form_within(args),
+    if given.file().is_some() {
+        return None;
     }
+    Some(PictureOrder {
+        format: format_of(given)?,
+        window: window_of(given)?,
+    })
 }
 
 fn asks_for_help(args: &[&str]) -> bool
-    ensures { result ≡ asks_for_help (map (λ arg. arg.now) args.now) }
+    ensures { result ≡ order.asks_for_help (texts args.now) }
 {
     match args {
         [arg] => *arg == "--help",
@@ -139,7 +123,7 @@ fn asks_for_help(args: &[&str]) -> bool
 }
 
 fn asks_for_page(args: &[&str]) -> bool
-    ensures { result ≡ asks_for_page (map (λ arg. arg.now) args.now) }
+    ensures { result ≡ order.asks_for_page (texts args.now) }
 {
     match args {
         [arg] => *arg == "--html",
@@ -148,20 +132,21 @@ fn asks_for_page(args: &[&str]) -> bool
 }
 
 fn command_of(args: &[&str]) -> Option<PictureCommand>
-    ensures { result ≡ command_of (map (λ arg. arg.now) args.now) }
+    ensures { result ≡ order.command_of (texts args.now) }
 {
     if asks_for_help(args) {
-        Some(PictureCommand::Help)
-    } else if asks_for_page(args) {
-        Some(PictureCommand::Page)
-    } else {
-        Some(PictureCommand::Draw(form_of(args)?))
+        return Some(PictureCommand::Help);
     }
+    if asks_for_page(args) {
+        return Some(PictureCommand::Page);
+    }
+    let given = given_in(OPTIONS, args)?;
+    Some(PictureCommand::Draw(drawn_by(&given)?))
 }
 
 /// What the program's arguments ask for.
 pub(crate) fn order_of(args: &[&str]) -> Result<PictureCommand, CommandFault>
-    ensures { result ≡ order_in (map (λ arg. arg.now) args.now) }
+    ensures { result ≡ order.order_in (texts args.now) }
 {
     command_of(args).ok_or(CommandFault::Bad)
 }
