@@ -80,3 +80,19 @@ bit_free lanes lane b is unset =
     let less : bit_at lanes lane < 2 = bit_at-lt lanes lane in
     let apart : bit_at lanes lane ≢ 1 = λ e. false≢true (sym unset ∙ is.1 e) in
     omega arith
+
+-- each lane of the one is among the others
+abbrev pub AreWithin : ℕ → ℕ → Type 0
+AreWithin rest lanes = (l : ℕ) → bit_at rest l ≡ 1 → bit_at lanes l ≡ 1
+
+pub within_itself : (lanes : ℕ) → AreWithin lanes lanes
+within_itself lanes l is = is
+
+pub within_less : (rest later lanes k : ℕ) → SetsBit rest later k 0 → AreWithin rest lanes → AreWithin later lanes
+within_less rest later lanes k clears within l is = within l (by (cases_eq l k))
+  where
+    by : (l ≡ k) ⊎ (l ≢ k) → bit_at rest l ≡ 1
+    by (inl same) = let none = clears.here in
+        let one : bit_at later k ≡ 1 = subst (λ (u : ℕ). bit_at later u ≡ 1) same is in absurd
+        (omega (arith, none, one))
+    by (inr apart) = sym (clears.others l apart) ∙ is

@@ -1,154 +1,57 @@
--- The effect of a call of the lock by what was decided.
-use Rattle.std.proofs.Common.{ℕ, ◌≡◌, List, [], ◌++◌, Option, Some, None, refl, sym, ◌∙◌, true, ap, subst}
-use Rattle.std.proofs.Common.{append-nil}
+-- How calls take effect in positions.
+use Rattle.std.proofs.Common.{ℕ, ◌≡◌, ◌≢◌, ◌⊎◌, List, Option, Some, None, refl, sym, ◌∙◌, true, false}
+use Rattle.std.proofs.Common.{subst, inl, inr, arith}
 use Rattle.std.specs.Int.{bit_at}
+use Rattle.std.specs.Prelude.{Bool, IsTrue, not}
 use Rattle.std.specs.Option.{is_some}
-use Rattle.std.proofs.lemmas.Bool.{false≢true}
-use Rattle.stamp_core.specs.LockEvent.{LockEvent}
-use Rattle.stamp_core.specs.Limits.{Bounds}
-use Rattle.stamp_core.specs.Word.{LockWord, Represents, IsAdmitted, word_at}
-use Rattle.stamp_core.specs.Transition.{Transition, transition}
-use Rattle.stamp_core.specs.History.{Replies, appended_by}
-use Rattle.stamp_core.specs.Decision.{Answers, Changes, HasNone, Decides}
-use Rattle.stamp_core.specs.declared.decision.Decision.{Decision}
-use Rattle.stamp_core.specs.declared.call.Call.{Call}
+use Rattle.std.proofs.lemmas.Bool.{cases_eq, false≢true}
+use Rattle.std.proofs.lemmas.Nat.Bits.{bit_at-zero}
 use Rattle.stamp_core.specs.declared.reply.Reply.{Reply}
-use Rattle.stamp_core.specs.LockCall.{call_as}
-use Rattle.stamp_runs.specs.Object.{LockStep}
-use Rattle.stamp_sets.specs.declared.ending.Ending.{Ending}
-use Rattle.stamp_sets.specs.declared.ending.Ending.TheVariants.{Never, Returns, Withdraws}
+use Rattle.stamp_sets.specs.declared.ending.SmallEnding.{SmallEnding}
 use Rattle.stamp_sets.specs.declared.open_call.OpenCall.{OpenCall}
 use Rattle.stamp_sets.specs.declared.position.Position.{Position}
-use Rattle.stamp_sets.specs.Judged.{Judged, lock}
+use Rattle.stamp_sets.specs.Judged.{Judged}
 use Rattle.stamp_sets.specs.inner.State.{IsState}
-use Rattle.stamp_sets.specs.Told.{MayGet, open_at}
-use Rattle.stamp_sets.specs.inner.Ended.{IsReturn}
-use Rattle.stamp_sets.specs.inner.Effect.{IsEffect, IsAfterEffect, IsUnchanging, Leaves, Settles, TakesEffectTo}
+use Rattle.stamp_sets.specs.Told.{HasEachOpen, MayGet, open_at}
+use Rattle.stamp_sets.specs.inner.Effect.{AreSettled, IsAfterEffect, IsEffect, IsUnchanging, Leaves, Settles}
+use Rattle.stamp_sets.specs.inner.Effect.{SettlesOne}
+use Rattle.stamp_sets.specs.inner.Effect.{IsPassedOver, IsUnseen, TakesEffectTo}
 use Rattle.stamp_sets.specs.inner.Effect.Settles.{as_it_is, one_more}
 use Rattle.stamp_sets.specs.Lanes.{SetsBit}
+use Rattle.stamp_sets.proofs.Reading.{cleared, unset_cleared}
+use Rattle.stamp_sets.proofs.Tables.{idle_apart, one_open}
 
-pub admitted : (limits : Bounds) (number : ℕ) → IsState (lock limits) number → IsAdmitted limits (word_at limits number)
-admitted limits number is = record { events = is.state; represented = is.holds }
-
-pub decides_at : (limits : Bounds) (w v : LockWord) (k j : Call) (d : Decision) → w ≡ v → k ≡ j →
-    Decides limits w k d → Decides limits v j d
-decides_at limits w v k j d words calls decides = subst (λ (x : Call). Decides limits v x d) calls
-    (subst (λ (y : LockWord). Decides limits y k d) words decides)
-
-may_from_return : (ends : Ending) (reply : Reply) → IsReturn ends reply → MayGet ends reply
-may_from_return (Returns told place) reply is = is
-may_from_return Withdraws reply is = is
-may_from_return Never reply is = tt
-
-never_from_no_return : (ends : Ending) (reply : Reply) → (IsReturn ends reply → ⊥) → MayGet ends reply → ends ≡ Never
-never_from_no_return (Returns told place) reply not may = absurd (not may)
-never_from_no_return Withdraws reply not may = absurd may
-never_from_no_return Never reply not may = refl
-
-module _ (limits : Bounds) (word : ℕ) (o : OpenCall) where
-  -- a step of which the transition is known
-  replied : (t : Transition) (s next : List LockEvent) (reply : Reply) → transition limits s (call_as o.asks) ≡ Some t →
-      LockStep limits s (call_as o.asks) reply next → (t.reply ≡ reply) × (next ≡ s ++ t.appended)
-  replied t s next reply is step = (
-    subst (λ (x : Option Transition). Replies x reply) is step.replies,
-    step.appends ∙ ap (λ (x : Option Transition). s ++ appended_by x) is,
-  )
-
-  stepped : (t : Transition) (s : List LockEvent) → transition limits s (call_as o.asks) ≡ Some t →
-      LockStep limits s (call_as o.asks) t.reply (s ++ t.appended)
-  stepped t s is = record {
-    replies = subst (λ (x : Option Transition). Replies x t.reply) (sym is) refl;
-    appends = ap (λ (x : Option Transition). s ++ appended_by x) (sym is);
-  }
-
-  pub answer_taken : (reply : Reply) → Answers limits (word_at limits word) (call_as o.asks) reply →
-      IsReturn o.ends reply → IsEffect (lock limits) word o (Some word)
-  answer_taken reply answers is = record {
-    some = λ s holds. record {
-      reply = reply;
-      next = s ++ [];
-      may = may_from_return o.ends reply is;
-      step = stepped (record { appended = []; reply = reply }) s (answers s holds);
-      holds = subst (λ (v : List LockEvent). Represents limits (word_at limits word) v) (sym (append-nil s)) holds;
-    };
-    each = λ s next other holds may_other step. subst (λ (v : List LockEvent). Represents limits (word_at limits
-        word) v)
-        (sym ((replied (record { appended = []; reply = reply }) s next other (answers s holds) step).1 ∙ append-nil s))
-        holds;
-  }
-
-  pub answer_left : (reply : Reply) → Answers limits (word_at limits word) (call_as o.asks) reply →
-      (IsReturn o.ends reply → ⊥) → IsEffect (lock limits) word o None
-  answer_left reply answers not s next other holds may step =
-      let its = replied (record { appended = []; reply = reply }) s next other (answers s holds) step in (
-        never_from_no_return o.ends reply not (subst (λ (r : Reply). MayGet o.ends r) (sym its.0) may),
-        its.1 ∙ append-nil s,
-      )
-
-  pub change_taken : (next : LockWord) (reply : Reply) (bits : ℕ) →
-      Changes limits (word_at limits word) (call_as o.asks) next reply → MayGet o.ends reply → bits ≡ next.bits →
-      IsEffect (lock limits) word o (Some bits)
-  change_taken next reply bits changes may same = record {
-    some = λ s holds. let moves = changes s holds in record {
-      reply = reply;
-      next = s ++ moves.appended;
-      may = may;
-      step = stepped (record { appended = moves.appended; reply = reply }) s moves.transition_is;
-      holds = there s holds;
-    };
-    each = λ s then other holds may_other step. let moves = changes s holds in
-        subst (λ (v : List LockEvent). Represents limits (word_at limits bits) v)
-        (sym (replied (record { appended = moves.appended; reply = reply }) s then other moves.transition_is step).1)
-        (there s holds);
-  }
-    where
-      there : (s : List LockEvent) (holds : Represents limits (word_at limits word) s) →
-          Represents limits (word_at limits bits) (s ++ (changes s holds).appended)
-      there s holds = let moves = changes s holds in rw same (record {
-        well_formed = moves.represented.well_formed;
-        layout = refl;
-        spelled = moves.represented.spelled;
+module _ {S : Type 0} (o : Judged S) (begun : OpenCall) where
+  pub takes_at_once : (table : List (Option OpenCall)) (p q : Position) (lane : ℕ) (found : Option ℕ) →
+      open_at table lane ≡ Some begun → q.state ≡ p.state → bit_at p.in_effect lane ≡ 0 →
+      SetsBit p.in_effect q.in_effect lane 1 → SetsBit p.free q.free lane 0 → IsUnchanging o begun →
+      is_some found ≡ true → IsEffect o p.state begun found → Settles o table (λ l. l ≡ lane) p q
+  takes_at_once table p q lane None is_open same free sets clears is some effect = absurd (false≢true some)
+  takes_at_once table p q lane (Some then) is_open same free sets clears is some effect =
+      one_more p q as_it_is (record {
+        lane = lane;
+        among = refl;
+        takes = record {
+          begun = begun;
+          is_open = is_open;
+          free = free;
+          effect = record {
+            some = λ s holds. there s holds (effect.some s holds);
+            each = λ s next reply holds may step. subst (λ (n : ℕ). o.holds n next) (sym same)
+                (subst (λ (v : S). o.holds p.state v) (sym (still s next reply may step)) holds);
+          };
+          sets = sets;
+        };
+        unchanging = is;
+        same = same;
+        clears = clears;
       })
-
-  pub change_left : (next : LockWord) (reply : Reply) →
-      Changes limits (word_at limits word) (call_as o.asks) next reply → (MayGet o.ends reply → ⊥) →
-      IsEffect (lock limits) word o None
-  change_left next reply changes not s then other holds may step = let moves = changes s holds in
-      absurd (not (subst (λ (r : Reply). MayGet o.ends r)
-      (sym (replied (record { appended = moves.appended; reply = reply }) s then other moves.transition_is step).0)
-      may))
-
-  pub none_taken : HasNone limits (word_at limits word) (call_as o.asks) → IsEffect (lock limits) word o None
-  none_taken none s then other holds may step =
-      absurd (subst (λ (x : Option Transition). Replies x other) (none s holds) step.replies)
-
-module _ {S : Type 0} (o : Judged S) where
-  pub takes_at_once : (table : List (Option OpenCall)) (p q : Position) (lane : ℕ) (begun : OpenCall)
-      (found : Option ℕ) → open_at table lane ≡ Some begun → q.state ≡ p.state → bit_at p.in_effect lane ≡ 0 →
-      SetsBit p.in_effect q.in_effect lane 1 → IsUnchanging o begun → is_some found ≡ true →
-      IsEffect o p.state begun found → Settles o table p q
-  takes_at_once table p q lane begun None is_open same free sets is some effect = absurd (false≢true some)
-  takes_at_once table p q lane begun (Some then) is_open same free sets is some effect = one_more p q as_it_is (record {
-    lane = lane;
-    takes = record {
-      begun = begun;
-      is_open = is_open;
-      free = free;
-      effect = record {
-        some = λ s holds. there s holds (effect.some s holds);
-        each = λ s next reply holds may step. subst (λ (n : ℕ). o.holds n next) (sym same)
-            (subst (λ (v : S). o.holds p.state v) (sym (still s next reply may step)) holds);
-      };
-      sets = sets;
-    };
-    unchanging = is;
-  })
     where
-      still : (s next : S) (reply : Reply) → MayGet begun.ends reply → o.step s (o.call begun.asks) reply next →
+      still : (s next : S) (reply : Reply) → MayGet o.reply begun.ends reply → o.step s (o.call begun.asks) reply next →
           next ≡ s
       still s next reply may step = is.unchanging s next
           (subst (λ (r : Reply). o.step s (o.call begun.asks) r next)
-          (sym (subst (λ (e : Ending). MayGet e reply) is.ends may)) step)
+          (sym (subst (λ (e : SmallEnding). MayGet o.reply e reply) is.ends may)) step)
 
       there : (s : S) → o.holds p.state s → TakesEffectTo o begun s then → TakesEffectTo o begun s q.state
       there s holds to = record {
@@ -160,23 +63,184 @@ module _ {S : Type 0} (o : Judged S) where
             (subst (λ (v : S). o.holds p.state v) (sym (still s to.next to.reply to.may to.step)) holds);
       }
 
-  pub settles_on : (table : List (Option OpenCall)) (p q r : Position) → Settles o table p q → Settles o table q r →
-      Settles o table p r
-  settles_on table p q r first as_it_is = first
-  settles_on table p q r first (one_more x y rest last) = one_more x y (settles_on table p q x first rest) last
+  pub none_found : (number : ℕ) (found : Option ℕ) → is_some found ≡ false → IsEffect o number begun found →
+      IsEffect o number begun None
+  none_found number None none effect = effect
+  none_found number (Some then) none effect = absurd (false≢true (sym none))
+
+pub not_true : (b : Bool) → IsTrue b → not b ≡ false
+not_true true is = refl
+not_true false is = absurd (false≢true is)
+
+pub some_number : (found : Option ℕ) → is_some found ≡ true → (number : ℕ) × (found ≡ Some number)
+some_number None some = absurd (false≢true some)
+some_number (Some number) some = (number, refl)
+
+module _ {S : Type 0} (o : Judged S) where
+  pub settles_on : (table : List (Option OpenCall)) (Lane : ℕ → Type 0) (p q r : Position) →
+      Settles o table Lane p q → Settles o table Lane q r → Settles o table Lane p r
+  settles_on table Lane p q r first as_it_is = first
+  settles_on table Lane p q r first (one_more x y rest last) =
+      one_more x y (settles_on table Lane p q x first rest) last
+
+  -- among more lanes
+  pub settles_among : (table : List (Option OpenCall)) (Lane More : ℕ → Type 0) (p q : Position) →
+      ((l : ℕ) → Lane l → More l) → Settles o table Lane p q → Settles o table More p q
+  settles_among table Lane More p q each as_it_is = as_it_is
+  settles_among table Lane More p q each (one_more x y rest last) =
+      one_more x y (settles_among table Lane More p x each rest) (record {
+        lane = last.lane;
+        among = each last.lane last.among;
+        takes = last.takes;
+        unchanging = last.unchanging;
+        same = last.same;
+        clears = last.clears;
+      })
+
+  -- what is in effect stays so, and the number of the state stays
+  pub taken_settled : (table : List (Option OpenCall)) (Lane : ℕ → Type 0) (p q : Position) (u : ℕ) →
+      Settles o table Lane p q → bit_at p.in_effect u ≡ 1 → bit_at q.in_effect u ≡ 1
+  taken_settled table Lane p q u as_it_is taken = taken
+  taken_settled table Lane p q u (one_more x y rest last) taken =
+      by (cases_eq u last.lane) (taken_settled table Lane p x u rest taken)
+    where
+      by : (u ≡ last.lane) ⊎ (u ≢ last.lane) → bit_at x.in_effect u ≡ 1 → bit_at q.in_effect u ≡ 1
+      by (inl same) before = subst (λ (v : ℕ). bit_at q.in_effect v ≡ 1) (sym same) last.takes.sets.here
+      by (inr apart) before = last.takes.sets.others u apart ∙ before
+
+  -- and what is not free
+  pub unfree_settled : (table : List (Option OpenCall)) (Lane : ℕ → Type 0) (p q : Position) (u : ℕ) →
+      Settles o table Lane p q → bit_at p.free u ≡ 0 → bit_at q.free u ≡ 0
+  unfree_settled table Lane p q u as_it_is unset = unset
+  unfree_settled table Lane p q u (one_more x y rest last) unset =
+      unset_cleared x.free q.free last.lane u last.clears (unfree_settled table Lane p x u rest unset)
+
+  pub same_settled : (table : List (Option OpenCall)) (Lane : ℕ → Type 0) (p q : Position) →
+      Settles o table Lane p q → q.state ≡ p.state
+  same_settled table Lane p q as_it_is = refl
+  same_settled table Lane p q (one_more x y rest last) = last.same ∙ same_settled table Lane p x rest
 
   -- a number that is left in a state tells a state
   pub state_left : (number then : ℕ) (begun : OpenCall) → IsState o number → Leaves o number begun then → IsState o then
   state_left number then begun is leaves = let to = leaves.some is.state is.holds in
       record { state = to.next; holds = to.holds }
 
-  pub state_settled : (table : List (Option OpenCall)) (p q : Position) → IsState o p.state → Settles o table p q →
-      IsState o q.state
-  state_settled table p q is as_it_is = is
-  state_settled table p q is (one_more x y rest last) =
-      state_left x.state y.state last.takes.begun (state_settled table p x is rest) last.takes.effect
+  pub state_settled : (table : List (Option OpenCall)) (Lane : ℕ → Type 0) (p q : Position) → IsState o p.state →
+      Settles o table Lane p q → IsState o q.state
+  state_settled table Lane p q is settles =
+      subst (λ (n : ℕ). IsState o n) (sym (same_settled table Lane p q settles)) is
 
-  pub state_after : (table : List (Option OpenCall)) (p q : Position) (lane : ℕ) → IsState o p.state →
-      IsAfterEffect o table p lane q → IsState o q.state
-  state_after table p q lane is after = state_settled table after.between q
+  pub state_after : (table : List (Option OpenCall)) (awaited : ℕ) (p q : Position) (lane : ℕ) → IsState o p.state →
+      IsAfterEffect o table awaited p lane q → IsState o q.state
+  state_after table awaited p q lane is after = state_settled table (λ l. Unit {0}) after.between q
       (state_left p.state after.between.state after.takes.begun is after.takes.effect) after.settles
+
+-- the calls of these lanes but for those that are left were tried
+pub record SettledSoFar {S : Type 0} (o : Judged S) (table : List (Option OpenCall)) (lanes rest : ℕ)
+    (p q : Position) : Type 0 where
+  pub left : (l : ℕ) → bit_at rest l ≡ 1 → bit_at lanes l ≡ 1
+  pub settles : Settles o table (λ l. bit_at lanes l ≡ 1) p q
+  pub whole : (l : ℕ) (begun : OpenCall) → bit_at lanes l ≡ 1 → bit_at rest l ≢ 1 → open_at table l ≡ Some begun →
+      o.reads begun ≡ true → (bit_at q.in_effect l ≡ 1) ⊎ IsEffect o p.state begun None
+
+module _ {S : Type 0} (o : Judged S) (table : List (Option OpenCall)) (lanes : ℕ) (p : Position) where
+  pub so_far_settled_none : SettledSoFar o table lanes lanes p p
+  so_far_settled_none = record {
+    left = λ l is. is;
+    settles = as_it_is;
+    whole = λ l begun is not. absurd (not is);
+  }
+
+  pub so_far_settled_all : (rest : ℕ) (q : Position) → rest ≡ 0 → SettledSoFar o table lanes rest p q →
+      AreSettled o table lanes p q
+  so_far_settled_all rest q none so_far = record {
+    settles = so_far.settles;
+    whole = λ l begun is opens reads. so_far.whole l begun is (λ set. unset l
+        (subst (λ (n : ℕ). bit_at n l ≡ 1) none set)) opens reads;
+  }
+    where
+      unset : (l : ℕ) → bit_at 0 l ≢ 1
+      unset l set = let zero_bit = bit_at-zero l in omega (arith, set, zero_bit)
+
+  -- one lane more
+  module _ (rest later k : ℕ) (q r : Position) (among : bit_at rest k ≡ 1) (clears : SetsBit rest later k 0)
+      (so_far : SettledSoFar o table lanes rest p q) where
+    pub so_far_settled_more : (Settles o table (λ l. bit_at lanes l ≡ 1) q r) →
+        ((begun : OpenCall) → open_at table k ≡ Some begun → o.reads begun ≡ true →
+        (bit_at r.in_effect k ≡ 1) ⊎ IsEffect o q.state begun None) → SettledSoFar o table lanes later p r
+    so_far_settled_more settles here = record {
+      left = λ l is. so_far.left l (cleared rest later k l clears is).1;
+      settles = settles_on o table (λ l. bit_at lanes l ≡ 1) p q r so_far.settles settles;
+      whole = λ l begun is not opens reads. by l begun is not opens reads (cases_eq l k);
+    }
+      where
+        before : (l : ℕ) → (b : OpenCall) → (bit_at q.in_effect l ≡ 1) ⊎ IsEffect o p.state b None →
+            (bit_at r.in_effect l ≡ 1) ⊎ IsEffect o p.state b None
+        before l b (inl taken) = inl (taken_settled o table (λ u. bit_at lanes u ≡ 1) q r l settles taken)
+        before l b (inr none) = inr none
+
+        first : (b : OpenCall) → (bit_at r.in_effect k ≡ 1) ⊎ IsEffect o q.state b None →
+            (bit_at r.in_effect k ≡ 1) ⊎ IsEffect o p.state b None
+        first b (inl taken) = inl taken
+        first b (inr none) = inr (subst (λ (n : ℕ). IsEffect o n b None)
+            (same_settled o table (λ l. bit_at lanes l ≡ 1) p q so_far.settles) none)
+
+        by : (l : ℕ) (begun : OpenCall) → bit_at lanes l ≡ 1 → bit_at later l ≢ 1 → open_at table l ≡ Some begun →
+            o.reads begun ≡ true → (l ≡ k) ⊎ (l ≢ k) → (bit_at r.in_effect l ≡ 1) ⊎ IsEffect o p.state begun None
+        by l begun is not opens reads (inl same) = subst
+            (λ (u : ℕ). (bit_at r.in_effect u ≡ 1) ⊎ IsEffect o p.state begun None) (sym same)
+            (first begun (here begun (subst (λ (u : ℕ). open_at table u ≡ Some begun) same opens) reads))
+        by l begun is not opens reads (inr apart) = before l begun (so_far.whole l begun is
+            (λ set. not (clears.others l apart ∙ set)) opens reads)
+
+    pub so_far_settled_one : (begun : OpenCall) → open_at table k ≡ Some begun → SettlesOne o begun k q r →
+        SettledSoFar o table lanes later p r
+    so_far_settled_one begun is_open one = so_far_settled_more
+        (settles_among o table (λ l. l ≡ k) (λ l. bit_at lanes l ≡ 1) q r
+        (λ l same. subst (λ (u : ℕ). bit_at lanes u ≡ 1) (sym same) (so_far.left k among)) (one.settles table is_open))
+        (λ b opens reads. subst (λ (c : OpenCall). (bit_at r.in_effect k ≡ 1) ⊎ IsEffect o q.state c None)
+        (one_open table k begun b is_open opens)
+        (one.whole (subst (λ (c : OpenCall). o.reads c ≡ true) (sym (one_open table k begun b is_open opens)) reads)))
+
+    pub so_far_settled_idle : open_at table k ≡ None → r ≡ q → SettledSoFar o table lanes later p r
+    so_far_settled_idle idle same = subst (λ (x : Position). SettledSoFar o table lanes later p x) (sym same) (record {
+      left = λ l is. so_far.left l (cleared rest later k l clears is).1;
+      settles = so_far.settles;
+      whole = λ l begun is not opens reads. so_far.whole l begun is
+          (λ set. not (clears.others l (idle_apart table k l begun idle opens) ∙ set)) opens reads;
+    })
+
+-- each call that is not in effect is passed over, of those that were looked at
+pub record UnseenSoFar {S : Type 0} (o : Judged S) (table : List (Option OpenCall))
+    (awaited in_effect number rest : ℕ) : Type 0 where
+  pub each : (l : ℕ) (begun : OpenCall) → open_at table l ≡ Some begun → bit_at in_effect l ≡ 0 →
+      bit_at rest l ≢ 1 → IsPassedOver o awaited l begun number
+
+module _ {S : Type 0} (o : Judged S) (table : List (Option OpenCall)) (awaited in_effect number : ℕ) where
+  pub unseen_none : (busy : ℕ) → HasEachOpen table busy → UnseenSoFar o table awaited in_effect number busy
+  unseen_none busy has = record { each = λ l begun is waits not. absurd (not (has.each l begun is)) }
+
+  pub unseen_more : (rest later k : ℕ) → SetsBit rest later k 0 →
+      ((begun : OpenCall) → open_at table k ≡ Some begun → bit_at in_effect k ≡ 0 →
+      IsPassedOver o awaited k begun number) → UnseenSoFar o table awaited in_effect number rest →
+      UnseenSoFar o table awaited in_effect number later
+  unseen_more rest later k clears here so_far = record {
+    each = λ l begun is waits not. by l begun is waits not
+        (cases_eq l k);
+  }
+    where
+      by : (l : ℕ) (begun : OpenCall) → open_at table l ≡ Some begun → bit_at in_effect l ≡ 0 →
+          bit_at later l ≢ 1 → (l ≡ k) ⊎ (l ≢ k) → IsPassedOver o awaited l begun number
+      by l begun is waits not (inl same) = subst (λ (u : ℕ). IsPassedOver o awaited u begun number) (sym same)
+          (here begun (subst (λ (u : ℕ). open_at table u ≡ Some begun) same is)
+          (subst (λ (u : ℕ). bit_at in_effect u ≡ 0) same waits))
+      by l begun is waits not (inr apart) =
+          so_far.each l begun is waits (λ set. not (clears.others l apart ∙ set))
+
+  pub unseen_all : (rest : ℕ) → rest ≡ 0 → UnseenSoFar o table awaited in_effect number rest →
+      IsUnseen o table awaited in_effect number
+  unseen_all rest none so_far = record { each = λ l begun is waits. so_far.each l begun is waits (unset l) }
+    where
+      unset : (l : ℕ) → bit_at rest l ≢ 1
+      unset l set = let zero_bit = bit_at-zero l in
+          let one : bit_at 0 l ≡ 1 = subst (λ (n : ℕ). bit_at n l ≡ 1) none set in omega (arith, one, zero_bit)

@@ -13,9 +13,10 @@ use Rattle.stamp_sets.specs.declared.open_call.OpenCall.{OpenCall}
 use Rattle.stamp_sets.specs.declared.position.Position.{Position}
 use Rattle.stamp_sets.specs.Judged.{Judged}
 use Rattle.stamp_sets.specs.Told.{HasEachOpen, open_at}
-use Rattle.stamp_sets.specs.inner.Effect.{GivesWay, IsAfterEffect, IsEffect}
+use Rattle.stamp_sets.specs.inner.Effect.{IsAfterEffect, IsEffect, IsLeftOut}
 use Rattle.stamp_sets.specs.Lanes.{SetsBit}
-use Rattle.stamp_sets.specs.inner.Layer.{Adds, ComesAmong, Expands, FollowsIt, Includes, IsTried}
+use Rattle.stamp_sets.specs.inner.Layer.{Adds, ComesAmong, Expands, FollowsIt, IsTried}
+use Rattle.stamp_sets.specs.inner.Start.{Includes}
 use Rattle.stamp_sets.proofs.Tables.{one_open}
 
 -- a position that is added to a list
@@ -40,14 +41,17 @@ adds_one xs ys p are new = subst (λ (zs : List Position). Adds xs zs p) (sym ar
     by x (inl is) = inl is
     by x (inr same) = inr (sym same)
 
-module _ {S : Type 0} (o : Judged S) (table : List (Option OpenCall)) where
-  pub tried_more : (p : Position) (lane : ℕ) (xs ys : List Position) → Includes xs ys → IsTried o table p lane xs →
-      IsTried o table p lane ys
+module _ {S : Type 0} (o : Judged S) (table : List (Option OpenCall)) (awaited : ℕ) where
+  pub tried_more : (p : Position) (lane : ℕ) (xs ys : List Position) → Includes xs ys → IsTried o table awaited p lane
+      xs →
+      IsTried o table awaited p lane ys
   tried_more p lane xs ys grows is = record { tried = λ begun is_open free. by begun (is.tried begun is_open free) }
     where
       by : (begun : OpenCall) →
-          ComesAmong o table p lane xs ⊎ (IsEffect o p.state begun None ⊎ GivesWay o table p.in_effect lane begun) →
-          ComesAmong o table p lane ys ⊎ (IsEffect o p.state begun None ⊎ GivesWay o table p.in_effect lane begun)
+          ComesAmong o table awaited p lane xs ⊎ (IsEffect o p.state begun None ⊎
+          ((lane ≢ awaited) × IsLeftOut o table awaited p.in_effect lane begun)) →
+          ComesAmong o table awaited p lane ys ⊎ (IsEffect o p.state begun None ⊎
+          ((lane ≢ awaited) × IsLeftOut o table awaited p.in_effect lane begun))
       by begun (inl one) = inl (record {
         position = one.position;
         among = grows one.position one.among;
@@ -57,61 +61,66 @@ module _ {S : Type 0} (o : Judged S) (table : List (Option OpenCall)) where
 
   module _ (p : Position) where
     -- a lane that adds nothing
-    left : (lane : ℕ) (xs : List Position) → IsTried o table p lane xs →
-        Expands o table p (λ (l : ℕ). l ≡ lane) xs xs
+    left : (lane : ℕ) (xs : List Position) → IsTried o table awaited p lane xs →
+        Expands o table awaited p (λ (l : ℕ). l ≡ lane) xs xs
     left lane xs is = record {
       grows = λ x among. among;
       only = λ x among. inl among;
       different = λ are. are;
-      whole = λ l same. subst (λ (u : ℕ). IsTried o table p u xs) (sym same) is;
+      whole = λ l same. subst (λ (u : ℕ). IsTried o table awaited p u xs) (sym same) is;
     }
 
     -- it has no open call
-    idle : (lane : ℕ) (xs : List Position) → open_at table lane ≡ None → IsTried o table p lane xs
+    idle : (lane : ℕ) (xs : List Position) → open_at table lane ≡ None → IsTried o table awaited p lane xs
     idle lane xs none = record { tried = λ begun is_open free. absurd (none-some begun (sym none ∙ is_open)) }
 
     pub expands_idle : (lane : ℕ) (xs : List Position) → open_at table lane ≡ None →
-        Expands o table p (λ (l : ℕ). l ≡ lane) xs xs
+        Expands o table awaited p (λ (l : ℕ). l ≡ lane) xs xs
     expands_idle lane xs none = left lane xs (idle lane xs none)
 
     pub expands_taken : (lane : ℕ) (xs : List Position) → bit_at p.in_effect lane ≡ 1 →
-        Expands o table p (λ (l : ℕ). l ≡ lane) xs xs
+        Expands o table awaited p (λ (l : ℕ). l ≡ lane) xs xs
     expands_taken lane xs taken =
         left lane xs (record { tried = λ begun is_open free. absurd (omega (arith, taken, free)) })
 
     pub expands_way : (lane : ℕ) (xs : List Position) (begun : OpenCall) → open_at table lane ≡ Some begun →
-        GivesWay o table p.in_effect lane begun → Expands o table p (λ (l : ℕ). l ≡ lane) xs xs
-    expands_way lane xs begun is_open way = left lane xs (record {
-      tried = λ other also free. inr (inr (subst (λ (b : OpenCall). GivesWay o table p.in_effect lane b)
-          (one_open table lane begun other is_open also) way));
+        lane ≢ awaited → IsLeftOut o table awaited p.in_effect lane begun → Expands o table awaited p
+        (λ (l : ℕ). l ≡ lane) xs xs
+    expands_way lane xs begun is_open apart way = left lane xs (record {
+      tried = λ other also free. inr (inr (
+        apart,
+        subst (λ (b : OpenCall). IsLeftOut o table awaited p.in_effect lane b)
+            (one_open table lane begun other is_open also) way,
+      ));
     })
 
     pub expands_dead : (lane : ℕ) (xs : List Position) (begun : OpenCall) → open_at table lane ≡ Some begun →
-        IsEffect o p.state begun None → Expands o table p (λ (l : ℕ). l ≡ lane) xs xs
+        IsEffect o p.state begun None → Expands o table awaited p (λ (l : ℕ). l ≡ lane) xs xs
     expands_dead lane xs begun is_open none = left lane xs (record {
       tried = λ other also free. inr (inl (subst (λ (b : OpenCall). IsEffect o p.state b None)
           (one_open table lane begun other is_open also) none));
     })
 
-    pub expands_one : (lane : ℕ) (xs ys : List Position) (q : Position) → lane < 64 → IsAfterEffect o table p lane q →
-        Adds xs ys q → Expands o table p (λ (l : ℕ). l ≡ lane) xs ys
+    pub expands_one : (lane : ℕ) (xs ys : List Position) (q : Position) → lane < 64 → IsAfterEffect o table awaited p
+        lane q →
+        Adds xs ys q → Expands o table awaited p (λ (l : ℕ). l ≡ lane) xs ys
     expands_one lane xs ys q within is adds = record {
       grows = adds.grows;
       only = λ x among. by x (adds.only x among);
       different = adds.different;
-      whole = λ l same. subst (λ (u : ℕ). IsTried o table p u ys) (sym same) (record {
+      whole = λ l same. subst (λ (u : ℕ). IsTried o table awaited p u ys) (sym same) (record {
         tried = λ begun is_open free. inl (record { position = q; among = adds.has; after = is });
       });
     }
       where
-        by : (x : Position) → Contains xs x ⊎ (x ≡ q) → Contains xs x ⊎ FollowsIt o table p x
+        by : (x : Position) → Contains xs x ⊎ (x ≡ q) → Contains xs x ⊎ FollowsIt o table awaited p x
         by x (inl among) = inl among
-        by x (inr same) = inr (subst (λ (y : Position). FollowsIt o table p y) (sym same)
+        by x (inr same) = inr (subst (λ (y : Position). FollowsIt o table awaited p y) (sym same)
             (record { lane = lane; within = within; after = is }))
 
     -- lanes with no open call add nothing
     pub expands_start : (busy : ℕ) (xs : List Position) → HasEachOpen table busy →
-        Expands o table p (λ (l : ℕ). (l < 64) × (bit_at busy l ≢ 1)) xs xs
+        Expands o table awaited p (λ (l : ℕ). (l < 64) × (bit_at busy l ≢ 1)) xs xs
     expands_start busy xs has = record {
       grows = λ x among. among;
       only = λ x among. inl among;
@@ -120,9 +129,9 @@ module _ {S : Type 0} (o : Judged S) (table : List (Option OpenCall)) where
     }
 
     pub expands_next : (rest later k : ℕ) (xs ys zs : List Position) → SetsBit rest later k 0 →
-        Expands o table p (λ (l : ℕ). (l < 64) × (bit_at rest l ≢ 1)) xs ys →
-        Expands o table p (λ (l : ℕ). l ≡ k) ys zs →
-        Expands o table p (λ (l : ℕ). (l < 64) × (bit_at later l ≢ 1)) xs zs
+        Expands o table awaited p (λ (l : ℕ). (l < 64) × (bit_at rest l ≢ 1)) xs ys →
+        Expands o table awaited p (λ (l : ℕ). l ≡ k) ys zs →
+        Expands o table awaited p (λ (l : ℕ). (l < 64) × (bit_at later l ≢ 1)) xs zs
     expands_next rest later k xs ys zs clears first more = record {
       grows = λ x among. more.grows x (first.grows x among);
       only = λ x among. by x (more.only x among);
@@ -130,18 +139,19 @@ module _ {S : Type 0} (o : Judged S) (table : List (Option OpenCall)) where
       whole = λ l none. one l none (cases_eq l k);
     }
       where
-        by : (x : Position) → Contains ys x ⊎ FollowsIt o table p x → Contains xs x ⊎ FollowsIt o table p x
+        by : (x : Position) → Contains ys x ⊎ FollowsIt o table awaited p x → Contains xs x ⊎ FollowsIt o table awaited
+            p x
         by x (inl among) = first.only x among
         by x (inr follows) = inr follows
 
-        one : (l : ℕ) → (l < 64) × (bit_at later l ≢ 1) → (l ≡ k) ⊎ (l ≢ k) → IsTried o table p l zs
+        one : (l : ℕ) → (l < 64) × (bit_at later l ≢ 1) → (l ≡ k) ⊎ (l ≢ k) → IsTried o table awaited p l zs
         one l none (inl same) = more.whole l same
         one l none (inr apart) = tried_more p l ys zs more.grows
             (first.whole l (none.0, (λ taken. none.1 (clears.others l apart ∙ taken))))
 
     pub expands_all : (rest : ℕ) (xs ys : List Position) → rest ≡ 0 →
-        Expands o table p (λ (l : ℕ). (l < 64) × (bit_at rest l ≢ 1)) xs ys →
-        Expands o table p (λ (l : ℕ). l < 64) xs ys
+        Expands o table awaited p (λ (l : ℕ). (l < 64) × (bit_at rest l ≢ 1)) xs ys →
+        Expands o table awaited p (λ (l : ℕ). l < 64) xs ys
     expands_all rest xs ys none expands = record {
       grows = expands.grows;
       only = expands.only;

@@ -1,35 +1,31 @@
 -- Calls that go before others.
-use Rattle.std.proofs.Common.{ℕ, zero, suc, ◌≡◌, ◌≢◌, ◌⊎◌, ◌<◌, List, length, Option, Some, None, refl, sym, ◌∙◌, ap}
+use Rattle.std.proofs.Common.{ℕ, zero, suc, ◌≡◌, ◌≢◌, ◌⊎◌, ◌<◌, false, List, Option, Some, refl, sym, ◌∙◌, ap}
 use Rattle.std.proofs.Common.{subst, inl, inr, arith}
-use Rattle.std.specs.Int.{bit_at}
-use Rattle.stamp_core.specs.LockDecision.{reply_as}
-use Rattle.stamp_core.specs.declared.lock_decision.LockReply.{LockReply}
 use Rattle.stamp_core.specs.declared.reply.Reply.{Reply}
-use Rattle.stamp_core.specs.declared.lock_call.LockCall.{LockCall}
 use Rattle.stamp_runs.specs.Run.{AreAlike, EndsBy, GoesFirst}
 use Rattle.stamp_runs.specs.Run.GoesFirst.{goes_endless, goes_sooner}
 use Rattle.stamp_runs.specs.declared.event.Event.{Event}
 use Rattle.stamp_runs.specs.declared.event.Event.TheVariants as event
-use Rattle.stamp_sets.specs.declared.ending.Ending.{Ending}
-use Rattle.stamp_sets.specs.declared.ending.Ending.TheVariants.{Never, Returns, Withdraws}
+use Rattle.stamp_sets.specs.declared.small_call.SmallReply.{SmallReply}
+use Rattle.stamp_sets.specs.declared.small_call.SmallCall.{SmallCall}
+use Rattle.stamp_sets.specs.declared.ending.SmallEnding.{SmallEnding}
+use Rattle.stamp_sets.specs.declared.ending.SmallEnding.TheVariants.{Never, Returns, Withdraws}
 use Rattle.stamp_sets.specs.declared.open_call.OpenCall.{OpenCall}
-use Rattle.stamp_sets.specs.declared.position.Position.{Position}
 use Rattle.stamp_sets.specs.Judged.{Judged}
 use Rattle.stamp_sets.specs.Told.{ComesAsTold, EndsSo, MayGet, open_at}
-use Rattle.stamp_sets.specs.inner.Effect.{GivesWay, GoesBefore, IsAhead, IsEffect}
-use Rattle.stamp_sets.specs.inner.Layer.{ComesAmong, IsTried}
-use Rattle.stamp_sets.proofs.Tables.{one_open, open_at_within}
+use Rattle.stamp_sets.specs.inner.Effect.{GoesBefore, IsAhead}
+use Rattle.stamp_sets.proofs.Tables.{one_open}
 use Rattle.stamp_sets.proofs.Telling.{one_ending}
 
-one_told : (a b : Ending) (told reply : LockReply) (place at : ℕ) → a ≡ b → a ≡ Returns told place →
+one_told : (a b : SmallEnding) (told reply : SmallReply) (place at : ℕ) → a ≡ b → a ≡ Returns told place →
     b ≡ Returns reply at → told ≡ reply
 one_told a b told reply place at same first second = cc
 
-not_both : (a b : Ending) (told : LockReply) (place : ℕ) → a ≡ b → a ≡ Returns told place → b ≡ Never → ⊥
+not_both : (a b : SmallEnding) (told : SmallReply) (place : ℕ) → a ≡ b → a ≡ Returns told place → b ≡ Never → ⊥
 not_both a b told place same first second = cc
 
 -- a number that is lower for a call that goes before another
-abbrev pub rank_of : ℕ → Ending → ℕ
+abbrev pub rank_of : ℕ → SmallEnding → ℕ
 rank_of lane (Returns told place) = place
 rank_of lane Withdraws = 0
 rank_of lane Never = lane
@@ -45,8 +41,9 @@ module _ {S : Type 0} (o : Judged S) where
     other_is = two.other_is;
     sooner = let at : one.later ≡ two.place = one_ending mid.ends mid.ends one.answer two.reply one.later two.place refl
         one.other_is two.first_is in let low = one.sooner in let high = two.sooner in omega (arith, at, low, high);
-    same = one.same ∙ ap reply_as (one_told mid.ends mid.ends one.answer two.reply one.later two.place refl one.other_is
-        two.first_is) ∙ two.same;
+    same = one.same ∙ one_told mid.ends mid.ends one.answer two.reply one.later two.place refl one.other_is
+        two.first_is ∙
+        two.same;
     alike = record {
       does = λ s t r step. two.alike.does s t r (one.alike.does s t r step);
       done_by = λ s t r step. one.alike.done_by s t r (two.alike.done_by s t r step);
@@ -79,14 +76,16 @@ module _ {S : Type 0} (o : Judged S) where
   pub before_alike : (a b : ℕ) (first other : OpenCall) → GoesBefore o a b first other →
       AreAlike o.step (o.call first.asks) (o.call other.asks)
   before_alike a b first other (inl ahead) = ahead.alike
-  before_alike a b first other (inr lower) = subst (λ (c : LockCall). AreAlike o.step (o.call first.asks) (o.call c))
+  before_alike a b first other (inr lower) = subst (λ (c : SmallCall). AreAlike o.step (o.call first.asks) (o.call c))
       lower.0.call (record { does = λ s t r step. step; done_by = λ s t r step. step })
 
   pub before_may : (a b : ℕ) (first other : OpenCall) (reply : Reply) → GoesBefore o a b first other →
-      MayGet other.ends reply → MayGet first.ends reply
-  before_may a b first other reply (inl ahead) may = subst (λ (e : Ending). MayGet e reply) (sym ahead.first_is)
-      (ahead.same ∙ subst (λ (e : Ending). MayGet e reply) ahead.other_is may)
-  before_may a b first other reply (inr lower) may = subst (λ (e : Ending). MayGet e reply) (sym lower.0.first_is) tt
+      MayGet o.reply other.ends reply → MayGet o.reply first.ends reply
+  before_may a b first other reply (inl ahead) may = subst (λ (e : SmallEnding). MayGet o.reply e reply)
+      (sym ahead.first_is)
+      (ap o.reply ahead.same ∙ subst (λ (e : SmallEnding). MayGet o.reply e reply) ahead.other_is may)
+  before_may a b first other reply (inr lower) may = subst (λ (e : SmallEnding). MayGet o.reply e reply)
+      (sym lower.0.first_is) tt
 
   module _ (table : List (Option OpenCall)) where
     pub before_apart : (a b : ℕ) (first other : OpenCall) → open_at table a ≡ Some first →
@@ -100,12 +99,12 @@ module _ {S : Type 0} (o : Judged S) where
         omega (arith, low, level)
 
     pub before_first : (a b last : ℕ) (first other : OpenCall) (reply : Reply) (future : List Event) →
-        open_at table a ≡ Some first → open_at table b ≡ Some other → ComesAsTold table last future →
-        MayGet other.ends reply → GoesBefore o a b first other → GoesFirst a b reply future
+        open_at table a ≡ Some first → open_at table b ≡ Some other → ComesAsTold o.reply table last future →
+        MayGet o.reply other.ends reply → GoesBefore o a b first other → GoesFirst a b reply future
     before_first a b last first other reply future is also told may (inl ahead) = goes_sooner
         (subst (λ (r : Reply). EndsBy a (event.Returns a r) future)
-        (ahead.same ∙ subst (λ (e : Ending). MayGet e reply) ahead.other_is may)
-        (subst (λ (e : Ending). EndsSo a e future) ahead.first_is (told.ends a first is)))
+        (ap o.reply ahead.same ∙ subst (λ (e : SmallEnding). MayGet o.reply e reply) ahead.other_is may)
+        (subst (λ (e : SmallEnding). EndsSo o.reply a e future) ahead.first_is (told.ends a first is)))
         (told.sooner a b first other is also (record {
           reply = ahead.reply;
           answer = ahead.answer;
@@ -116,64 +115,73 @@ module _ {S : Type 0} (o : Judged S) where
           sooner = ahead.sooner;
         }))
     before_first a b last first other reply future is also told may (inr lower) = goes_endless
-        (subst (λ (e : Ending). EndsSo a e future) lower.0.first_is (told.ends a first is))
-        (subst (λ (e : Ending). EndsSo b e future) lower.0.other_is (told.ends b other also))
+        (subst (λ (e : SmallEnding). EndsSo o.reply a e future) lower.0.first_is (told.ends a first is))
+        (subst (λ (e : SmallEnding). EndsSo o.reply b e future) lower.0.other_is (told.ends b other also))
 
-    -- of the calls that go before the one of a lane the first was tried
-    pub record TriedFirst (p : Position) (next : List Position) (u : ℕ) (begun : OpenCall) : Type 0 where
-      pub ahead : ℕ
+    -- a call gives way to one of some lanes that goes before it
+    pub record GivesTo (Among Left : ℕ → Type 0) (u : ℕ) (begun : OpenCall) : Type 0 where
+      pub first_lane : ℕ
       pub first : OpenCall
-      pub is_first : open_at table ahead ≡ Some first
-      pub free : bit_at p.in_effect ahead ≡ 0
-      pub outcome : ComesAmong o table p ahead next ⊎ IsEffect o p.state first None
-      pub goes : ((ahead ≡ u) × (first ≡ begun)) ⊎ GoesBefore o ahead u first begun
+      pub is_first : open_at table first_lane ≡ Some first
+      pub among : Among first_lane
+      pub left : Left u
+      pub changes : o.reads first ≡ false
+      pub goes : GoesBefore o first_lane u first begun
 
-    module _ (full : length table ≡ 64) (p : Position) (next : List Position)
-        (whole : (u : ℕ) → u < 64 → IsTried o table p u next) where
-      pub tried_first : (n u : ℕ) (begun : OpenCall) → open_at table u ≡ Some begun → bit_at p.in_effect u ≡ 0 →
-          rank_of u begun.ends < n → TriedFirst p next u begun
-      tried_first zero u begun is free low = absurd (omega (arith, low))
-      tried_first (suc n) u begun is free low = by ((whole u within).tried begun is free)
-          (λ (way : GivesWay o table p.in_effect u begun) below. tried_first n way.first_lane way.first way.is_first
-          way.free below)
+    -- of the calls that go before the one of a lane the first came out so
+    pub record ComesFirst (Among Left : ℕ → Type 0) (Outcome : ℕ → OpenCall → Type 0) (u : ℕ) (begun : OpenCall) :
+        Type 0
+      where
+        pub ahead : ℕ
+        pub first : OpenCall
+        pub is_first : open_at table ahead ≡ Some first
+        pub among : Among ahead
+        pub outcome : Outcome ahead first
+        pub goes : ((ahead ≡ u) × (first ≡ begun)) ⊎
+            (GoesBefore o ahead u first begun × (o.reads first ≡ false) × Left u)
+
+    module _ (Among Left : ℕ → Type 0) (Outcome : ℕ → OpenCall → Type 0) (whole : (u : ℕ) (begun : OpenCall) →
+        open_at table u ≡ Some begun → Among u → Outcome u begun ⊎ GivesTo Among Left u begun) where
+      pub first_of : (n u : ℕ) (begun : OpenCall) → open_at table u ≡ Some begun → Among u →
+          rank_of u begun.ends < n → ComesFirst Among Left Outcome u begun
+      first_of zero u begun is among low = absurd (omega (arith, low))
+      first_of (suc n) u begun is among low = by (whole u begun is among)
+          (λ (way : GivesTo Among Left u begun) below. first_of n way.first_lane way.first way.is_first way.among below)
         where
-          within : u < 64
-          within = let inside = open_at_within table u begun is in omega (arith, inside, full)
-
-          on : (way : GivesWay o table p.in_effect u begun) → (one : TriedFirst p next way.first_lane way.first) →
+          on : (way : GivesTo Among Left u begun) → (one : ComesFirst Among Left Outcome way.first_lane way.first) →
               ((one.ahead ≡ way.first_lane) × (one.first ≡ way.first)) ⊎
-              GoesBefore o one.ahead way.first_lane one.first way.first → GoesBefore o one.ahead u one.first begun
-          on way one (inl same) = subst (λ (w : ℕ). GoesBefore o w u one.first begun) (sym same.0)
-              (subst (λ (c : OpenCall). GoesBefore o way.first_lane u c begun) (sym same.1) way.goes)
-          on way one (inr before) =
-              before_on one.ahead way.first_lane u one.first way.first begun before way.goes
+              (GoesBefore o one.ahead way.first_lane one.first way.first × (o.reads one.first ≡ false) ×
+              Left way.first_lane) → GoesBefore o one.ahead u one.first begun × (o.reads one.first ≡ false) × Left u
+          on way one (inl same) = (
+            subst (λ (w : ℕ). GoesBefore o w u one.first begun) (sym same.0)
+                (subst (λ (c : OpenCall). GoesBefore o way.first_lane u c begun) (sym same.1) way.goes),
+            subst (λ (c : OpenCall). o.reads c ≡ false) (sym same.1) way.changes,
+            way.left,
+          )
+          on way one (inr before) = (
+            before_on one.ahead way.first_lane u one.first way.first begun before.0 way.goes,
+            before.1,
+            way.left,
+          )
 
-          by : ComesAmong o table p u next ⊎ (IsEffect o p.state begun None ⊎ GivesWay o table p.in_effect u begun) →
-              ((way : GivesWay o table p.in_effect u begun) → rank_of way.first_lane way.first.ends < n →
-              TriedFirst p next way.first_lane way.first) → TriedFirst p next u begun
-          by (inl comes) later = record {
+          by : Outcome u begun ⊎ GivesTo Among Left u begun →
+              ((way : GivesTo Among Left u begun) → rank_of way.first_lane way.first.ends < n →
+              ComesFirst Among Left Outcome way.first_lane way.first) → ComesFirst Among Left Outcome u begun
+          by (inl outcome) later = record {
             ahead = u;
             first = begun;
             is_first = is;
-            free = free;
-            outcome = inl comes;
+            among = among;
+            outcome = outcome;
             goes = inl (refl, refl);
           }
-          by (inr (inl none)) later = record {
-            ahead = u;
-            first = begun;
-            is_first = is;
-            free = free;
-            outcome = inr none;
-            goes = inl (refl, refl);
-          }
-          by (inr (inr way)) later =
+          by (inr way) later =
               let one = later way (let under = before_lower way.first_lane u way.first begun way.goes in
               omega (arith, under, low)) in record {
                 ahead = one.ahead;
                 first = one.first;
                 is_first = one.is_first;
-                free = one.free;
+                among = one.among;
                 outcome = one.outcome;
                 goes = inr (on way one one.goes);
               }

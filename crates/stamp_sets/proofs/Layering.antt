@@ -16,10 +16,11 @@ use Rattle.stamp_sets.specs.inner.State.{IsState}
 use Rattle.stamp_sets.specs.inner.Effect.{Settles}
 use Rattle.stamp_sets.specs.inner.Effect.Settles.{as_it_is, one_more}
 use Rattle.stamp_sets.specs.inner.Lanes.{lanes_in}
-use Rattle.stamp_sets.specs.inner.Layer.{Adds, AreReturned, Expands, FollowsIt, FollowsOne, Includes, IsComeTo}
+use Rattle.stamp_sets.specs.inner.Layer.{Adds, AreReturned, Expands, FollowsIt, FollowsOne, IsComeTo}
 use Rattle.stamp_sets.specs.inner.Layer.{IsLookedAt, IsReturnedFrom, IsUnderWay, LooksAt, LooksThrough}
 use Rattle.stamp_sets.specs.inner.Layer.{MoreFollow, ReturnsFromOne, ReturnsTo}
 use Rattle.stamp_sets.specs.inner.Layer.IsComeTo.{by_effect, from_start}
+use Rattle.stamp_sets.specs.inner.Start.{Includes}
 use Rattle.stamp_sets.proofs.CountingLanes.{lanes_in_beyond, lanes_in_le, lanes_in_more}
 use Rattle.stamp_sets.proofs.Effects.{state_after}
 use Rattle.stamp_sets.proofs.Expanding.{tried_more}
@@ -42,9 +43,10 @@ contains_take n xs x among = subst (λ (ys : List Position). Contains ys x) (tak
     (Contains-append_left (take n xs) (drop n xs) x among)
 
 module _ {S : Type 0} (o : Judged S) (table : List (Option OpenCall)) where
-  settled_more : (p q : Position) → Settles o table p q → lanes_in p.in_effect ≤ lanes_in q.in_effect
-  settled_more p q as_it_is = omega arith
-  settled_more p q (one_more x y rest last) = by (cases_lt last.lane 64) (settled_more p x rest)
+  settled_more : (Lane : ℕ → Type 0) (p q : Position) → Settles o table Lane p q → lanes_in p.in_effect ≤ lanes_in
+      q.in_effect
+  settled_more Lane p q as_it_is = omega arith
+  settled_more Lane p q (one_more x y rest last) = by (cases_lt last.lane 64) (settled_more Lane p x rest)
     where
       by : (last.lane < 64) ⊎ (64 ≤ last.lane) → lanes_in p.in_effect ≤ lanes_in x.in_effect →
           lanes_in p.in_effect ≤ lanes_in q.in_effect
@@ -62,20 +64,22 @@ module _ {S : Type 0} (o : Judged S) (table : List (Option OpenCall)) where
       )
 
   -- each effect adds a lane
-  follows_more : (p q : Position) → FollowsIt o table p q → lanes_in p.in_effect + 1 ≤ lanes_in q.in_effect
-  follows_more p q follows = omega (
+  follows_more : (awaited : ℕ) (p q : Position) → FollowsIt o table awaited p q → lanes_in p.in_effect + 1 ≤ lanes_in
+      q.in_effect
+  follows_more awaited p q follows = omega (
     arith,
     lanes_in_more p.in_effect follows.after.between.in_effect follows.lane follows.within follows.after.takes.sets
         follows.after.takes.free,
-    settled_more follows.after.between q follows.after.settles,
+    settled_more (λ l. Unit {0}) follows.after.between q follows.after.settles,
   )
 
   -- what is come to from states tells states
-  pub state_come : (start : List Position) → All (λ (p : Position). IsState o p.state) start → (x : Position) →
-      IsComeTo o table start x → IsState o x.state
-  state_come start all x (from_start p among) = All-contains (λ (p : Position). IsState o p.state) start x all among
-  state_come start all x (by_effect p q rest follows) =
-      state_after o table p x follows.lane (state_come start all p rest) follows.after
+  pub state_come : (awaited : ℕ) (start : List Position) → All (λ (p : Position). IsState o p.state) start →
+      (x : Position) → IsComeTo o table awaited start x → IsState o x.state
+  state_come awaited start all x (from_start p among) = All-contains (λ (p : Position). IsState o p.state) start x all
+      among
+  state_come awaited start all x (by_effect p q rest follows) =
+      state_after o table awaited p x follows.lane (state_come awaited start all p rest) follows.after
 
   module _ (lane : ℕ) where
     looked_more : (x : Position) (d e n m : List Position) → Includes d e → Includes n m →
@@ -87,7 +91,7 @@ module _ {S : Type 0} (o : Judged S) (table : List (Option OpenCall)) where
     })
     looked_more x d e n m grows grows_too (inr is) = inr (record {
       free = is.free;
-      whole = λ u below. tried_more o table x u n m grows_too (is.whole u below);
+      whole = λ u below. tried_more o table lane x u n m grows_too (is.whole u below);
     })
 
     pub looks_none : (done next : List Position) → LooksAt o table lane [] done done next next
@@ -105,8 +109,8 @@ module _ {S : Type 0} (o : Judged S) (table : List (Option OpenCall)) where
     returns_among xs ys x grows from =
         record { from = from.from; among = grows from.from from.among; returned = from.returned }
 
-    follows_among : (xs ys : List Position) (x : Position) → Includes xs ys → FollowsOne o table xs x →
-        FollowsOne o table ys x
+    follows_among : (xs ys : List Position) (x : Position) → Includes xs ys → FollowsOne o table lane xs x →
+        FollowsOne o table lane ys x
     follows_among xs ys x grows from =
         record { from = from.from; among = grows from.from from.among; follows = from.follows }
 
@@ -138,13 +142,13 @@ module _ {S : Type 0} (o : Judged S) (table : List (Option OpenCall)) where
         returned x (inl is) = returned_before x (first.done_only x is)
         returned x (inr from) = inr (returns_among (p ∷ []) (xs ++ p ∷ []) x right from)
 
-        followed_before : (x : Position) → Contains m x ⊎ FollowsOne o table xs x →
-            Contains m x ⊎ FollowsOne o table (xs ++ p ∷ []) x
+        followed_before : (x : Position) → Contains m x ⊎ FollowsOne o table lane xs x →
+            Contains m x ⊎ FollowsOne o table lane (xs ++ p ∷ []) x
         followed_before x (inl is) = inl is
         followed_before x (inr from) = inr (follows_among xs (xs ++ p ∷ []) x left from)
 
-        followed : (x : Position) → Contains n x ⊎ FollowsOne o table (p ∷ []) x →
-            Contains m x ⊎ FollowsOne o table (xs ++ p ∷ []) x
+        followed : (x : Position) → Contains n x ⊎ FollowsOne o table lane (p ∷ []) x →
+            Contains m x ⊎ FollowsOne o table lane (xs ++ p ∷ []) x
         followed x (inl is) = followed_before x (first.next_only x is)
         followed x (inr from) = inr (follows_among (p ∷ []) (xs ++ p ∷ []) x right from)
 
@@ -170,7 +174,7 @@ module _ {S : Type 0} (o : Judged S) (table : List (Option OpenCall)) where
             (record { from = p; among = Contains-push [] p; returned = returned }))
 
     pub look_expanded : (p : Position) (d m n : List Position) → bit_at p.in_effect lane ≡ 0 →
-        Expands o table p (λ (l : ℕ). l < 64) m n → LooksAt o table lane (p ∷ []) d d m n
+        Expands o table lane p (λ (l : ℕ). l < 64) m n → LooksAt o table lane (p ∷ []) d d m n
     look_expanded p d m n free expands = record {
       done_grows = λ x is. is;
       next_grows = expands.grows;
@@ -181,7 +185,8 @@ module _ {S : Type 0} (o : Judged S) (table : List (Option OpenCall)) where
           (inr (record { free = free; whole = expands.whole }));
     }
       where
-        by : (x : Position) → Contains m x ⊎ FollowsIt o table p x → Contains m x ⊎ FollowsOne o table (p ∷ []) x
+        by : (x : Position) → Contains m x ⊎ FollowsIt o table lane p x → Contains m x ⊎ FollowsOne o table lane
+            (p ∷ []) x
         by x (inl is) = inl is
         by x (inr follows) = inr (record { from = p; among = Contains-push [] p; follows = follows })
 
@@ -207,7 +212,7 @@ module _ {S : Type 0} (o : Judged S) (table : List (Option OpenCall)) where
       more = all_from (λ (p : Position). depth + 1 ≤ lanes_in p.in_effect) next
           (λ x is. let low : depth ≤ lanes_in (from x is).from.in_effect =
           All-contains (λ (p : Position). depth ≤ lanes_in p.in_effect) layer (from x is).from under.more
-          (from x is).among in let high = follows_more (from x is).from x (from x is).follows in omega (
+          (from x is).among in let high = follows_more lane (from x is).from x (from x is).follows in omega (
             arith,
             low,
             high,
@@ -220,14 +225,14 @@ module _ {S : Type 0} (o : Judged S) (table : List (Option OpenCall)) where
         later : Includes next ((under.seen ++ layer) ++ next)
         later x is = Contains-append_right (under.seen ++ layer) next x is
 
-        one_of : (x : Position) → Contains [] x ⊎ FollowsOne o table layer x → FollowsOne o table layer x
+        one_of : (x : Position) → Contains [] x ⊎ FollowsOne o table lane layer x → FollowsOne o table lane layer x
         one_of x (inl none) = absurd (none_in_nil x none)
         one_of x (inr follows) = follows
 
-        from : (x : Position) → Contains next x → FollowsOne o table layer x
+        from : (x : Position) → Contains next x → FollowsOne o table lane layer x
         from x is = one_of x (looks.next_only x is)
 
-        comes : (x : Position) → Contains (under.seen ++ layer) x ⊎ Contains next x → IsComeTo o table start x
+        comes : (x : Position) → Contains (under.seen ++ layer) x ⊎ Contains next x → IsComeTo o table lane start x
         comes x (inl is) = under.come x is
         comes x (inr is) = by_effect (from x is).from x (under.come (from x is).from
             (Contains-append_right under.seen layer (from x is).from (from x is).among)) (from x is).follows
@@ -285,6 +290,12 @@ module _ {S : Type 0} (o : Judged S) (table : List (Option OpenCall)) where
               returned = subst (λ (y : Position). IsReturnedFrom lane (get_or start k x) y) same (are.each k x low);
             }
 
+    -- so it is in effect in each
+    pub taken_each : (start done : List Position) → AreReturned lane start done → (x : Position) → Contains start x →
+        bit_at x.in_effect lane ≡ 1
+    taken_each start done are x (k, less, same) =
+        subst (λ (y : Position). bit_at y.in_effect lane ≡ 1) same (are.each k x less).taken
+
     pub under_way_deep : (start done layer : List Position) (depth : ℕ) → 65 ≤ depth →
         IsUnderWay o table lane start done layer depth → IsUnderWay o table lane start done [] 0
     under_way_deep start done layer depth deep under =
@@ -301,7 +312,7 @@ module _ {S : Type 0} (o : Judged S) (table : List (Option OpenCall)) where
     more_follow : (start done layer then_done next : List Position) (depth seen most : ℕ) →
         IsUnderWay o table lane start done layer depth →
         LooksAt o table lane (take seen layer) done then_done [] next → most < length next →
-        MoreFollow o table start most
+        MoreFollow o table lane start most
     more_follow start done layer then_done next depth seen most under looks many = record {
       many = next;
       more = many;
@@ -309,7 +320,8 @@ module _ {S : Type 0} (o : Judged S) (table : List (Option OpenCall)) where
       come = λ x is. on x (looks.next_only x is);
     }
       where
-        on : (x : Position) → Contains [] x ⊎ FollowsOne o table (take seen layer) x → IsComeTo o table start x
+        on : (x : Position) → Contains [] x ⊎ FollowsOne o table lane (take seen layer) x → IsComeTo o table lane start
+            x
         on x (inl none) = absurd (none_in_nil x none)
         on x (inr one) = by_effect one.from x (under.come one.from (Contains-append_right under.seen layer one.from
             (contains_take seen layer one.from one.among))) one.follows
@@ -334,7 +346,7 @@ module _ {S : Type 0} (o : Judged S) (table : List (Option OpenCall)) where
     pub too_many : (start done layer slice then_done first next : List Position) (depth most : ℕ) (all : Bool) →
         IsUnderWay o table lane start done layer depth → slice ≡ layer → first ≡ [] →
         LooksThrough o table lane slice done then_done first next most all → all ≡ false →
-        MoreFollow o table start most
+        MoreFollow o table lane start most
     too_many start done layer slice then_done first next depth most all under same none looks part =
         more_follow start done layer then_done next depth looks.seen most under
         (subst (λ (xs : List Position). LooksAt o table lane (take looks.seen layer) done then_done xs next) none
@@ -345,7 +357,7 @@ module _ {S : Type 0} (o : Judged S) (table : List (Option OpenCall)) where
         IsUnderWay o table lane start done layer depth → slice ≡ layer →
         All (λ (p : Position). IsState o p.state) start → All (λ (p : Position). IsState o p.state) slice
     layer_states start done layer slice depth under same all = all_from (λ (p : Position). IsState o p.state) slice
-        (λ x is. state_come start all x (under.come x (Contains-append_right under.seen layer x
+        (λ x is. state_come lane start all x (under.come x (Contains-append_right under.seen layer x
         (subst (λ (ys : List Position). Contains ys x) same is))))
 
 -- it has returned from the first of these

@@ -1,10 +1,11 @@
 -- What is kept, one event on.
 use Rattle.std.proofs.Common.{ℕ, ◌≡◌, ◌≢◌, ◌⊎◌, ◌+◌, ◌<◌, ◌≤◌, List, [], ◌∷◌, ◌++◌, length, get_or, set}
-use Rattle.std.proofs.Common.{Option, Some, None, refl, sym, ◌∙◌, ap, subst, inl, inr, arith}
+use Rattle.std.proofs.Common.{true, Option, Some, None, refl, sym, ◌∙◌, ap, subst, inl, inr, arith}
 use Rattle.std.specs.Prelude.{slice_set, replicate}
 use Rattle.std.specs.Int.{bit_at}
 use Rattle.std.specs.List.{All, Contains}
 use Rattle.std.proofs.lemmas.Bool.{cases_eq}
+use Rattle.std.proofs.lemmas.Nat.Bits.{bit_at-zero}
 use Rattle.std.proofs.lemmas.Option.{none-some}
 use Rattle.std.proofs.lemmas.List.{length-set, get_or-set_same, get_or-set_other, get_or_default, length-replicate}
 use Rattle.std.proofs.lemmas.List.Elements.{All-contains, Contains-get_or, Contains-push}
@@ -20,38 +21,48 @@ use Rattle.stamp_runs.specs.Returning.IsReached.{from_old}
 use Rattle.stamp_runs.specs.Stepping.{IsBegun, IsWithdrawn}
 use Rattle.stamp_runs.specs.declared.event.Event.{Event}
 use Rattle.stamp_runs.specs.declared.event.Event.TheVariants as event
-use Rattle.stamp_runs.proofs.Lanes.{sets_of}
+use Rattle.stamp_runs.proofs.Lanes.{sets_of, true_or_false}
 use Rattle.stamp_runs.proofs.Sets.{stand_on}
 use Rattle.stamp_runs.proofs.Sources.{unfree_stays}
 use Rattle.stamp_runs.proofs.Stepping.{go_on_by_beginning, go_on_by_withdrawal, stand_as_kept}
-use Rattle.stamp_sets.specs.declared.ending.Ending.{Ending}
-use Rattle.stamp_sets.specs.declared.ending.Ending.TheVariants.{Withdraws}
+use Rattle.stamp_sets.specs.declared.ending.SmallEnding.{SmallEnding}
+use Rattle.stamp_sets.specs.declared.ending.SmallEnding.TheVariants.{Withdraws}
 use Rattle.stamp_sets.specs.declared.open_call.OpenCall.{OpenCall}
 use Rattle.stamp_sets.specs.declared.position.Position.{Position}
 use Rattle.stamp_sets.specs.Judged.{Judged}
 use Rattle.stamp_sets.specs.inner.State.{IsState}
 use Rattle.stamp_sets.specs.Kept.{AreKept, HasPhase, IsKept, IsPossible, MayBe, Reads}
-use Rattle.stamp_sets.specs.Kept.{ReadsOne}
+use Rattle.stamp_sets.specs.Kept.{IsFreeCall, ReadsOne, may_be_free}
 use Rattle.stamp_sets.specs.Told.{ComesAsTold, HasEachOpen, MayGet, open_at}
 use Rattle.stamp_sets.specs.inner.Effect.{Settles}
 use Rattle.stamp_sets.specs.Lanes.{SetsBit}
 use Rattle.stamp_sets.specs.inner.Step.{AreBegun, BeginsIn, IsOpening}
 use Rattle.stamp_sets.proofs.Layering.{all_from, contains_one}
-use Rattle.stamp_sets.proofs.Reading.{moved, phase_at, reached_on, reads_set}
-use Rattle.stamp_sets.proofs.Returned.{new_may_be, stand_kept}
+use Rattle.stamp_sets.proofs.Reading.{false_from, is_set, kinds_beside, moved, phase_at, reached_on, reads_set}
+use Rattle.stamp_sets.proofs.Reading.{set_bit, unfree_at}
+use Rattle.stamp_sets.proofs.Lawful.{IsLawful, kind_of, overwriting_to}
+use Rattle.stamp_sets.proofs.Returned.{new_may_be, same_bits, stand_kept}
 use Rattle.stamp_sets.proofs.Settled.{SettledTo, is_settled, kept_settled, settled_to}
-use Rattle.stamp_sets.proofs.Tables.{open_at_idle, open_at_set_here, open_at_set_none, open_at_set_other}
-use Rattle.stamp_sets.proofs.Telling.{beside_set, told_begins, told_withdraws}
+use Rattle.stamp_sets.proofs.Tables.{one_open, open_at_idle, open_at_set_here, open_at_set_none, open_at_set_other}
+use Rattle.stamp_sets.proofs.Telling.{beside_set, no_return, told_begins, told_withdraws}
 
 -- what is kept at first
 module _ {S : Type 0} (o : Judged S) (table : List (Option OpenCall)) (p : Position)
     (idle : table ≡ replicate 64 None) (is : IsOpening o p) where
+  not_free : (lane : ℕ) → bit_at p.free lane ≢ 1
+  not_free lane set = let none = bit_at-zero lane in
+      let one : bit_at 0 lane ≡ 1 = subst (λ (n : ℕ). bit_at n lane ≡ 1) is.none_free set in omega (arith, none, one)
+
   opening_reads : Reads o table p (opening_position o.start)
   opening_reads = record {
     state = is.state;
-    lanes = λ lane. subst (λ (slot : Option OpenCall). HasPhase o.call slot (bit_at p.in_effect lane) Idle)
+    lanes = λ lane. subst (λ (slot : Option OpenCall). HasPhase o slot (bit_at p.in_effect lane) Idle)
         (sym (ap (λ (t : List (Option OpenCall)). open_at t lane) idle ∙ open_at_idle 64 lane)) refl;
-    free = λ lane. refl;
+    free = λ lane. (
+      λ is. absurd (true_or_false is refl),
+      λ is. absurd (not_free lane is),
+    );
+    kinds = λ lane is. absurd (not_free lane is);
   }
 
   opening_may_be : MayBe o [] (opening_position o.start)
@@ -141,7 +152,7 @@ module _ {S : Type 0} (o : Judged S) (begun : OpenCall) (lane : ℕ) where
   }
 
 -- what is kept once a call has begun
-module _ {S : Type 0} (o : Judged S) (two : (t : S) → ((s : S) → t ≡ s) → ⊥) (past : List Event)
+module _ {S : Type 0} (o : Judged S) (past : List Event)
     (table : List (Option OpenCall)) (last lane : ℕ) (begun : OpenCall) (kept new : List Position)
     (full : length table ≡ 64) (below : lane < 64) (idle : open_at table lane ≡ None)
     (are : AreBegun o begun lane kept new) where
@@ -163,7 +174,7 @@ module _ {S : Type 0} (o : Judged S) (two : (t : S) → ((s : S) → t ≡ s) �
     old : Old first
     among : Contains new next
     plain : Position
-    settles_to : (t : List (Option OpenCall)) → open_at t lane ≡ Some begun → Settles o t plain next
+    settles_to : (t : List (Option OpenCall)) → open_at t lane ≡ Some begun → Settles o t (λ l. l ≡ lane) plain next
     reads : Reads o later plain q
     is : IsBegun lane (o.call begun.asks) first q
 
@@ -171,8 +182,8 @@ module _ {S : Type 0} (o : Judged S) (two : (t : S) → ((s : S) → t ≡ s) �
     next : Position
     to : BegunTo next q
 
-  settled_one : (next : Position) (q : run.Position S) → BegunTo next q → SettledTo o later two next q
-  settled_one next q one = settled_to o later two one.plain next q (one.settles_to later here) one.reads
+  settled_one : (next : Position) (q : run.Position S) → BegunTo next q → SettledTo o later (λ l. l ≡ lane) next q
+  settled_one next q one = settled_to o later (λ l. l ≡ lane) one.plain next q (one.settles_to later here) one.reads
 
   -- and what is left once it has settled
   record NewOne (q : run.Position S) : Type 0 where
@@ -187,28 +198,51 @@ module _ {S : Type 0} (o : Judged S) (two : (t : S) → ((s : S) → t ≡ s) �
         (settled_one next q one).comes;
   }
 
+  -- the lane has no open call, and none is free there
+  idle_unfree : (p : run.Position S) (old : Old p) (u : ℕ) → bit_at old.is.numbers.free u ≡ 1 → u ≢ lane
+  idle_unfree p old u is same = none-some at.begun (sym (subst (λ (v : ℕ). open_at table v ≡ None) (sym same) idle) ∙
+      at.is_open)
+    where
+      at : IsFreeCall o (open_at table u) (bit_at old.is.numbers.in_effect u)
+      at = old.is.reads.kinds u is
+
+  is_begun : (p : run.Position S) (old : Old p) (free : ℕ) → free ≡ old.is.numbers.free →
+      IsBegun lane (o.call begun.asks) p (moved p lane (Asks (o.call begun.asks)) p.state free)
+  is_begun p old free same = record {
+    idle = subst (λ (slot : Option OpenCall). HasPhase o slot (bit_at old.is.numbers.in_effect lane)
+        (p.lanes lane)) idle (old.is.reads.lanes lane);
+    not_free = unfree_at o table old.is.numbers p lane old.is.reads (λ is. idle_unfree p old lane is refl);
+    state = refl;
+    sets = sets_of p.lanes lane (Asks (o.call begun.asks));
+    free = record {
+      not_it = false_from (is_set free lane) (λ is. idle_unfree p old lane (was lane is) refl);
+      others = λ v apart. same_bits (is_set free v) (p.free v) (λ is. (old.is.reads.free v).1 (was v is))
+          (λ is. (set_bit free v).1 (subst (λ (n : ℕ). bit_at n v ≡ 1) (sym same) ((old.is.reads.free v).0 is)));
+    };
+  }
+    where
+      was : (v : ℕ) → is_set free v ≡ true → bit_at old.is.numbers.free v ≡ 1
+      was v is = subst (λ (n : ℕ). bit_at n v ≡ 1) same ((set_bit free v).0 is)
+
   begins_at : (p : run.Position S) (old : Old p) (next : Position) → Contains new next →
-      BeginsIn o begun lane old.is.numbers next → BegunTo next (moved p lane (Asks (o.call begun.asks)) p.state)
+      (begins : BeginsIn o begun lane old.is.numbers next) →
+      BegunTo next (moved p lane (Asks (o.call begun.asks)) p.state begins.plain.free)
   begins_at p old next among begins = record {
     first = p;
     old = old;
     among = among;
     plain = begins.plain;
-    settles_to = begins.settles;
+    settles_to = begins.settles.settles;
     reads = reads_set o table later old.is.numbers begins.plain p lane (Asks (o.call begun.asks)) p.state old.is.reads
         (beside_set table lane (Some begun)) begins.clears.others
         (subst (λ (slot : Option OpenCall).
-        HasPhase o.call slot (bit_at begins.plain.in_effect lane) (Asks (o.call begun.asks))) (sym here)
+        HasPhase o slot (bit_at begins.plain.in_effect lane) (Asks (o.call begun.asks))) (sym here)
         (inl (record { free = begins.clears.here; asks = refl })))
-        (subst (λ (n : ℕ). o.holds n p.state) (sym begins.state) old.is.reads.state);
-    is = record {
-      idle = subst (λ (slot : Option OpenCall). HasPhase o.call slot (bit_at old.is.numbers.in_effect lane)
-          (p.lanes lane)) idle (old.is.reads.lanes lane);
-      not_free = old.is.reads.free lane;
-      state = refl;
-      sets = sets_of p.lanes lane (Asks (o.call begun.asks));
-      free = record { not_it = old.is.reads.free lane; others = λ v apart. refl };
-    };
+        (subst (λ (n : ℕ). o.holds n p.state) (sym begins.state) old.is.reads.state)
+        (λ u is. let was : bit_at old.is.numbers.free u ≡ 1 = subst (λ (n : ℕ). bit_at n u ≡ 1) begins.free is in
+        kinds_beside o table later old.is.numbers begins.plain p lane old.is.reads
+        (beside_set table lane (Some begun)) begins.clears.others u (idle_unfree p old u was, was));
+    is = is_begun p old begins.plain.free begins.free;
   }
 
   -- each of the old numbers has one that comes of it
@@ -227,39 +261,35 @@ module _ {S : Type 0} (o : Judged S) (two : (t : S) → ((s : S) → t ≡ s) �
   stay : (p : run.Position S) → Old p → OneOf BegunOne (IsBegun lane (o.call begun.asks) p)
   stay p old = let of = comes_of old.is.numbers old.is.among in
       let one = begins_at p old of.next of.among of.begins in record {
-        position = moved p lane (Asks (o.call begun.asks)) p.state;
+        position = moved p lane (Asks (o.call begun.asks)) p.state of.begins.plain.free;
         there = record { next = of.next; to = one };
-        is = record {
-          idle = subst (λ (slot : Option OpenCall). HasPhase o.call slot (bit_at old.is.numbers.in_effect lane)
-              (p.lanes lane)) idle (old.is.reads.lanes lane);
-          not_free = old.is.reads.free lane;
-          state = refl;
-          sets = sets_of p.lanes lane (Asks (o.call begun.asks));
-          free = record { not_it = old.is.reads.free lane; others = λ v apart. refl };
-        };
+        is = is_begun p old of.begins.plain.free of.begins.free;
       }
 
-  keep : (q : run.Position S) → BegunOne q → OneOf NewOne (IsKeptAs o.step (ComesAsTold later last) q)
+  keep : (q : run.Position S) → BegunOne q → OneOf NewOne (IsKeptAs o.step (ComesAsTold o.reply later last) q)
   keep q one = record {
     position = (settled_one one.next q one.to).then;
     there = new_one one.next q one.to;
-    is = kept_settled o (ComesAsTold later last) q (settled_one one.next q one.to).then (is_settled o later two
-        (ComesAsTold later last) (λ future fit v b is. fit.ends v b is) one.next q (settled_one one.next q one.to));
+    is = kept_settled o (ComesAsTold o.reply later last) q (settled_one one.next q one.to).then (is_settled o later
+        (ComesAsTold o.reply later last) (λ future fit v b is. fit.ends v b is) (λ l. l ≡ lane) one.next q
+        (settled_one one.next q one.to));
   }
 
   pub kept_begun : AreKept o past table last kept → AreKept o (past ++ itself ∷ []) later last new
   kept_begun old = record {
     lanes = length-set table lane (Some begun) ∙ full;
     possible = all_from (IsPossible o (past ++ itself ∷ []) later) new (λ x among. at x among);
-    stand = stand_kept o (past ++ itself ∷ []) later new NewOne (ComesAsTold later last) stand (λ q one. one.is);
+    stand = stand_kept o (past ++ itself ∷ []) later new NewOne (ComesAsTold o.reply later last) stand
+        (λ q one. one.is);
   }
     where
-      stand : StandFor o.step o.start (past ++ itself ∷ []) (ComesAsTold later last) (OfSome o.step NewOne)
-      stand = stand_as_kept o.step o.start (past ++ itself ∷ []) (ComesAsTold later last) BegunOne NewOne
-          (stand_on o.step o.start past itself (ComesAsTold table last) (ComesAsTold later last) (OfSome o.step Old)
-          (OfSome o.step BegunOne) old.stand (go_on_by_beginning o.step (ComesAsTold table last)
-          (ComesAsTold later last) lane (o.call begun.asks) Old BegunOne
-          (λ future comes. told_begins table later last lane (o.call begun.asks) future idle
+      stand : StandFor o.step o.start (past ++ itself ∷ []) (ComesAsTold o.reply later last) (OfSome o.step NewOne)
+      stand = stand_as_kept o.step o.start (past ++ itself ∷ []) (ComesAsTold o.reply later last) BegunOne NewOne
+          (stand_on o.step o.start past itself (ComesAsTold o.reply table last) (ComesAsTold o.reply later last)
+          (OfSome o.step Old)
+          (OfSome o.step BegunOne) old.stand (go_on_by_beginning o.step (ComesAsTold o.reply table last)
+          (ComesAsTold o.reply later last) lane (o.call begun.asks) Old BegunOne
+          (λ future comes. told_begins o.reply table later last lane (o.call begun.asks) future idle
           (beside_set table lane (Some begun)) comes)
           (λ q one. record { position = one.to.first; there = one.to.old; is = one.to.is }) stay))
           (λ q one. one.reached) keep
@@ -275,12 +305,12 @@ module _ {S : Type 0} (o : Judged S) (two : (t : S) → ((s : S) → t ≡ s) �
           from is = record {
             position = (settled_one (get_or new k x) q one).then;
             reads = (settled_one (get_or new k x) q one).reads;
-            may_be = new_may_be o (past ++ itself ∷ []) later new NewOne (ComesAsTold later last) stand
+            may_be = new_may_be o (past ++ itself ∷ []) later new NewOne (ComesAsTold o.reply later last) stand
                 (λ r it. it.is) (settled_one (get_or new k x) q one).then (new_one (get_or new k x) q one);
           }
             where
               q : run.Position S
-              q = moved is.position lane (Asks (o.call begun.asks)) is.position.state
+              q = moved is.position lane (Asks (o.call begun.asks)) is.position.state (are.each k x low).plain.free
 
               one : BegunTo (get_or new k x) q
               one = begins_at is.position (record {
@@ -293,8 +323,8 @@ module _ {S : Type 0} (o : Judged S) (two : (t : S) → ((s : S) → t ≡ s) �
               }) (get_or new k x) (Contains-get_or new k x less) (are.each k x low)
 
 -- what is kept once a call was withdrawn
-module _ {S : Type 0} (o : Judged S) (past : List Event) (table : List (Option OpenCall)) (last lane : ℕ)
-    (begun : OpenCall) (kept : List Position) (is_open : open_at table lane ≡ Some begun)
+module _ {S : Type 0} (o : Judged S) (lawful : IsLawful o) (past : List Event) (table : List (Option OpenCall))
+    (last lane : ℕ) (begun : OpenCall) (kept : List Position) (is_open : open_at table lane ≡ Some begun)
     (ends : begun.ends ≡ Withdraws) where
   abbrev ended : List (Option OpenCall)
   ended = slice_set table lane None
@@ -311,26 +341,52 @@ module _ {S : Type 0} (o : Judged S) (past : List Event) (table : List (Option O
   asks_in_each : (p : run.Position S) (x : Position) → Reads o table x p → p.lanes lane ≡ Asks (o.call begun.asks)
   asks_in_each p x reads = by (phase_at o table x p reads lane begun is_open)
     where
-      by : HasPhase o.call (Some begun) (bit_at x.in_effect lane) (p.lanes lane) →
+      by : HasPhase o (Some begun) (bit_at x.in_effect lane) (p.lanes lane) →
           p.lanes lane ≡ Asks (o.call begun.asks)
       by (inl not) = not.asks
-      by (inr taken) = absurd (subst (λ (e : Ending). MayGet e taken.reply) ends taken.may)
+      by (inr taken) = absurd (subst (λ (e : SmallEnding). MayGet o.reply e taken.reply) ends taken.may)
 
-  reads_ended : (p : run.Position S) (x : Position) → Reads o table x p → Reads o ended x (moved p lane Idle p.state)
+  -- a call that is withdrawn gets no reply, and is not free
+  withdrawn_unfree : (p : run.Position S) (x : Position) → Reads o table x p → (u : ℕ) → bit_at x.free u ≡ 1 → u ≢ lane
+  withdrawn_unfree p x reads u is at = by (kind_of o lawful begun
+      (subst (λ (c : OpenCall). may_be_free o c ≡ true) (one_open table lane it.begun begun
+      (subst (λ (v : ℕ). open_at table v ≡ Some it.begun) at it.is_open) is_open) it.kind))
+    where
+      it : IsFreeCall o (open_at table u) (bit_at x.in_effect u)
+      it = reads.kinds u is
+
+      by : ((n : ℕ) × (o.overwrites begun ≡ Some n)) ⊎ ((o.overwrites begun ≡ None) × (o.reads begun ≡ true)) → ⊥
+      by (inl (n, some)) = let over = overwriting_to o lawful begun n some in
+          subst (λ (e : SmallEnding). MayGet o.reply e over.reply) ends over.may
+      by (inr (none, read)) = let still = lawful.reading begun read in
+          no_return begun.ends begun.ends still.told still.place refl still.ends ends
+
+  reads_ended : (p : run.Position S) (x : Position) → Reads o table x p →
+      Reads o ended x (moved p lane Idle p.state x.free)
   reads_ended p x reads = reads_set o table ended x x p lane Idle p.state reads (beside_set table lane None)
-      (λ other apart. refl) (subst (λ (slot : Option OpenCall). HasPhase o.call slot (bit_at x.in_effect lane) Idle)
+      (λ other apart. refl) (subst (λ (slot : Option OpenCall). HasPhase o slot (bit_at x.in_effect lane) Idle)
       (sym (open_at_set_none table lane)) refl) reads.state
+      (λ u is. kinds_beside o table ended x x p lane reads (beside_set table lane None) (λ other apart. refl) u
+      (withdrawn_unfree p x reads u is, is))
 
-  withdrawn_from : (p : run.Position S) → Before p → IsWithdrawn lane p (moved p lane Idle p.state)
+  withdrawn_from : (p : run.Position S) (old : Before p) →
+      IsWithdrawn lane p (moved p lane Idle p.state old.is.numbers.free)
   withdrawn_from p old = record {
     call = o.call begun.asks;
     asks = asks_in_each p old.is.numbers old.is.reads;
     state = refl;
     sets = sets_of p.lanes lane Idle;
-    free = record { not_it = old.is.reads.free lane; others = λ v apart. refl };
+    free = record {
+      not_it = false_from (is_set old.is.numbers.free lane) (λ is. withdrawn_unfree p old.is.numbers old.is.reads lane
+          ((set_bit old.is.numbers.free lane).0 is) refl);
+      others = λ v apart. same_bits (is_set old.is.numbers.free v) (p.free v)
+          (λ is. (old.is.reads.free v).1 ((set_bit old.is.numbers.free v).0 is))
+          (λ is. (set_bit old.is.numbers.free v).1 ((old.is.reads.free v).0 is));
+    };
   }
 
-  withdrawn_one : (p : run.Position S) → Before p → WithdrawnOne (moved p lane Idle p.state)
+  withdrawn_one : (p : run.Position S) (old : Before p) →
+      WithdrawnOne (moved p lane Idle p.state old.is.numbers.free)
   withdrawn_one p old = record {
     first = p;
     old = old;
@@ -347,19 +403,22 @@ module _ {S : Type 0} (o : Judged S) (past : List Event) (table : List (Option O
     lanes = length-set table lane None ∙ old.lanes;
     possible = all_from (IsPossible o (past ++ event.Withdraws lane ∷ []) ended) kept (λ x among. at x among
         (All-contains (IsPossible o past table) kept x old.possible among));
-    stand = stand_kept o (past ++ event.Withdraws lane ∷ []) ended kept WithdrawnOne (ComesAsTold ended last) stand
+    stand = stand_kept o (past ++ event.Withdraws lane ∷ []) ended kept WithdrawnOne (ComesAsTold o.reply ended last)
+        stand
         (λ q one. one.is);
   }
     where
-      stand : StandFor o.step o.start (past ++ event.Withdraws lane ∷ []) (ComesAsTold ended last)
+      stand : StandFor o.step o.start (past ++ event.Withdraws lane ∷ []) (ComesAsTold o.reply ended last)
           (OfSome o.step WithdrawnOne)
-      stand = stand_on o.step o.start past (event.Withdraws lane) (ComesAsTold table last) (ComesAsTold ended last)
+      stand = stand_on o.step o.start past (event.Withdraws lane) (ComesAsTold o.reply table last)
+          (ComesAsTold o.reply ended last)
           (OfSome o.step Before) (OfSome o.step WithdrawnOne) old.stand (go_on_by_withdrawal o.step
-          (ComesAsTold table last) (ComesAsTold ended last) lane Before WithdrawnOne
-          (λ future comes. told_withdraws table ended last lane begun future is_open ends (beside_set table lane None)
+          (ComesAsTold o.reply table last) (ComesAsTold o.reply ended last) lane Before WithdrawnOne
+          (λ future comes. told_withdraws o.reply table ended last lane begun future is_open ends
+          (beside_set table lane None)
           comes) (λ q one. record { position = one.first; there = one.old; is = one.was })
           (λ p call it asks. record {
-            position = moved p lane Idle p.state;
+            position = moved p lane Idle p.state it.is.numbers.free;
             there = withdrawn_one p it;
             is = withdrawn_from p it;
           }))
@@ -367,10 +426,11 @@ module _ {S : Type 0} (o : Judged S) (past : List Event) (table : List (Option O
       at : (x : Position) → Contains kept x → IsPossible o past table x →
           IsPossible o (past ++ event.Withdraws lane ∷ []) ended x
       at x among is = record {
-        position = moved is.position lane Idle is.position.state;
+        position = moved is.position lane Idle is.position.state x.free;
         reads = reads_ended is.position x is.reads;
-        may_be = new_may_be o (past ++ event.Withdraws lane ∷ []) ended kept WithdrawnOne (ComesAsTold ended last)
-            stand (λ q one. one.is) (moved is.position lane Idle is.position.state)
+        may_be = new_may_be o (past ++ event.Withdraws lane ∷ []) ended kept WithdrawnOne
+            (ComesAsTold o.reply ended last)
+            stand (λ q one. one.is) (moved is.position lane Idle is.position.state x.free)
             (withdrawn_one is.position (record {
               is = record { numbers = x; among = among; reads = is.reads };
               may_be = is.may_be;

@@ -19,7 +19,7 @@ use Rattle.stamp_core.specs.declared.reply.Reply.{Reply}
 use Rattle.stamp_core.specs.declared.reply.Reply.TheVariants.{Stamp, No, Mismatch}
 use Rattle.stamp_core.proofs.TwoLayouts.{either_layout}
 use Rattle.stamp_runs.specs.Object.{LockStep}
-use Rattle.stamp_sets.specs.inner.Unchanging.{changes_nothing}
+use Rattle.stamp_sets.specs.Unchanging.{changes_nothing}
 
 -- what the units are to one another
 record AreLaidOut (u : Units) : Type 0 where

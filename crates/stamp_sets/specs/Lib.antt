@@ -1,6 +1,8 @@
 pub mod inner
 pub mod Lanes
 pub mod Told
+pub mod Unchanging
+pub mod Contents
 pub mod Judged
 pub mod Kept
 pub mod Watch

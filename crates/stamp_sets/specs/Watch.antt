@@ -8,20 +8,20 @@ use Rattle.stamp_core.specs.LockDecision.{reply_as}
 use Rattle.stamp_core.specs.declared.call.Call.{Call}
 use Rattle.stamp_core.specs.declared.reply.Reply.{Reply}
 use Rattle.stamp_core.specs.declared.lock_decision.LockReply.{LockReply}
-use Rattle.stamp_core.specs.LockCall.{call_as}
 use Rattle.stamp_runs.specs.LockRun.{AreExplained}
 use Rattle.stamp_runs.specs.declared.event.Event.{Event}
 use Rattle.stamp_runs.specs.declared.event.Event.TheVariants.{Begins, Returns, Withdraws}
 use Rattle.stamp_sets.specs.declared.ending.Ending.{Ending}
-use Rattle.stamp_sets.specs.declared.ending.Ending.TheVariants as ending
+use Rattle.stamp_sets.specs.declared.ending.SmallEnding.TheVariants as small
 use Rattle.stamp_sets.specs.declared.open_call.OpenCall.{OpenCall}
+use Rattle.stamp_sets.specs.declared.small_call.SmallReply.TheVariants.{OfLock}
 use Rattle.stamp_sets.specs.declared.position.Position.{Position}
 use Rattle.stamp_sets.specs.declared.progress.Progress.{Progress}
 use Rattle.stamp_sets.specs.declared.progress.Progress.TheVariants.{Going, Dead, TooMany, Refused}
 use Rattle.stamp_sets.specs.declared.watch.Watch.{Watch}
-use Rattle.stamp_sets.specs.Judged.{lock}
+use Rattle.stamp_sets.specs.Judged.{call_of_lock, lock}
 use Rattle.stamp_sets.specs.Kept.{AreKept, IsPossible}
-use Rattle.stamp_sets.specs.Told.{ComesAsTold, HasEachOpen, open_at}
+use Rattle.stamp_sets.specs.Told.{ComesAsTold, HasEachOpen, open_at, small_ending}
 
 -- what a watch keeps after these events; it also has the lanes with an open call
 pub record IsWatching (past : List Event) (watch : Watch) : Type 0 where
@@ -41,7 +41,7 @@ pub record IsUntold (watch : Watch) (limits : Bounds) : Type 0 where
 
 -- nothing that comes as was told is explained
 pub record IsHopeless (past : List Event) (watch : Watch) : Type 0 where
-  pub none : (future : List Event) → ComesAsTold watch.table.items watch.last future →
+  pub none : (future : List Event) → ComesAsTold (lock watch.limits).reply watch.table.items watch.last future →
       ¬ AreExplained watch.limits (past ++ future)
 
 -- more different positions than so many are possible after these events
@@ -57,14 +57,14 @@ pub record IsToldReturn (watch : Watch) (lane : ℕ) (reply : Reply) : Type 0 wh
   pub told : LockReply
   pub place : ℕ
   pub is_open : open_at watch.table.items lane ≡ Some begun
-  pub ends : begun.ends ≡ ending.Returns told place
+  pub ends : begun.ends ≡ small.Returns (OfLock told) place
   pub same : reply_as told ≡ reply
   pub due : watch.last ≤ place
 
 pub record IsToldWithdrawal (watch : Watch) (lane : ℕ) : Type 0 where
   pub begun : OpenCall
   pub is_open : open_at watch.table.items lane ≡ Some begun
-  pub ends : begun.ends ≡ ending.Withdraws
+  pub ends : begun.ends ≡ small.Withdraws
 
 -- the event may come next: a call of the lock begins in a lane that is free; or a call ends as was told of it
 abbrev pub IsInForm : Watch → Event → Type 0
@@ -75,8 +75,8 @@ IsInForm watch (Withdraws lane) = IsToldWithdrawal watch lane
 -- what is told after a beginning, a return and a withdrawal
 pub record BeginsTold (old new : Watch) (lane : ℕ) (call : Call) (ends : Ending) : Type 0 where
   pub begun : OpenCall
-  pub asks : call_as begun.asks ≡ call
-  pub told : begun.ends ≡ ends
+  pub asks : call_of_lock begun.asks ≡ call
+  pub told : begun.ends ≡ small_ending ends
   pub table : new.table.items ≡ slice_set old.table.items lane (Some begun)
   pub last : new.last ≡ old.last
   pub limits : new.limits ≡ old.limits

@@ -1,9 +1,14 @@
+pub mod Contents
+pub mod Guarded
+pub mod Objects
 pub mod Ended
 pub mod State
 pub mod Lanes
 pub mod Stamps
 pub mod Alike
-pub mod Unchanging
 pub mod Effect
+pub mod Start
 pub mod Layer
 pub mod Step
+pub mod Rows
+pub mod Within

@@ -1,10 +1,10 @@
 //! What is told ahead of the end of a call.
 ghost use Rattle.std.specs.Prelude.{◌≡◌, ◌↔◌, IsTrue};
-ghost use Rattle.stamp_core.specs.LockDecision.{reply_as};
-ghost use Rattle.stamp_sets.specs.Told.{MayGet};
+ghost use Rattle.stamp_sets.specs.Told.{MayGet, small_ending};
 ghost use Rattle.stamp_sets.specs.inner.Ended.{IsReturn};
 
-use stamp_core::{LockReply, Reply};
+use crate::small_call::SmallReply;
+use stamp_core::LockReply;
 
 /// How a call ends, as a watch is told when the call begins.
 #[derive(Clone, Copy, Debug, PartialEq, Eq)]
@@ -18,57 +18,56 @@ pub enum Ending {
     Never,
 }
 
-fn is_stamp(reply: LockReply, stamp: u64) -> bool
-    ensures { IsTrue result ↔ (reply_as reply ≡ reply_as (LockReply.Stamp stamp)) }
-{
-    match reply {
-        LockReply::Stamp(other) => other == stamp,
-        _ => false,
-    }
+/// The same of a call of any object.
+#[derive(Clone, Copy, Debug, PartialEq, Eq)]
+pub(crate) enum SmallEnding {
+    /// It returns with this reply, at this place.
+    Returns(SmallReply, u64),
+    /// It is withdrawn.
+    Withdraws,
+    /// It does not end.
+    Never,
 }
 
-fn is_count(reply: LockReply, count: u64) -> bool
-    ensures { IsTrue result ↔ (reply_as reply ≡ reply_as (LockReply.Count count)) }
-{
-    match reply {
-        LockReply::Count(other) => other == count,
-        _ => false,
+impl Ending {
+    /// The same, of a call of any object.
+    pub(crate) fn as_small(self) -> SmallEnding
+        ensures { result ≡ small_ending self }
+    {
+        match self {
+            Ending::Returns(reply, place) => SmallEnding::Returns(SmallReply::OfLock(reply), place),
+            Ending::Withdraws => SmallEnding::Withdraws,
+            Ending::Never => SmallEnding::Never,
+        }
     }
 }
 
 /// Whether both are one reply.
-pub(crate) fn is_same_reply(reply: LockReply, other: LockReply) -> bool
-    ensures { IsTrue result ↔ (reply_as reply ≡ reply_as other) }
+pub(crate) fn is_same_reply(reply: SmallReply, other: SmallReply) -> bool
+    ensures { IsTrue result ↔ (reply ≡ other) }
 {
-    match other {
-        LockReply::Stamp(stamp) => is_stamp(reply, stamp),
-        LockReply::Yes => matches!(reply, LockReply::Yes),
-        LockReply::No => matches!(reply, LockReply::No),
-        LockReply::Done => matches!(reply, LockReply::Done),
-        LockReply::Mismatch => matches!(reply, LockReply::Mismatch),
-        LockReply::Count(count) => is_count(reply, count),
-    }
+    reply == other
 }
 
-impl Ending {
+impl SmallEnding {
     /// Whether it is a return with this reply.
-    pub(crate) fn is_return(self, reply: LockReply) -> bool
-        ensures { IsTrue result ↔ IsReturn self (reply_as reply) }
+    pub(crate) fn is_return(self, reply: SmallReply) -> bool
+        ensures { IsTrue result ↔ IsReturn self reply }
     {
         match self {
-            Ending::Returns(told, _) => is_same_reply(told, reply),
+            SmallEnding::Returns(told, _) => is_same_reply(told, reply),
             _ => false,
         }
     }
 
     /// Whether a call that ends so may be given this reply.
-    pub(crate) fn may_get(self, reply: LockReply) -> bool
-        ensures { IsTrue result ↔ MayGet self (reply_as reply) }
+    pub(crate) fn may_get(self, reply: SmallReply) -> bool
+        ensures { IsTrue result ↔ MayGet (λ r. r) self reply }
     {
         match self {
-            Ending::Returns(told, _) => is_same_reply(told, reply),
-            Ending::Withdraws => false,
-            Ending::Never => true,
+            SmallEnding::Returns(told, _) => is_same_reply(told, reply),
+            SmallEnding::Withdraws => false,
+            SmallEnding::Never => true,
         }
     }
 }

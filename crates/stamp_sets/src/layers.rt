@@ -1,53 +1,127 @@
 //! How a set of positions goes on to a return.
-ghost use Rattle.std.specs.Prelude.{ℕ, ◌≡◌, ◌<◌, ◌↔◌, IsTrue, OnOk, OnErr, IfOk, false, MatchOption, [], ◌∷◌};
-ghost use Rattle.std.specs.List.{All, Contains};
+ghost use Rattle.std.specs.Prelude.{ℕ, ◌≡◌, ◌<◌, IsTrue, OnOk, OnErr, IfOk, false, MatchOption, Some, [], ◌∷◌};
+ghost use Rattle.std.specs.List.{All};
 ghost use Rattle.std.specs.Int.{bit_at};
 ghost use Rattle.stamp_sets.specs.declared.position.Position.{Position};
-ghost use Rattle.stamp_sets.specs.Judged.{lock};
+ghost use Rattle.stamp_sets.specs.inner.Objects.{judged};
 ghost use Rattle.stamp_sets.specs.inner.State.{IsState};
-ghost use Rattle.stamp_sets.specs.Told.{HasEachOpen};
-ghost use Rattle.stamp_sets.specs.inner.Layer.{Adds, Expands, LooksAt, LooksThrough, MoreFollow, IsUnderWay, IsReturnedFrom, AreReturned, IsAfterReturn};
+ghost use Rattle.stamp_sets.specs.declared.open_call.OpenCall.{OpenCall};
+ghost use Rattle.stamp_sets.specs.Told.{HasEachOpen, open_at};
+ghost use Rattle.stamp_sets.specs.inner.Effect.{IsLeftOut, IsPassedOver, IsUnseen};
+ghost use Rattle.stamp_sets.specs.inner.Layer.{Expands, LooksAt, LooksThrough, TooManyFollow, ReturnsThrough, IsReturnedFrom, AreReturned, IsAfterReturn};
 
 use crate::effect::after_effect;
+use crate::ending::SmallEnding;
 use crate::lanes::{first_lane, has_lane, without_lane};
+use crate::object::Object;
 use crate::open_call::{OpenCall, open_in};
-use crate::position::Position;
-use stamp_core::Limits;
+use crate::position::{Position, add};
+use crate::start::take_up_each;
 use std::alloc::{AllocError, Global};
 
-fn is_among(list: &[Position], position: &Position) -> bool
-    ensures { IsTrue result ↔ Contains list.now position.now }
+/// Whether the lane's call, which is not in effect, takes no effect of its own in a state: it overwrites; or it changes
+/// nothing as it is told to return, and is not awaited; or it ends, and gets no reply there that it may get.
+fn is_passed_over(object: &Object, awaited: u64, lane: u64, begun: &OpenCall, state: u64) -> bool
+    requires { IsState (judged object.now) state }
+    ensures { IsTrue result → IsPassedOver (judged object.now) awaited lane begun.now state }
 {
-    for other in list {
-        if other.is_same(position) {
+    if object.overwrites(begun).is_some() {
+        return true;
+    }
+    if lane != awaited {
+        if begun.is_unchanging() {
             return true;
         }
     }
-    false
+    if let SmallEnding::Never = begun.ends {
+        return false;
+    }
+    object.state_after(state, begun).is_none()
 }
 
-/// Adds the position, if it is not there.
-fn add(list: &mut Vec<Position>, position: Position) -> Result<(), AllocError>
-    ensures { OnOk result (Adds list.old.items list.new.items position) }
+/// Whether the lane's call, if it has one that is not in effect, is passed over in the state.
+fn is_lane_passed_over(
+    object: &Object,
+    table: &[Option<OpenCall>],
+    awaited: u64,
+    in_effect: u64,
+    lane: u64,
+    state: u64,
+) -> bool
+    requires state { IsState (judged object.now) state }
+    requires lane { lane < 64 }
+    ensures { IsTrue result → (begun : OpenCall) → open_at table.now lane ≡ Some begun → bit_at in_effect lane ≡ 0
+        → IsPassedOver (judged object.now) awaited lane begun state }
 {
-    if !is_among(list.as_slice(), &position) {
-        list.push(position)?;
+    if has_lane(in_effect, lane) {
+        return true;
     }
-    Ok(())
+    match open_in(table, lane) {
+        None => true,
+        Some(begun) => is_passed_over(object, awaited, lane, &begun, state),
+    }
+}
+
+/// Whether each call that is not in effect is passed over in the state.
+fn is_unseen(
+    object: &Object,
+    table: &[Option<OpenCall>],
+    busy: u64,
+    awaited: u64,
+    in_effect: u64,
+    state: u64,
+) -> bool
+    requires state { IsState (judged object.now) state }
+    requires busy { HasEachOpen table.now busy }
+    ensures { IsTrue result → IsUnseen (judged object.now) table.now awaited in_effect state }
+{
+    let mut rest = busy;
+    while rest != 0 {
+        let lane = first_lane(rest);
+        if !is_lane_passed_over(object, table, awaited, in_effect, lane, state) {
+            return false;
+        }
+        rest = without_lane(rest, lane);
+    }
+    true
+}
+
+/// Whether the lane's call is left out: it overwrites and is unseen, or gives way to another.
+fn is_left_out(
+    object: &Object,
+    table: &[Option<OpenCall>],
+    busy: u64,
+    awaited: u64,
+    in_effect: u64,
+    lane: u64,
+    begun: &OpenCall,
+) -> bool
+    requires { HasEachOpen table.now busy }
+    ensures { IsTrue result → IsLeftOut (judged object.now) table.now awaited in_effect lane begun.now }
+{
+    if let Some(left) = object.overwrites(begun) {
+        if is_unseen(object, table, busy, awaited, in_effect, left) {
+            return true;
+        }
+    }
+    begun.gives_way(object, table, busy, in_effect, lane)
 }
 
 /// Adds what follows the position by the call of this lane.
 fn expand_lane(
-    limits: Limits,
+    object: &Object,
     table: &[Option<OpenCall>],
     busy: u64,
+    awaited: u64,
     position: Position,
     lane: u64,
     next: &mut Vec<Position>,
 ) -> Result<(), AllocError>
-    requires state { IsState (lock limits) position.state }
+    requires state { IsState (judged object.now) position.state }
     requires lane { lane < 64 }
-    ensures { OnOk result (Expands (lock limits) table.now position (λ l. l ≡ lane) next.old.items next.new.items) }
+    requires busy { HasEachOpen table.now busy }
+    ensures { OnOk result (Expands (judged object.now) table.now awaited position (λ l. l ≡ lane) next.old.items
+        next.new.items) }
 {
     let Some(begun) = open_in(table, lane) else {
         return Ok(());
@@ -55,10 +129,21 @@ fn expand_lane(
     if has_lane(position.in_effect, lane) {
         return Ok(());
     }
-    let Some(after) = after_effect(limits, table, busy, lane, &begun, position) else {
+    let Some(after) = after_effect(object, table, busy, awaited, lane, &begun, position) else {
         return Ok(());
     };
-    if begun.gives_way(limits, table, busy, position.in_effect, lane) {
+    if lane == awaited {
+        return add(next, after);
+    }
+    if is_left_out(
+        object,
+        table,
+        busy,
+        awaited,
+        position.in_effect,
+        lane,
+        &begun,
+    ) {
         return Ok(());
     }
     add(next, after)
@@ -66,20 +151,22 @@ fn expand_lane(
 
 /// Adds what follows the position by one call.
 fn expand(
-    limits: Limits,
+    object: &Object,
     table: &[Option<OpenCall>],
     busy: u64,
+    awaited: u64,
     position: Position,
     next: &mut Vec<Position>,
 ) -> Result<(), AllocError>
-    requires state { IsState (lock limits) position.state }
+    requires state { IsState (judged object.now) position.state }
     requires busy { HasEachOpen table.now busy }
-    ensures { OnOk result (Expands (lock limits) table.now position (λ l. l < 64) next.old.items next.new.items) }
+    ensures { OnOk result (Expands (judged object.now) table.now awaited position (λ l. l < 64) next.old.items
+        next.new.items) }
 {
     let mut rest = busy;
     while rest != 0 {
         let lane = first_lane(rest);
-        expand_lane(limits, table, busy, position, lane, next)?;
+        expand_lane(object, table, busy, awaited, position, lane, next)?;
         rest = without_lane(rest, lane);
     }
     Ok(())
@@ -87,7 +174,7 @@ fn expand(
 
 /// Looks at a position: where the lane's call is in effect it returns, and else some call takes effect.
 fn look(
-    limits: Limits,
+    object: &Object,
     table: &[Option<OpenCall>],
     busy: u64,
     lane: u64,
@@ -95,10 +182,10 @@ fn look(
     done: &mut Vec<Position>,
     next: &mut Vec<Position>,
 ) -> Result<(), AllocError>
-    requires state { IsState (lock limits) position.state }
+    requires state { IsState (judged object.now) position.state }
     requires lane { lane < 64 }
     requires busy { HasEachOpen table.now busy }
-    ensures { OnOk result (LooksAt (lock limits) table.now lane (position ∷ []) done.old.items done.new.items next.old.items
+    ensures { OnOk result (LooksAt (judged object.now) table.now lane (position ∷ []) done.old.items done.new.items next.old.items
         next.new.items) }
 {
     if has_lane(position.in_effect, lane) {
@@ -107,16 +194,17 @@ fn look(
             Position {
                 state: position.state,
                 in_effect: without_lane(position.in_effect, lane),
+                free: position.free,
             },
         )
     } else {
-        expand(limits, table, busy, position, next)
+        expand(object, table, busy, lane, position, next)
     }
 }
 
 /// Looks at each position of a layer, as long as the next one has no more than `most`: whether at all.
 fn look_through(
-    limits: Limits,
+    object: &Object,
     table: &[Option<OpenCall>],
     busy: u64,
     lane: u64,
@@ -125,14 +213,14 @@ fn look_through(
     done: &mut Vec<Position>,
     next: &mut Vec<Position>,
 ) -> Result<bool, AllocError>
-    requires states { All (λ (p : Position). IsState (lock limits) p.state) layer.now }
+    requires states { All (λ (p : Position). IsState (judged object.now) p.state) layer.now }
     requires lane { lane < 64 }
     requires busy { HasEachOpen table.now busy }
-    ensures { IfOk result (λ all. LooksThrough (lock limits) table.now lane layer.now done.old.items done.new.items
-        next.old.items next.new.items most all) }
+    ensures { IfOk result (λ all. LooksThrough (judged object.now) table.now lane layer.now done.old.items
+        done.new.items next.old.items next.new.items most all) }
 {
     for position in layer {
-        look(limits, table, busy, lane, *position, done, next)?;
+        look(object, table, busy, lane, *position, done, next)?;
         if next.len() as u64 > most {
             return Ok(false);
         }
@@ -143,28 +231,29 @@ fn look_through(
 /// The positions after the return of this lane's call; nothing where a layer on the way has more than `most`.
 fn returned(
     alloc: Global,
-    limits: Limits,
+    object: &Object,
     table: &[Option<OpenCall>],
     busy: u64,
     lane: u64,
     start: &[Position],
     most: u64,
 ) -> Result<Option<Vec<Position>>, AllocError>
-    requires states { All (λ (p : Position). IsState (lock limits) p.state) start.now }
+    requires states { All (λ (p : Position). IsState (judged object.now) p.state) start.now }
     requires lane { lane < 64 }
     requires busy { HasEachOpen table.now busy }
-    ensures { IfOk result (λ found. MatchOption found (MoreFollow (lock limits) table.now start.now most)
-        (λ done. IsUnderWay (lock limits) table.now lane start.now done.items [] 0)) }
+    ensures { IfOk result (λ found. MatchOption found (TooManyFollow (judged object.now) table.now lane most start.now)
+        (λ done. ReturnsThrough (judged object.now) table.now lane start.now done.items)) }
 {
     let mut done = Vec::new(alloc);
-    let mut layer = Vec::from_slice(alloc, start)?;
+    let mut layer = Vec::new(alloc);
+    take_up_each(object, table, lane, start, &mut layer)?;
     for depth in 0..65u64 {
         if layer.is_empty() {
             return Ok(Some(done));
         }
         let mut next = Vec::new(alloc);
         if !look_through(
-            limits,
+            object,
             table,
             busy,
             lane,
@@ -202,6 +291,7 @@ fn returned_from(position: Position, lane: u64) -> Position
     Position {
         state: position.state,
         in_effect: without_lane(position.in_effect, lane),
+        free: position.free,
     }
 }
 
@@ -220,17 +310,17 @@ fn return_in_each(positions: &mut Vec<Position>, lane: u64)
 /// where it is in effect in each position.
 pub(crate) fn return_call(
     alloc: Global,
-    limits: Limits,
+    object: &Object,
     table: &[Option<OpenCall>],
     busy: u64,
     lane: u64,
     positions: &mut Vec<Position>,
     most: u64,
 ) -> Result<bool, AllocError>
-    requires states { All (λ (p : Position). IsState (lock limits) p.state) positions.old.items }
+    requires states { All (λ (p : Position). IsState (judged object.now) p.state) positions.old.items }
     requires lane { lane < 64 }
     requires busy { HasEachOpen table.now busy }
-    ensures done { IfOk result (λ done. IsAfterReturn (lock limits) table.now lane most positions.old.items
+    ensures done { IfOk result (λ done. IsAfterReturn (judged object.now) table.now lane most positions.old.items
         positions.new.items done) }
     ensures not { IfOk result (λ done. done ≡ false → positions.new ≡ positions.old) }
     ensures err { OnErr result (positions.new ≡ positions.old) }
@@ -239,7 +329,7 @@ pub(crate) fn return_call(
         return_in_each(positions, lane);
         return Ok(true);
     }
-    let Some(done) = returned(alloc, limits, table, busy, lane, positions.as_slice(), most)? else {
+    let Some(done) = returned(alloc, object, table, busy, lane, positions.as_slice(), most)? else {
         return Ok(false);
     };
     *positions = done;

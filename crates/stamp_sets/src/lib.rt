@@ -1,15 +1,19 @@
-//! What a run of a lock may have done so far, by sets of positions.
+//! What a run of a lock, or of a guarded record, may have done so far, by sets of positions.
 #![tactic(auto)]
 
+mod contents;
 mod effect;
 mod ending;
 mod lanes;
 mod layers;
 mod lock_calls;
+mod object;
 mod open_call;
 mod position;
 mod positions;
 mod progress;
+mod small_call;
+mod start;
 mod watch;
 
 pub use ending::Ending;

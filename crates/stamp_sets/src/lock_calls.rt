@@ -3,7 +3,7 @@ ghost use Rattle.std.specs.Prelude.{◌≡◌, IsTrue, MatchOption, ⊤};
 ghost use Rattle.stamp_core.specs.Layout.{units_of};
 ghost use Rattle.stamp_core.specs.LockCall.{call_as};
 ghost use Rattle.stamp_core.specs.LockDecision.{reply_as};
-ghost use Rattle.stamp_sets.specs.inner.Unchanging.{changes_nothing};
+ghost use Rattle.stamp_sets.specs.Unchanging.{changes_nothing};
 ghost use Rattle.stamp_runs.specs.LockRun.{DoSame};
 ghost use Rattle.stamp_sets.specs.inner.Alike.{IsReadOf, ReleasesRead};
 ghost use Rattle.stamp_sets.specs.inner.Stamps.{is_this_stamp};

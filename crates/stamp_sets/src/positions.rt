@@ -5,6 +5,7 @@ ghost use Rattle.stamp_sets.specs.Positions.{waiting_in, waiting_of, word_of};
 use crate::lanes::has_lane;
 use crate::open_call::open_in;
 use crate::position::Position;
+use crate::small_call::SmallCall;
 use crate::watch::Watch;
 use stamp_core::{Call, Limits};
 
@@ -16,7 +17,10 @@ fn waiting_in(watch: &Watch, lane: u64, position: &Position) -> Option<Call>
         return None;
     }
     let begun = open_in(watch.table.as_slice(), lane)?;
-    Some(begun.asks.as_call())
+    match begun.asks {
+        SmallCall::OfLock(call) => Some(call.as_call()),
+        _ => None,
+    }
 }
 
 impl Watch {

@@ -3,19 +3,21 @@ ghost use Rattle.std.specs.Prelude.{◌≡◌, ◌<◌, IfOk, OnErr, List, [], �
 ghost use Rattle.std.specs.List.{All};
 ghost use Rattle.stamp_runs.specs.declared.event.Event.{Event};
 ghost use Rattle.stamp_sets.specs.declared.position.Position.{Position};
-ghost use Rattle.stamp_sets.specs.Judged.{lock};
+ghost use Rattle.stamp_sets.specs.inner.Objects.{judged};
 ghost use Rattle.stamp_sets.specs.inner.State.{IsState};
 ghost use Rattle.stamp_sets.specs.Watch.{IsWatching, IsWatched, IsCopy, IsProgress, IsTaken, BeginsTold, ReturnsTold, WithdrawsTold, IsUntold};
 ghost use Rattle.stamp_sets.specs.inner.Step.{IsOpening, BeginsIn, AreBegun, IsAnswer};
 
 use crate::effect::at_once;
-use crate::ending::Ending;
+use crate::ending::{Ending, SmallEnding};
 use crate::lanes::{with_lane, without_lane};
 use crate::layers::return_call;
+use crate::object::Object;
 use crate::open_call::{OpenCall, idle_lanes, open_in, put};
 use crate::position::Position;
 use crate::progress::Progress;
-use stamp_core::{Call, Limits, LockCall, Reply, Word};
+use crate::small_call::{SmallCall, SmallReply};
+use stamp_core::{Call, Limits, LockCall, Reply};
 use std::alloc::{AllocError, Global};
 
 /// The positions of a lock and its lanes that are possible after the events of a run, as far as they matter: one is
@@ -31,35 +33,37 @@ pub struct Watch {
     pub(crate) positions: Vec<Position>,
 }
 
-fn opening(limits: Limits) -> Position
-    ensures { IsOpening (lock limits) result }
+fn opening(object: &Object) -> Position
+    ensures { IsOpening (judged object.now) result }
 {
     Position {
-        state: Word::opening_in(limits.layout()).bits(),
+        state: object.opening(),
         in_effect: 0,
+        free: 0,
     }
 }
 
 /// The position once this call has begun in the lane.
-fn begun_in(limits: Limits, begun: &OpenCall, lane: u64, position: Position) -> Position
-    requires state { IsState (lock limits) position.state }
+fn begun_in(object: &Object, begun: &OpenCall, lane: u64, position: Position) -> Position
+    requires state { IsState (judged object.now) position.state }
     requires lane { lane < 64 }
-    ensures { BeginsIn (lock limits) begun.now lane position result }
+    ensures { BeginsIn (judged object.now) begun.now lane position result }
 {
     let plain = Position {
         state: position.state,
         in_effect: without_lane(position.in_effect, lane),
+        free: position.free,
     };
-    at_once(limits, begun, lane, plain)
+    at_once(object, begun, lane, plain)
 }
 
-fn begin_in_each(limits: Limits, begun: &OpenCall, lane: u64, positions: &mut Vec<Position>)
-    requires states { All (λ (p : Position). IsState (lock limits) p.state) positions.old.items }
+fn begin_in_each(object: &Object, begun: &OpenCall, lane: u64, positions: &mut Vec<Position>)
+    requires states { All (λ (p : Position). IsState (judged object.now) p.state) positions.old.items }
     requires lane { lane < 64 }
-    ensures { AreBegun (lock limits) begun.now lane positions.old.items positions.new.items }
+    ensures { AreBegun (judged object.now) begun.now lane positions.old.items positions.new.items }
 {
     for position in positions.iter_mut() {
-        *position = begun_in(limits, begun, lane, *position);
+        *position = begun_in(object, begun, lane, *position);
     }
 }
 
@@ -82,7 +86,7 @@ impl Watch {
     {
         let table = idle_lanes(alloc)?;
         let mut positions = Vec::new(alloc);
-        positions.push(opening(limits))?;
+        positions.push(opening(&Object::Lock(limits)))?;
         Ok(Watch {
             alloc,
             limits,
@@ -124,8 +128,16 @@ impl Watch {
         let Some(asks) = LockCall::of(call) else {
             return Progress::Refused;
         };
-        let begun = OpenCall { asks, ends };
-        begin_in_each(self.limits, &begun, lane, &mut self.positions);
+        let begun = OpenCall {
+            asks: SmallCall::OfLock(asks),
+            ends: ends.as_small(),
+        };
+        begin_in_each(
+            &Object::Lock(self.limits),
+            &begun,
+            lane,
+            &mut self.positions,
+        );
         put(&mut self.table, lane, Some(begun));
         self.busy = with_lane(self.busy, lane);
         answer(self.positions.as_slice())
@@ -143,7 +155,7 @@ impl Watch {
         let Some(begun) = open_in(self.table.as_slice(), lane) else {
             return Progress::Refused;
         };
-        let Ending::Withdraws = begun.ends else {
+        let SmallEnding::Withdraws = begun.ends else {
             return Progress::Refused;
         };
         put(&mut self.table, lane, None);
@@ -165,15 +177,18 @@ impl Watch {
         let Some(begun) = open_in(self.table.as_slice(), lane) else {
             return Ok(Progress::Refused);
         };
-        let Ending::Returns(told, place) = begun.ends else {
+        let SmallEnding::Returns(told, place) = begun.ends else {
             return Ok(Progress::Refused);
         };
-        if place < self.last || !told.as_reply().is_same(reply) {
+        let SmallReply::OfLock(own) = told else {
+            return Ok(Progress::Refused);
+        };
+        if place < self.last || !own.as_reply().is_same(reply) {
             return Ok(Progress::Refused);
         }
         let returned = return_call(
             self.alloc,
-            self.limits,
+            &Object::Lock(self.limits),
             self.table.as_slice(),
             self.busy,
             lane,

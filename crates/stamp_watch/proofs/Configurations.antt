@@ -1,6 +1,7 @@
 -- In the lock no call is free: a position of a watch that may be is one configuration.
 use Rattle.std.proofs.Common.{ℕ, List, Option, refl, sym, subst}
 use Rattle.std.specs.List.{All}
+use Rattle.std.proofs.lemmas.Bool.{false≢true}
 use Rattle.stamp_core.specs.Limits.{Bounds}
 use Rattle.stamp_runs.specs.declared.event.Event.{Event}
 use Rattle.stamp_runs.specs.Position.Hidden.{no_more}
@@ -11,13 +12,18 @@ use Rattle.stamp_sets.specs.Judged.{lock}
 use Rattle.stamp_sets.specs.Kept as sets
 use Rattle.stamp_sets.specs.Told.{HasEachOpen}
 use Rattle.stamp_sets.specs.Watch as watch
+use Rattle.stamp_sets.proofs.Reading.{bit_unset}
 use Rattle.stamp_watch.specs.Configurations.{IsPossible, MoreArePossible}
 
 pub is_possible : (limits : Bounds) (past : List Event) (table : List (Option OpenCall)) (p : Position) →
     sets.IsPossible (lock limits) past table p → IsPossible limits past table p
 is_possible limits past table p is = record {
   one = record { state = is.position.state; lanes = is.position.lanes };
-  stands = record { word = is.reads.state; phases = is.reads.lanes };
+  stands = record {
+    word = is.reads.state;
+    phases = is.reads.lanes;
+    none_free = λ lane. bit_unset p.free lane (λ set. false≢true (is.reads.kinds lane set).kind);
+  };
   possible = is.may_be is.position.state is.position.lanes (record { same = refl; hidden = no_more });
 }
 

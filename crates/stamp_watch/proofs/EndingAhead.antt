@@ -15,7 +15,7 @@ use Rattle.stamp_sets.specs.declared.ending.Ending.TheVariants.{Returns, Withdra
 use Rattle.stamp_watch.specs.AsObserved.{ending_of}
 use Rattle.stamp_watch.specs.AsObserved.Ending.{EndsReturned}
 use Rattle.stamp_watch.specs.Verdict.{IsOfLock, is_lock_reply}
-use Rattle.stamp_watch.specs.Foretold.{ends_as}
+use Rattle.stamp_watch.specs.inner.Foretold.{ends_as}
 use Rattle.stamp_watch.specs.inner.Judging.{IsEndBy}
 use Rattle.stamp_watch.proofs.Reading.{drop_read}
 use Rattle.stamp_watch.proofs.Numbered.{ending_spares, return_ends, withdrawal_ends}

@@ -20,7 +20,11 @@ use Rattle.stamp_runs.specs.Run.EndsBy.{ends_next}
 use Rattle.stamp_runs.specs.Run.ReturnsSooner.{sooner_next, sooner_later}
 use Rattle.stamp_runs.specs.LockRun.{AreExplained}
 use Rattle.stamp_sets.specs.declared.ending.Ending.{Ending}
-use Rattle.stamp_sets.specs.declared.ending.Ending.TheVariants.{Returns, Withdraws, Never}
+use Rattle.stamp_sets.specs.declared.ending.SmallEnding.{SmallEnding}
+use Rattle.stamp_sets.specs.declared.ending.SmallEnding.TheVariants.{Returns, Withdraws, Never}
+use Rattle.stamp_sets.specs.declared.small_call.SmallReply.{SmallReply}
+use Rattle.stamp_sets.specs.declared.small_call.SmallReply.TheVariants.{OfLock, Content}
+use Rattle.stamp_sets.specs.Judged.{reply_in}
 use Rattle.stamp_sets.specs.declared.open_call.OpenCall.{OpenCall}
 use Rattle.stamp_sets.specs.declared.progress.Progress.{Progress}
 use Rattle.stamp_sets.specs.declared.progress.Progress.TheVariants.{Going, Dead, TooMany, Refused}
@@ -28,9 +32,10 @@ use Rattle.stamp_sets.specs.declared.watch.Watch.{Watch}
 use Rattle.stamp_watch.specs.AsObserved.{ending_of}
 use Rattle.stamp_watch.specs.AsObserved.Ending.{StaysOpen, EndsReturned, EndsWithdrawn}
 use Rattle.stamp_sets.specs.Told.{open_at, EndsSo, ComesAsTold}
-use Rattle.stamp_watch.specs.Foretold.{ends_as}
+use Rattle.stamp_watch.specs.Foretold.{told_as}
+use Rattle.stamp_watch.specs.inner.Foretold.{ends_as}
 use Rattle.stamp_watch.specs.Form.{is_busy_then, is_busy_after, MayCome}
-use Rattle.stamp_watch.specs.Verdict.{AreOfLock}
+use Rattle.stamp_watch.specs.Verdict.{AreOfLock, is_lock_reply}
 use Rattle.stamp_sets.specs.Watch.{IsCopy, IsWatching, IsUntold, IsInForm, IsProgress, IsTaken, BeginsTold}
 use Rattle.stamp_sets.specs.Watch.{ReturnsTold, WithdrawsTold}
 use Rattle.stamp_watch.specs.Judging.{IsFollowed, IsJudging}
@@ -48,14 +53,14 @@ withdrawn_or_open : EndsWithdrawn ≡ StaysOpen → ⊥
 withdrawn_or_open same = cc
 
 -- the end that an entry tells
-record IsReturnAt (ends : Ending) (r : Returned) : Type 0 where
-  pub told : LockReply
+record IsReturnAt (ends : SmallEnding) (r : Returned) : Type 0 where
+  pub told : SmallReply
   pub place : ℕ
   pub is : ends ≡ Returns told place
-  pub same : reply_as told ≡ r.reply
+  pub same : reply_in [] told ≡ r.reply
   pub here : place ≡ r.last
 
-returns_at : (ends : Ending) (r : Returned) → ends_as ends ≡ EndsReturned r → IsReturnAt ends r
+returns_at : (ends : SmallEnding) (r : Returned) → told_as ends ≡ EndsReturned r → IsReturnAt ends r
 returns_at (Returns told place) r is = record {
   told = told;
   place = place;
@@ -66,39 +71,52 @@ returns_at (Returns told place) r is = record {
 returns_at Withdraws r is = absurd (withdrawn_or_ended is)
 returns_at Never r is = absurd (open_or_ended is)
 
-withdraws_so : (ends : Ending) → ends_as ends ≡ EndsWithdrawn → ends ≡ Withdraws
+withdraws_so : (ends : SmallEnding) → told_as ends ≡ EndsWithdrawn → ends ≡ Withdraws
 withdraws_so (Returns told place) is = absurd (withdrawn_or_ended (sym is))
 withdraws_so Withdraws is = refl
 withdraws_so Never is = absurd (withdrawn_or_open (sym is))
 
-ends_at : (lane n : ℕ) (event : Event) (events : List Event) (ends : Ending) → IsEndOf lane event →
-    ends_as ends ≡ ending_of lane n (event ∷ events) → EndsSo lane ends (event ∷ events)
+-- a reply of the lock that was told
+record IsOwnReply (told : SmallReply) (reply : Reply) : Type 0 where
+  pub own : LockReply
+  pub is : told ≡ OfLock own
+  pub same : reply_as own ≡ reply
+
+own_reply : (told : SmallReply) (reply : Reply) → reply_in [] told ≡ reply → is_lock_reply reply ≡ true →
+    IsOwnReply told reply
+own_reply (OfLock own) reply is lock = record { own = own; is = refl; same = is }
+own_reply (Content number) reply is lock = absurd (false≢true (ap is_lock_reply is ∙ lock))
+
+ends_at : (lane n : ℕ) (event : Event) (events : List Event) (ends : SmallEnding) → IsEndOf lane event →
+    told_as ends ≡ ending_of lane n (event ∷ events) → EndsSo (reply_in []) lane ends (event ∷ events)
 ends_at lane n (event.Begins other call) events ends none is = absurd none
 ends_at lane n (event.Returns other reply) events ends same is = by (returns_at ends
     (record { last = n; reply = reply }) (is ∙ return_ends lane other n reply events same))
   where
-    by : IsReturnAt ends (record { last = n; reply = reply }) → EndsSo lane ends (event.Returns other reply ∷ events)
-    by at = subst (λ (e : Ending). EndsSo lane e (event.Returns other reply ∷ events)) (sym at.is)
-        (subst (λ (e : Event). EndsBy lane (event.Returns lane (reply_as at.told)) (e ∷ events))
+    by : IsReturnAt ends (record { last = n; reply = reply }) →
+        EndsSo (reply_in []) lane ends (event.Returns other reply ∷ events)
+    by at = subst (λ (e : SmallEnding). EndsSo (reply_in []) lane e (event.Returns other reply ∷ events)) (sym at.is)
+        (subst (λ (e : Event). EndsBy lane (event.Returns lane (reply_in [] at.told)) (e ∷ events))
         (ap (event.Returns lane) at.same ∙ ap (λ (v : ℕ). event.Returns v reply) (sym same)) ends_next)
 ends_at lane n (event.Withdraws other) events ends same is =
-    subst (λ (e : Ending). EndsSo lane e (event.Withdraws other ∷ events))
+    subst (λ (e : SmallEnding). EndsSo (reply_in []) lane e (event.Withdraws other ∷ events))
     (sym (withdraws_so ends (is ∙ withdrawal_ends lane other n events same)))
     (subst (λ (e : Event). EndsBy lane (event.Withdraws lane) (e ∷ events)) (ap event.Withdraws (sym same)) ends_next)
 
 -- a call ends as its entry tells
-pub ends_so : (lane n : ℕ) (events : List Event) (ends : Ending) → ends_as ends ≡ ending_of lane n events →
-    EndsSo lane ends events
+pub ends_so : (lane n : ℕ) (events : List Event) (ends : SmallEnding) → told_as ends ≡ ending_of lane n events →
+    EndsSo (reply_in []) lane ends events
 ends_so lane n [] (Returns told place) is = absurd (open_or_ended (sym is))
 ends_so lane n [] Withdraws is = absurd (withdrawn_or_open is)
 ends_so lane n [] Never is = All-nil (λ (e : Event). ¬ IsEndOf lane e)
 ends_so lane n (event ∷ events) ends is =
     by (λ later. ends_so lane (n + 1) events ends later) (end_or_not lane event)
   where
-    by : (ends_as ends ≡ ending_of lane (n + 1) events → EndsSo lane ends events) →
-        IsEndOf lane event ⊎ (¬ IsEndOf lane event) → EndsSo lane ends (event ∷ events)
+    by : (told_as ends ≡ ending_of lane (n + 1) events → EndsSo (reply_in []) lane ends events) →
+        IsEndOf lane event ⊎ (¬ IsEndOf lane event) → EndsSo (reply_in []) lane ends (event ∷ events)
     by later (inl end) = ends_at lane n event events ends end is
-    by later (inr not) = ends_past lane ends event events not (later (is ∙ ending_spares lane n event events not))
+    by later (inr not) = ends_past (reply_in []) lane ends event events not
+        (later (is ∙ ending_spares lane n event events not))
 
 -- calls return in the order of their places
 sooner_so : (lane than n : ℕ) (events : List Event) (a b : Returned) → ending_of lane n events ≡ EndsReturned a →
@@ -121,24 +139,24 @@ sooner_so lane than n (x ∷ events) a b is also less =
         absurd (omega (arith, ending_last lane (n + 1) events a past.1, here.1, less))
     by later (inr past) (inr beyond) = sooner_later x past.0 beyond.0 (later past.1 beyond.1)
 
-told_return : (ends : Ending) (told : LockReply) (place lane n : ℕ) (events : List Event) → ends ≡ Returns told place →
-    ends_as ends ≡ ending_of lane n events →
-    ending_of lane n events ≡ EndsReturned (record { last = place; reply = reply_as told })
-told_return ends told place lane n events returns is = sym is ∙ ap ends_as returns
+told_return : (ends : SmallEnding) (told : SmallReply) (place lane n : ℕ) (events : List Event) →
+    ends ≡ Returns told place → told_as ends ≡ ending_of lane n events →
+    ending_of lane n events ≡ EndsReturned (record { last = place; reply = reply_in [] told })
+told_return ends told place lane n events returns is = sym is ∙ ap told_as returns
 
 -- what comes is as it was told
 pub comes : (n : ℕ) (past future : List Event) (watch : Watch) → IsFollowed n past future watch →
-    ComesAsTold watch.table.items watch.last future
+    ComesAsTold (reply_in []) watch.table.items watch.last future
 comes n past future watch f = record {
   ends = λ lane begun is. ends_so lane n future begun.ends (f.told lane begun is);
   sooner = λ lane than first other is also before. sooner_so lane than n future
-      (record { last = before.place; reply = reply_as before.reply })
-      (record { last = before.later; reply = reply_as before.answer })
+      (record { last = before.place; reply = reply_in [] before.reply })
+      (record { last = before.later; reply = reply_in [] before.answer })
       (told_return first.ends before.reply before.place lane n future before.first_is (f.told lane first is))
       (told_return other.ends before.answer before.later than n future before.other_is (f.told than other also))
       before.sooner;
   due = λ lane begun told place is ends.
-      let low : n ≤ place = ending_last lane n future (record { last = place; reply = reply_as told })
+      let low : n ≤ place = ending_last lane n future (record { last = place; reply = reply_in [] told })
       (told_return begun.ends told place lane n future ends (f.told lane begun is)) in
       let last : watch.last ≤ n = f.last in omega (arith, low, last);
 }
@@ -174,14 +192,19 @@ in_form n past (event.Returns lane reply) ahead old f = by (some_open (open_at o
     told o is = returns_at o.ends (record { last = n; reply = reply })
         (f.told lane o is ∙ return_ends lane lane n reply ahead refl)
 
+    own : (o : OpenCall) (is : open_at old.table.items lane ≡ Some o) → IsOwnReply (told o is).told reply
+    own o is = own_reply (told o is).told reply (told o is).same
+        (next_of_lock past (event.Returns lane reply) ahead f.whole).1
+
     by : IsOpen (open_at old.table.items lane) → IsInForm old (event.Returns lane reply)
     by one = record {
       begun = one.begun;
-      told = (told one.begun one.is).told;
+      told = (own one.begun one.is).own;
       place = (told one.begun one.is).place;
       is_open = one.is;
-      ends = (told one.begun one.is).is;
-      same = (told one.begun one.is).same;
+      ends = (told one.begun one.is).is ∙
+          ap (λ (r : SmallReply). Returns r (told one.begun one.is).place) (own one.begun one.is).is;
+      same = (own one.begun one.is).same;
       due = let at : (told one.begun one.is).place ≡ n = (told one.begun one.is).here in
           let last : old.last ≤ n = f.last in omega (arith, at, last);
     }
@@ -235,11 +258,11 @@ followed_begins n past ahead lane call ends old new long is told f = record {
         sym (ap (λ (b : Bool). b || is_busy_after past u) (ne_eqb lane u (λ e. apart (sym e))))
 
     ends_there : (u : ℕ) (o : OpenCall) → open_at new.table.items u ≡ Some o → (u ≡ lane) ⊎ (u ≢ lane) →
-        ends_as o.ends ≡ ending_of u (n + 1) ahead
+        told_as o.ends ≡ ending_of u (n + 1) ahead
     ends_there u o opened (inl same) =
-        ap (λ (x : OpenCall). ends_as x.ends) (same_Some o told.begun (sym opened ∙
+        ap (λ (x : OpenCall). told_as x.ends) (same_Some o told.begun (sym opened ∙
         put_here old.table.items new.table.items lane (Some told.begun) told.table within u same)) ∙
-        ap ends_as told.told ∙ is ∙ ap (λ (v : ℕ). ending_of v (n + 1) ahead) (sym same)
+        ap told_as told.told ∙ is ∙ ap (λ (v : ℕ). ending_of v (n + 1) ahead) (sym same)
     ends_there u o opened (inr apart) = f.told u o (sym (put_other old.table.items new.table.items lane
         (Some told.begun) told.table within u apart) ∙ opened)
 
@@ -265,7 +288,7 @@ module _ (n : ℕ) (past ahead : List Event) (lane : ℕ) (e : Event) (old new :
       ap (λ (b : Bool). not b && is_busy_after past u) (ne_eqb lane u (λ e. apart (sym e))))
 
   told_ended : (u : ℕ) (o : OpenCall) → open_at new.table.items u ≡ Some o → (u ≡ lane) ⊎ (u ≢ lane) →
-      ends_as o.ends ≡ ending_of u (n + 1) ahead
+      told_as o.ends ≡ ending_of u (n + 1) ahead
   told_ended u o opened (inl same) = absurd (none-some o
       (sym (put_here old.table.items new.table.items lane None put within_ended u same) ∙ opened))
   told_ended u o opened (inr apart) =
@@ -292,7 +315,7 @@ followed_returns n past ahead lane reply old new long told f =
   where
     at : told.was.place ≡ n
     at = ap (λ (q : Returned). q.last) (one_return
-        (sym (told_return told.was.begun.ends told.was.told told.was.place lane
+        (sym (told_return told.was.begun.ends (OfLock told.was.told) told.was.place lane
         n (event.Returns lane reply ∷ ahead) told.was.ends (f.told lane told.was.begun told.was.is_open)) ∙
         return_ends lane lane n reply ahead refl))
 

@@ -22,7 +22,7 @@ use Rattle.stamp_sets.specs.declared.watch.Watch.{Watch}
 use Rattle.stamp_watch.specs.AsObserved.{AreEnded, ending_of}
 use Rattle.stamp_watch.specs.AsObserved.Ending.{StaysOpen}
 use Rattle.stamp_sets.specs.Told.{open_at}
-use Rattle.stamp_watch.specs.Foretold.{ends_as}
+use Rattle.stamp_watch.specs.inner.Foretold.{ends_as}
 use Rattle.stamp_watch.specs.Form.{is_busy_then, is_busy_after}
 use Rattle.stamp_watch.specs.Verdict.{AreOfLock, AreTooMany, IsFarEnough, IsVerdict, MayComeNext}
 use Rattle.stamp_watch.specs.Judging.{IsFound, IsJudging}

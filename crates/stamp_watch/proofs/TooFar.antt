@@ -12,10 +12,11 @@ use Rattle.stamp_runs.specs.Run.{IsEndOf, EndsNever}
 use Rattle.stamp_runs.specs.LockRun.{AreExplained}
 use Rattle.stamp_sets.specs.declared.ending.Ending.{Ending}
 use Rattle.stamp_sets.specs.declared.ending.Ending.TheVariants.{Never}
+use Rattle.stamp_sets.specs.declared.ending.SmallEnding.TheVariants as small
 use Rattle.stamp_watch.specs.declared.verdict.Verdict.TheVariants as verdict
 use Rattle.stamp_watch.specs.declared.verdict.Why.TheVariants as cause
 use Rattle.stamp_sets.specs.declared.watch.Watch.{Watch}
-use Rattle.stamp_watch.specs.Foretold.{ends_as}
+use Rattle.stamp_watch.specs.inner.Foretold.{ends_as}
 use Rattle.stamp_watch.specs.Judging.{IsFound}
 use Rattle.stamp_watch.specs.Course.{IsRunOn}
 use Rattle.stamp_watch.specs.SoFar.{BeginWithOpenCall, IsUnended}
@@ -29,7 +30,7 @@ use Rattle.stamp_watch.proofs.Running.{cut_run, front_of_run, next_of_run}
 
 unended : (e : Event) (n : ℕ) (ends : Ending) (behind : List Event) → IsUnknown e ends → IsEndTold e n behind ends →
     IsUnended e behind
-unended (Begins lane call) n ends behind never told = ends_so lane n behind Never (sym (ap ends_as never) ∙ told)
+unended (Begins lane call) n ends behind never told = ends_so lane n behind small.Never (sym (ap ends_as never) ∙ told)
 unended (Returns lane reply) n ends behind never told = absurd never
 unended (Withdraws lane) n ends behind never told = absurd never
 
@@ -51,7 +52,7 @@ open_for (Begins lane call) n k ahead ends run behind more never told there many
       omega (arith, long, many);
   never = subst (EndsNever lane) (sym (take-append-le ahead behind more many))
       (All-take (λ (e : Event). ¬ IsEndOf lane e) ahead behind
-      (ends_so lane n behind Never (sym (ap ends_as never) ∙ told)));
+      (ends_so lane n behind small.Never (sym (ap ends_as never) ∙ told)));
 }
 open_for (Returns lane reply) n k ahead ends run behind more never told there many = absurd never
 open_for (Withdraws lane) n k ahead ends run behind more never told there many = absurd never

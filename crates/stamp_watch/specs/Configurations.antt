@@ -1,15 +1,15 @@
 -- The configurations of lock and lanes for which the positions of a watch stand.
-use Rattle.std.specs.Prelude.{ℕ, ◌≢◌, ◌<◌, List, length, Option}
+use Rattle.std.specs.Prelude.{ℕ, ◌≡◌, ◌≢◌, ◌<◌, List, length, Option}
 use Rattle.std.specs.Int.{bit_at}
 use Rattle.std.specs.List.{All, AllPairs}
 use Rattle.stamp_core.specs.Limits.{Bounds}
-use Rattle.stamp_core.specs.LockCall.{call_as}
 use Rattle.stamp_core.specs.Word.{Represents, word_at}
 use Rattle.stamp_runs.specs.declared.event.Event.{Event}
 use Rattle.stamp_runs.specs.LockRun.{Configuration, IsPossibleAfter}
 use Rattle.stamp_sets.specs.declared.open_call.OpenCall.{OpenCall}
 use Rattle.stamp_sets.specs.declared.position.Position.{Position}
 use Rattle.stamp_sets.specs.declared.watch.Watch.{Watch}
+use Rattle.stamp_sets.specs.Judged.{lock}
 use Rattle.stamp_sets.specs.Kept.{HasPhase}
 use Rattle.stamp_sets.specs.Told.{open_at}
 
@@ -17,7 +17,8 @@ use Rattle.stamp_sets.specs.Told.{open_at}
 pub record StandsFor (limits : Bounds) (table : List (Option OpenCall)) (p : Position) (c : Configuration) : Type
     0 where
   pub word : Represents limits (word_at limits p.state) c.state
-  pub phases : (lane : ℕ) → HasPhase call_as (open_at table lane) (bit_at p.in_effect lane) (c.lanes lane)
+  pub phases : (lane : ℕ) → HasPhase (lock limits) (open_at table lane) (bit_at p.in_effect lane) (c.lanes lane)
+  pub none_free : (lane : ℕ) → bit_at p.free lane ≡ 0
 
 -- a configuration for which they stand is possible after these events
 pub record IsPossible (limits : Bounds) (past : List Event) (table : List (Option OpenCall)) (p : Position) : Type

@@ -10,7 +10,7 @@ use Rattle.stamp_watch.specs.declared.verdict.Verdict.{Verdict}
 use Rattle.stamp_sets.specs.declared.watch.Watch.{Watch}
 use Rattle.stamp_watch.specs.AsObserved.{ending_of}
 use Rattle.stamp_sets.specs.Told.{open_at}
-use Rattle.stamp_watch.specs.Foretold.{ends_as}
+use Rattle.stamp_watch.specs.Foretold.{told_as}
 use Rattle.stamp_watch.specs.Form.{is_busy_after}
 use Rattle.stamp_watch.specs.Verdict.{AreOfLock, IsVerdict}
 use Rattle.stamp_sets.specs.Watch.{IsWatching}
@@ -24,7 +24,7 @@ pub record IsFollowed (n : ℕ) (past future : List Event) (watch : Watch) : Typ
   pub whole : AreOfLock (past ++ future)
   pub agrees : (lane : ℕ) → is_some (open_at watch.table.items lane) ≡ is_busy_after past lane
   pub told : (lane : ℕ) (begun : OpenCall) → open_at watch.table.items lane ≡ Some begun →
-      ends_as begun.ends ≡ ending_of lane n future
+      told_as begun.ends ≡ ending_of lane n future
   pub last : watch.last ≤ n
 
 -- the events before the one with this number are explained, and the others come as was told

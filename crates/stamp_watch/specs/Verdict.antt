@@ -17,7 +17,7 @@ use Rattle.stamp_watch.specs.declared.verdict.Why.TheVariants.{TooMany, TooFar}
 use Rattle.stamp_sets.specs.declared.watch.Watch.{Watch}
 use Rattle.stamp_watch.specs.AsObserved.{AreEnded, ending_of}
 use Rattle.stamp_sets.specs.Told.{open_at}
-use Rattle.stamp_watch.specs.Foretold.{ends_as}
+use Rattle.stamp_watch.specs.Foretold.{told_as}
 use Rattle.stamp_watch.specs.Form.{AreInForm}
 use Rattle.stamp_sets.specs.Watch.{IsWatching}
 use Rattle.stamp_watch.specs.Configurations.{MoreArePossible}
@@ -50,7 +50,7 @@ pub record AreTooMany (limits : Bounds) (n : ℕ) (past future : List Event) (mo
   pub limits_are : watch.limits ≡ limits
   pub watching : IsWatching past watch
   pub told : (lane : ℕ) (begun : OpenCall) → open_at watch.table.items lane ≡ Some begun →
-      ends_as begun.ends ≡ ending_of lane n future
+      told_as begun.ends ≡ ending_of lane n future
   pub more : MoreArePossible past most watch
 
 -- there is an event with this number, and it may come behind those before it

@@ -1,3 +1,4 @@
+pub mod Foretold
 pub mod Judging
 pub mod Course
 pub mod Stream

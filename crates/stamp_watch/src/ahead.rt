@@ -3,7 +3,7 @@ ghost use Rattle.std.specs.Prelude.{◌≡◌, ◌+◌, ◌^◌, ◌<◌, length
 ghost use Rattle.std.specs.List.{All};
 ghost use Rattle.stamp_watch.specs.AsObserved.{ending_of};
 ghost use Rattle.stamp_watch.specs.Verdict.{IsOfLock};
-ghost use Rattle.stamp_watch.specs.Foretold.{ends_as};
+ghost use Rattle.stamp_watch.specs.inner.Foretold.{ends_as};
 ghost use Rattle.stamp_watch.specs.inner.Judging.{IsEndBy};
 
 use crate::lanes::lock_reply;

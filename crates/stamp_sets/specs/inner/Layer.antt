@@ -9,10 +9,8 @@ use Rattle.stamp_sets.specs.Judged.{Judged}
 use Rattle.stamp_sets.specs.Told.{open_at}
 use Rattle.stamp_sets.specs.Lanes.{SetsBit}
 use Rattle.stamp_sets.specs.inner.Lanes.{lanes_in}
-use Rattle.stamp_sets.specs.inner.Effect.{GivesWay, IsAfterEffect, IsEffect}
-
-abbrev pub Includes : List Position → List Position → Type 0
-Includes xs ys = (x : Position) → Contains xs x → Contains ys x
+use Rattle.stamp_sets.specs.inner.Effect.{IsAfterEffect, IsEffect, IsLeftOut}
+use Rattle.stamp_sets.specs.inner.Start.{Includes, StartsWith}
 
 abbrev pub AreDifferent : List Position → Type 0
 AreDifferent xs = AllPairs (λ (p q : Position). p ≢ q) xs
@@ -25,46 +23,48 @@ pub record Adds (old new : List Position) (p : Position) : Type 0 where
   pub different : AreDifferent old → AreDifferent new
 
 -- what comes of the lane's call in this position is one of these
-pub record ComesAmong {S : Type 0} (o : Judged S) (table : List (Option OpenCall)) (p : Position) (lane : ℕ)
-    (next : List Position) : Type 0 where
+pub record ComesAmong {S : Type 0} (o : Judged S) (table : List (Option OpenCall)) (awaited : ℕ) (p : Position)
+    (lane : ℕ) (next : List Position) : Type 0 where
   pub position : Position
   pub among : Contains next position
-  pub after : IsAfterEffect o table p lane position
+  pub after : IsAfterEffect o table awaited p lane position
 
--- the lane's call, if it is open and not in effect, has taken effect in one of these; or no effect was found; or
--- it gives
--- way
-pub record IsTried {S : Type 0} (o : Judged S) (table : List (Option OpenCall)) (p : Position) (lane : ℕ)
-    (next : List Position) : Type 0 where
+-- the lane's call, if it is open and not in effect, has taken effect in one of these; or no effect was found; or it is
+-- not awaited and left out
+pub record IsTried {S : Type 0} (o : Judged S) (table : List (Option OpenCall)) (awaited : ℕ) (p : Position)
+    (lane : ℕ) (next : List Position) : Type 0 where
   pub tried : (begun : OpenCall) → open_at table lane ≡ Some begun → bit_at p.in_effect lane ≡ 0 →
-      ComesAmong o table p lane next ⊎ (IsEffect o p.state begun None ⊎ GivesWay o table p.in_effect lane begun)
+      ComesAmong o table awaited p lane next ⊎
+      (IsEffect o p.state begun None ⊎ ((lane ≢ awaited) × IsLeftOut o table awaited p.in_effect lane begun))
 
 -- it comes of the position by the call of some lane
-pub record FollowsIt {S : Type 0} (o : Judged S) (table : List (Option OpenCall)) (p q : Position) : Type 0 where
+pub record FollowsIt {S : Type 0} (o : Judged S) (table : List (Option OpenCall)) (awaited : ℕ) (p q : Position) : Type
+    0 where
   pub lane : ℕ
   pub within : lane < 64
-  pub after : IsAfterEffect o table p lane q
+  pub after : IsAfterEffect o table awaited p lane q
 
 -- what follows a position is added: by the call of each of these lanes, and by no other
-pub record Expands {S : Type 0} (o : Judged S) (table : List (Option OpenCall)) (p : Position) (Lane : ℕ → Type 0)
-    (old new : List Position) : Type 0 where
+pub record Expands {S : Type 0} (o : Judged S) (table : List (Option OpenCall)) (awaited : ℕ) (p : Position)
+    (Lane : ℕ → Type 0) (old new : List Position) : Type 0 where
   pub grows : Includes old new
-  pub only : (x : Position) → Contains new x → Contains old x ⊎ FollowsIt o table p x
+  pub only : (x : Position) → Contains new x → Contains old x ⊎ FollowsIt o table awaited p x
   pub different : AreDifferent old → AreDifferent new
-  pub whole : (lane : ℕ) → Lane lane → IsTried o table p lane new
+  pub whole : (lane : ℕ) → Lane lane → IsTried o table awaited p lane new
 
 -- it follows one of these
-pub record FollowsOne {S : Type 0} (o : Judged S) (table : List (Option OpenCall)) (layer : List Position)
-    (x : Position) : Type 0 where
+pub record FollowsOne {S : Type 0} (o : Judged S) (table : List (Option OpenCall)) (awaited : ℕ)
+    (layer : List Position) (x : Position) : Type 0 where
   pub from : Position
   pub among : Contains layer from
-  pub follows : FollowsIt o table from x
+  pub follows : FollowsIt o table awaited from x
 
 -- the call of this lane is in effect in the first position, and the other is the first without it
 pub record IsReturnedFrom (lane : ℕ) (p q : Position) : Type 0 where
   pub taken : bit_at p.in_effect lane ≡ 1
   pub state : q.state ≡ p.state
   pub clears : SetsBit p.in_effect q.in_effect lane 0
+  pub free : q.free ≡ p.free
 
 -- so it is in one of these
 pub record ReturnsFromOne (lane : ℕ) (layer : List Position) (x : Position) : Type 0 where
@@ -88,7 +88,7 @@ pub record ReturnsTo (lane : ℕ) (p : Position) (done : List Position) : Type 0
 pub record IsExpanded {S : Type 0} (o : Judged S) (table : List (Option OpenCall)) (lane : ℕ) (p : Position)
     (next : List Position) : Type 0 where
   pub free : bit_at p.in_effect lane ≡ 0
-  pub whole : (u : ℕ) → u < 64 → IsTried o table p u next
+  pub whole : (u : ℕ) → u < 64 → IsTried o table lane p u next
 
 -- a position was looked at
 abbrev pub IsLookedAt : {S : Type 0} → Judged S → List (Option OpenCall) → ℕ → Position → List Position →
@@ -102,7 +102,7 @@ pub record LooksAt {S : Type 0} (o : Judged S) (table : List (Option OpenCall)) 
   pub done_grows : Includes done then_done
   pub next_grows : Includes next then_next
   pub done_only : (x : Position) → Contains then_done x → Contains done x ⊎ ReturnsFromOne lane layer x
-  pub next_only : (x : Position) → Contains then_next x → Contains next x ⊎ FollowsOne o table layer x
+  pub next_only : (x : Position) → Contains then_next x → Contains next x ⊎ FollowsOne o table lane layer x
   pub different : AreDifferent next → AreDifferent then_next
   pub each : (x : Position) → Contains layer x → IsLookedAt o table lane x then_done then_next
 
@@ -115,31 +115,47 @@ pub record LooksThrough {S : Type 0} (o : Judged S) (table : List (Option OpenCa
   pub many : all ≡ false → most < length then_next
 
 -- it is come to from one of these by effects
-pub data IsComeTo {S : Type 0} (o : Judged S) (table : List (Option OpenCall)) (start : List Position) :
+pub data IsComeTo {S : Type 0} (o : Judged S) (table : List (Option OpenCall)) (awaited : ℕ) (start : List Position) :
     Position → Type 0 where
-  from_start : (p : Position) → Contains start p → IsComeTo o table start p
-  by_effect : (p q : Position) → IsComeTo o table start p → FollowsIt o table p q → IsComeTo o table start q
+  from_start : (p : Position) → Contains start p → IsComeTo o table awaited start p
+  by_effect : (p q : Position) → IsComeTo o table awaited start p → FollowsIt o table awaited p q →
+      IsComeTo o table awaited start q
 
 -- these positions were looked at on the way from the first to those that are done, and this layer is next
 pub record IsUnderWay {S : Type 0} (o : Judged S) (table : List (Option OpenCall)) (lane : ℕ)
     (start done layer : List Position) (depth : ℕ) : Type 0 where
   pub seen : List Position
   pub starts : Includes start (seen ++ layer)
-  pub come : (x : Position) → Contains (seen ++ layer) x → IsComeTo o table start x
+  pub come : (x : Position) → Contains (seen ++ layer) x → IsComeTo o table lane start x
   pub each : (x : Position) → Contains seen x → IsLookedAt o table lane x done (seen ++ layer)
   pub done_only : (x : Position) → Contains done x → ReturnsFromOne lane seen x
   pub more : All (λ (p : Position). depth ≤ lanes_in p.in_effect) layer
 
 -- more different positions than so many follow these
-pub record MoreFollow {S : Type 0} (o : Judged S) (table : List (Option OpenCall)) (start : List Position) (most : ℕ) :
-    Type 0 where
+pub record MoreFollow {S : Type 0} (o : Judged S) (table : List (Option OpenCall)) (awaited : ℕ) (start : List Position)
+    (most : ℕ) : Type 0 where
   pub many : List Position
   pub more : most < length many
   pub different : AreDifferent many
-  pub come : (x : Position) → Contains many x → IsComeTo o table start x
+  pub come : (x : Position) → Contains many x → IsComeTo o table awaited start x
 
--- the call of this lane has returned, from the one list to the other; or too many positions follow the first
+-- it has returned, by layers from the first one
+pub record ReturnsThrough {S : Type 0} (o : Judged S) (table : List (Option OpenCall)) (lane : ℕ)
+    (old new : List Position) : Type 0 where
+  pub first : List Position
+  pub starts : StartsWith o table lane old first
+  pub under : IsUnderWay o table lane first new [] 0
+
+-- too many positions follow the first layer
+pub record TooManyFollow {S : Type 0} (o : Judged S) (table : List (Option OpenCall)) (lane most : ℕ)
+    (old : List Position) : Type 0 where
+  pub first : List Position
+  pub starts : StartsWith o table lane old first
+  pub more : MoreFollow o table lane first most
+
+-- the call of this lane has returned, from the one list to the other: it was in effect in each, or did so by layers; or
+-- too many positions follow
 abbrev pub IsAfterReturn : {S : Type 0} → Judged S → List (Option OpenCall) → ℕ → ℕ → List Position → List Position →
     Bool → Type 0
-IsAfterReturn o table lane most old new true = IsUnderWay o table lane old new [] 0
-IsAfterReturn o table lane most old new false = MoreFollow o table old most
+IsAfterReturn o table lane most old new true = AreReturned lane old new ⊎ ReturnsThrough o table lane old new
+IsAfterReturn o table lane most old new false = TooManyFollow o table lane most old

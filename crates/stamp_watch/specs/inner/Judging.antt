@@ -16,7 +16,7 @@ use Rattle.stamp_watch.specs.declared.verdict.Verdict.{Verdict}
 use Rattle.stamp_watch.specs.declared.verdict.Verdict.TheVariants as verdict
 use Rattle.stamp_sets.specs.declared.watch.Watch.{Watch}
 use Rattle.stamp_watch.specs.AsObserved.{ending_of}
-use Rattle.stamp_watch.specs.Foretold.{ends_as}
+use Rattle.stamp_watch.specs.inner.Foretold.{ends_as}
 use Rattle.stamp_watch.specs.Judging.{IsJudging}
 use Rattle.stamp_watch.specs.Verdict.{AreTooMany, IsInFormUpTo, is_lock_reply}
 use Rattle.stamp_sets.specs.Lanes.{SetsBit}

@@ -1,10 +1,10 @@
-use Rattle.stamp_sets.specs.Judged.{lock}
-use Rattle.stamp_sets.specs.inner.Effect.{Settles}
+use Rattle.stamp_sets.specs.inner.Objects.{judged}
+use Rattle.stamp_sets.proofs.Effects.{SettledSoFar}
 use Rattle.stamp_sets.specs.inner.Lanes.{lanes_in}
 use Rattle.stamp_sets.proofs.effect.settled.Given as goal
 
 abbrev pub invariant-loop-rest : goal.invariant-loop-rest
-invariant-loop-rest l = Settles (lock l.limits) l.table l.fn.position l.settled
+invariant-loop-rest l = SettledSoFar (judged l.object) l.table l.lanes l.rest l.fn.position l.settled
 
 abbrev pub decreases-loop-rest : goal.decreases-loop-rest
 decreases-loop-rest l = lanes_in l.rest

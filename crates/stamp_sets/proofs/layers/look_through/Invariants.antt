@@ -1,8 +1,9 @@
 use Rattle.std.specs.Prelude.{take}
-use Rattle.stamp_sets.specs.Judged.{lock}
+use Rattle.stamp_sets.specs.inner.Objects.{judged}
 use Rattle.stamp_sets.specs.inner.Layer.{LooksAt}
 use Rattle.stamp_sets.proofs.layers.look_through.Given as goal
 
 abbrev pub invariant-loop-position : goal.invariant-loop-position
-invariant-loop-position l = LooksAt (lock l.limits) l.table l.lane (take l.position-index l.layer) l.initial.done.items
+invariant-loop-position l = LooksAt (judged l.object) l.table l.lane
+    (take l.position-index l.layer) l.initial.done.items
     l.done.items l.initial.next.items l.next.items

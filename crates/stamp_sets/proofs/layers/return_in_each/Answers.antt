@@ -13,14 +13,14 @@ loop-position-init c = returned_none c.args.lane c.deref_mut-position-items.resu
 
 pub returned_from-requires-clause-taken : goal.returned_from-requires-clause-taken
 returned_from-requires-clause-taken c = taken_rest c.args.lane c.loop-position.position-index
-    c.deref_mut-position-items.result.now c.loop-position.position-items (record { state = 0; in_effect = 0 })
+    c.deref_mut-position-items.result.now c.loop-position.position-items (record { state = 0; in_effect = 0; free = 0 })
     c.loop-position-test.true c.loop-position.invariant
     (subst (λ (xs : List Position). All (λ (p : Position). bit_at p.in_effect c.args.lane ≡ 1) xs)
     (sym c.deref_mut-position-items.ensures.value) c.requires.taken)
 
 pub loop-position-preserved : goal.loop-position-preserved
 loop-position-preserved c = returned_more c.args.lane c.loop-position.position-index
-    c.deref_mut-position-items.result.now c.loop-position.position-items (record { state = 0; in_effect = 0 })
+    c.deref_mut-position-items.result.now c.loop-position.position-items (record { state = 0; in_effect = 0; free = 0 })
     c.returned_from.result (omega (arith, c.loop-position.auto.position-items, c.loop-position-test.true))
     c.returned_from.ensures c.loop-position.invariant
 

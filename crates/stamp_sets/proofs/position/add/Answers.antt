@@ -3,7 +3,7 @@ use Rattle.std.specs.List.{Contains}
 use Rattle.std.proofs.lemmas.Bool.{false≢true}
 use Rattle.stamp_sets.specs.declared.position.Position.{Position}
 use Rattle.stamp_sets.proofs.Expanding.{adds_none, adds_one}
-use Rattle.stamp_sets.proofs.layers.add.Goals as goal
+use Rattle.stamp_sets.proofs.position.add.Goals as goal
 
 pub returns-in_ok-push : goal.returns-in_ok-push
 returns-in_ok-push c = adds_one c.args.list.now.items _ c.args.position c.in_ok-push.ensures.items

@@ -1,0 +1,9 @@
+use Rattle.std.proofs.Common.{◌≡◌, []}
+use Rattle.std.specs.Prelude.{take}
+use Rattle.stamp_sets.specs.inner.Objects.{judged}
+use Rattle.stamp_sets.specs.inner.Start.{StartsWith}
+use Rattle.stamp_sets.proofs.start.take_up_each.Given as goal
+
+abbrev pub invariant-loop-position : goal.invariant-loop-position
+invariant-loop-position l = l.initial.first.items ≡ [] →
+    StartsWith (judged l.object) l.table l.lane (take l.position-index l.positions) l.first.items
