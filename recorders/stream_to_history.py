@@ -1,4 +1,4 @@
-"""Prints a recorded stream of a lock's events as an observed history, as `stamped_explain` reads it.
+"""Prints a recorded stream of events as an observed history, as `stamped_explain` reads it.
 
     stream_to_history.py < run.events > run.json
 
@@ -6,6 +6,10 @@ A header of 16 bytes: `stmp`, the form's number (1), the layout (1 or 2), the re
 bytes). Then 16 bytes an event, in their order: its kind, its lane (0 to 63), 6 bytes that are zero, and a number of 8
 bytes. Numbers begin with their lowest byte. Kinds 0 to 16 begin a call on the lane, 32 to 37 return it, and 48
 withdraws it (CALLS and REPLIES below). The number is a call's stamp, a stamp or a count that is returned, else 0.
+
+Form 2 has guarded data, a record: behind the header its width (1 byte, 1 to 16 words) and 7 bytes that are zero. There
+kinds 17 to 19 begin a `get`, `put` and `put_if`, and 38 returns a content. Behind an event stand its words, 8 bytes
+each: of a `put` one content, of a `put_if` the expected one and the new one, and of a content that is returned itself.
 
 A call's positions are the numbers of its events, from 0 on, and its thread is the lane. Entries stand in the order in
 which their calls began. Withdrawn calls are left out; a call that has not ended is under way.
@@ -20,30 +24,48 @@ CALLS = ("try_write", "try_read", "write_lock", "read_lock", "optimistic", "vali
          "unlock", "to_write", "to_read", "to_optimistic", "try_unlock_write", "try_unlock_read", "is_write_locked",
          "is_read_locked", "read_count")
 WITH_STAMP = CALLS[5:12]
-STAMP, COUNT, WITHDRAWN = 32, 37, 48
+RECORD_CALLS = {17: "get", 18: "put", 19: "put_if"}
+STAMP, COUNT, CONTENT, WITHDRAWN = 32, 37, 38, 48
 REPLIES = {33: "yes", 34: "no", 35: "done", 36: "mismatch"}
-HEADER, EVENT = struct.Struct("<4sBBHQ"), struct.Struct("<BB6sQ")
+# How many contents stand behind an event of form 2; behind others none.
+CONTENTS = {18: 1, 19: 2, CONTENT: 1}
+OF_RECORD = (*RECORD_CALLS, CONTENT)
+HEADER, WIDTH, EVENT = struct.Struct("<4sBBHQ"), struct.Struct("<B7s"), struct.Struct("<BB6sQ")
+MOST_WIDTH = 16
+
+
+def must_have(data, at, size):
+    if len(data) < at + size:
+        raise ValueError(f"cut after {len(data) - at} of {size} bytes")
+
+
+def read_width(data):
+    must_have(data, 0, HEADER.size + WIDTH.size)
+    width, zeros = WIDTH.unpack_from(data, HEADER.size)
+    if not 1 <= width <= MOST_WIDTH:
+        raise ValueError(f"width {width}")
+    if any(zeros):
+        raise ValueError("bytes 17 to 23 are not zero")
+    return width
 
 
 def read_header(data):
     """The fields of a history but its entries."""
-    if len(data) < HEADER.size:
-        raise ValueError("header: cut after %d of 16 bytes" % len(data))
+    must_have(data, 0, HEADER.size)
     letters, form, layout, readers, versions = HEADER.unpack_from(data)
     if letters != b"stmp":
-        raise ValueError("header: not a stream")
-    if form != 1 or layout not in (1, 2):
-        raise ValueError(f"header: form {form}, layout {layout}")
+        raise ValueError("not a stream")
+    if form not in (1, 2) or layout not in (1, 2):
+        raise ValueError(f"form {form}, layout {layout}")
     fields = {"format": 1} if layout == 1 else {"format": 2, "layout": 2}
-    return {**fields, "readers": readers, "versions": versions, "width": 0}
+    return {**fields, "readers": readers, "versions": versions, "width": read_width(data) if form == 2 else 0}
 
 
-def read_event(data, at):
-    """The kind, the lane and the number of the event at this byte."""
-    if len(data) < at + EVENT.size:
-        raise ValueError("cut after %d of 16 bytes" % (len(data) - at))
+def read_event(data, at, width):
+    """The kind, the lane, the number and the contents of the event at this byte."""
+    must_have(data, at, EVENT.size)
     kind, lane, zeros, number = EVENT.unpack_from(data, at)
-    if kind >= len(CALLS) and kind not in (STAMP, COUNT, WITHDRAWN, *REPLIES):
+    if kind >= len(CALLS) and kind not in (STAMP, COUNT, WITHDRAWN, *REPLIES, *(OF_RECORD if width else ())):
         raise ValueError(f"unknown kind {kind}")
     if lane > 63:
         raise ValueError(f"lane {lane} is above 63")
@@ -51,16 +73,31 @@ def read_event(data, at):
         raise ValueError("bytes 2 to 7 are not zero")
     if number and kind not in (STAMP, COUNT) and (kind >= len(CALLS) or CALLS[kind] not in WITH_STAMP):
         raise ValueError(f"kind {kind} has the number {number}")
-    return kind, lane, number
+    many = width * CONTENTS.get(kind, 0)
+    must_have(data, at, EVENT.size + 8 * many)
+    words = struct.unpack_from(f"<{many}Q", data, at + EVENT.size)
+    return kind, lane, number, [[*words[i:i + width]] for i in range(0, many, width or 1)]
 
 
-def add_event(entries, lanes, position, kind, lane, number):
+def call_of(kind, number, contents):
+    if kind in RECORD_CALLS:
+        return [RECORD_CALLS[kind], *contents]
+    return [CALLS[kind]] + [number] * (CALLS[kind] in WITH_STAMP)
+
+
+def reply_of(kind, number, contents):
+    if kind == STAMP:
+        return number
+    return {"count": number} if kind == COUNT else contents[0] if kind == CONTENT else REPLIES[kind]
+
+
+def add_event(entries, lanes, position, event):
     """Adds the event to its entry; `lanes` has the calls under way."""
-    if kind < len(CALLS):
+    kind, lane, *told = event
+    if kind < STAMP:
         if lane in lanes:
             raise ValueError(f"a call begins in a call of lane {lane}")
-        call = [CALLS[kind]] + [number] * (CALLS[kind] in WITH_STAMP)
-        lanes[lane] = entries[position] = {"call": call, "first": position, "thread": lane}
+        lanes[lane] = entries[position] = {"call": call_of(kind, *told), "first": position, "thread": lane}
         return
     if lane not in lanes:
         raise ValueError(f"no call of lane {lane} is open")
@@ -68,17 +105,21 @@ def add_event(entries, lanes, position, kind, lane, number):
     if kind == WITHDRAWN:
         del entries[entry["first"]]
     else:
-        entry["last"] = position
-        entry["reply"] = number if kind == STAMP else {"count": number} if kind == COUNT else REPLIES[kind]
+        entry.update(last=position, reply=reply_of(kind, *told))
 
 
 def history_of(data):
-    fields, entries, lanes = read_header(data), {}, {}
-    for position, at in enumerate(range(HEADER.size, len(data), EVENT.size)):
-        try:
-            add_event(entries, lanes, position, *read_event(data, at))
-        except ValueError as wrong:
-            raise ValueError(f"event {position}: {wrong}") from None
+    entries, lanes, position = {}, {}, -1
+    try:
+        fields = read_header(data)
+        at = HEADER.size + (WIDTH.size if fields["width"] else 0)
+        while at < len(data):
+            position += 1
+            event = read_event(data, at, fields["width"])
+            add_event(entries, lanes, position, event)
+            at += EVENT.size + 8 * sum(map(len, event[3]))
+    except ValueError as wrong:
+        raise ValueError(f"{'header' if position < 0 else f'event {position}'}: {wrong}") from None
     return {"entries": [*entries.values()], **fields}
 
 

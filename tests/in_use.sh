@@ -73,13 +73,14 @@ try small.py python3 -B tests/explain/small.py "$room/stamped_explain" "$room/st
 try wrong_updates.py python3 -B tests/explain/wrong_updates.py "$room/stamped_explain" "$room/stamped"
 try round_trips.py python3 -B tests/watch/round_trips.py "$room/stamped_explain"
 try watch.py python3 -B tests/watch/watch.py "$room/stamped_watch" "$room/stamped_explain"
+try data.py python3 -B tests/watch/data.py "$room/stamped_watch"
 try c_streams.py python3 -B tests/watch/c_streams.py \
-    "$room/stamped_explain" "$room/archive/crates/stamped_c/out/libstamped_c.a"
+    "$room/stamped_explain" "$room/archive/crates/stamped_c/out/libstamped_c.a" "$room/stamped_watch"
 try beside.py python3 -B tests/watch/beside.py "$room/stamped_watch" "$room/stamped_explain"
 try late_bugs.py python3 -B tests/watch/late_bugs.py "$room/stamped_watch" "$room/stamped_explain"
 if command -v javac > /dev/null; then
     try jdk.py python3 -B tests/explain/jdk.py "$room/stamped_explain" "$room/stamped"
-    try java_streams.py python3 -B tests/watch/java_streams.py "$room/stamped_explain"
+    try java_streams.py python3 -B tests/watch/java_streams.py "$room/stamped_explain" "$room/stamped_watch"
     try java_recorder.py python3 -B tests/watch/java_recorder.py "$room/stamped_explain"
     try live.py python3 -B tests/watch/live.py "$room/stamped_watch"
 fi

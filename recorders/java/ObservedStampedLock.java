@@ -45,7 +45,8 @@ import java.util.concurrent.locks.StampedLock;
  * </ul>
  *
  * <p>The calls show whether the lock answered rightly. Whether the program used it rightly is shown by
- * {@link #get} and {@link #put}, around its reads and writes of what the lock guards.
+ * {@link #get} and {@link #put}, around its reads and writes of what the lock guards. A stream has these if it was
+ * made with their number of words.
  *
  * <p>Any number of threads may make calls. A call has one of 64 <em>lanes</em> while it goes on, and a thread
  * keeps to the lane of its last call while that is free. If no lane is free, a call waits for one before it
@@ -110,7 +111,16 @@ public class ObservedStampedLock extends StampedLock implements Closeable {
      * closed}. The channel is written by a thread of its own, and closed at the end of the stream.
      */
     public ObservedStampedLock(WritableByteChannel out) {
-        this(new EventRing(out));
+        this(new EventRing(0, out));
+    }
+
+    /**
+     * A new lock as with a channel alone, whose stream has gets and puts besides. All of these have so many words.
+     *
+     * @throws IllegalArgumentException if they are none or over 16
+     */
+    public ObservedStampedLock(WritableByteChannel out, int width) {
+        this(new EventRing(Recording.checked(width), out));
     }
 
     /**
@@ -120,12 +130,26 @@ public class ObservedStampedLock extends StampedLock implements Closeable {
      * @throws IOException if the file can't be opened
      */
     public ObservedStampedLock(Path file) throws IOException {
-        this(FileChannel.open(file, StandardOpenOption.CREATE, StandardOpenOption.WRITE,
-                StandardOpenOption.TRUNCATE_EXISTING));
+        this(new EventRing(0, opened(file)));
+    }
+
+    /**
+     * A new lock as with a file alone, whose stream has gets and puts besides. All of these have so many words.
+     *
+     * @throws IllegalArgumentException if they are none or over 16; the file stays as it was then
+     * @throws IOException if the file can't be opened
+     */
+    public ObservedStampedLock(Path file, int width) throws IOException {
+        this(new EventRing(Recording.checked(width), opened(file)));
     }
 
     private ObservedStampedLock(Recording recording) {
         this.recording = recording;
+    }
+
+    private static FileChannel opened(Path file) throws IOException {
+        return FileChannel.open(file, StandardOpenOption.CREATE, StandardOpenOption.WRITE,
+                StandardOpenOption.TRUNCATE_EXISTING);
     }
 
     /**
@@ -294,10 +318,12 @@ public class ObservedStampedLock extends StampedLock implements Closeable {
      * what the program takes for words that stood there together at some moment of the call. If they didn't, no order
      * explains the run. So a reading that forgets to validate is found.
      *
-     * <p>A reading that returns null or throws isn't recorded. Nor is one beside 20 others, nor any in a stream.
+     * <p>A reading that returns null or throws isn't recorded. Nor is one beside 20 others, nor any in a stream without
+     * a width.
      *
      * @return what the reading returned
-     * @throws IllegalArgumentException if it read no words or over 16, or more or fewer than other gets and puts have
+     * @throws IllegalArgumentException if it read no words or over 16, or more or fewer than other gets and puts have,
+     *         or than the stream's width
      * @throws E what the reading throws
      */
     public <E extends Exception> long[] get(Reading<E> reading) throws E {
@@ -307,7 +333,7 @@ public class ObservedStampedLock extends StampedLock implements Closeable {
         try {
             long[] words = reading.read();
             if (words != null && recording.keepsWords()) {
-                tapes().checkWidth(words.length);
+                recording.checkWidth(words.length);
                 kept = words.clone();
                 reply = Recording.WORDS;
             }
@@ -323,15 +349,15 @@ public class ObservedStampedLock extends StampedLock implements Closeable {
      * aren't, put them before all other calls. If the writing throws, it must have changed nothing.
      *
      * <p>The writing may make calls of the lock, but it need not. Beside 24 gets and puts, four of which are puts, it
-     * can't be recorded: then recording ends. Nothing is recorded in a stream.
+     * can't be recorded: then recording ends. Nothing is recorded in a stream without a width.
      *
      * @throws IllegalArgumentException if there are no words or over 16, or more or fewer than other gets and puts
-     *         have; nothing was written then
+     *         have, or than the stream's width; nothing was written then
      * @throws E what the writing throws
      */
     public <E extends Exception> void put(Writing<E> writing, long... words) throws E {
         if (recording.keepsWords()) {
-            tapes().checkWidth(words.length);
+            recording.checkWidth(words.length);
         }
         int lane = begin(Recording.PUT, 0, NOT_AT_ALL, words.clone());
         int reply = Recording.WITHDRAWN;

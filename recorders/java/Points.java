@@ -2,12 +2,13 @@ import java.io.IOException;
 import java.io.OutputStreamWriter;
 import java.io.Writer;
 import java.nio.charset.StandardCharsets;
+import java.nio.file.Path;
 
 /**
- * An example of guarded words: {@code Points ROUNDS [forgets]}. Four threads ask where a point is, and every fourth
- * time they move it. Then the observed history is written to standard output. Both coordinates are recorded as the
- * words of calls {@code get} and {@code put}, so with {@code forgets}, where a read is not validated, nearly each run
- * has a get with a reply that no order explains: the coordinates of two places.
+ * An example of guarded words: {@code Points ROUNDS [forgets] [FILE]}. Four threads ask where a point is, and every
+ * fourth time they move it. Then the observed history is written to standard output, or meanwhile a stream to the file.
+ * Both coordinates are recorded as the words of calls {@code get} and {@code put}, so with {@code forgets}, where a
+ * read is not validated, nearly each run has a get with a reply that no order explains: the coordinates of two places.
  */
 public final class Points {
     private final ObservedStampedLock lock;
@@ -75,10 +76,17 @@ public final class Points {
     }
 
     public static void main(String[] words) throws InterruptedException, IOException {
-        ObservedStampedLock lock = new ObservedStampedLock().withDelays(1);
-        new Points(lock, words.length > 1).run(Integer.parseInt(words[0]));
-        try (Writer out = new OutputStreamWriter(System.out, StandardCharsets.US_ASCII)) {
-            lock.writeTo(out);
+        boolean forgets = words.length > 1 && words[1].equals("forgets");
+        int fileAt = forgets ? 2 : 1;
+        boolean isStreamed = words.length > fileAt;
+        ObservedStampedLock lock =
+                isStreamed ? new ObservedStampedLock(Path.of(words[fileAt]), 2) : new ObservedStampedLock();
+        new Points(lock.withDelays(1), forgets).run(Integer.parseInt(words[0]));
+        lock.close();
+        if (!isStreamed) {
+            try (Writer out = new OutputStreamWriter(System.out, StandardCharsets.US_ASCII)) {
+                lock.writeTo(out);
+            }
         }
     }
 }

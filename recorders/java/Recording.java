@@ -24,6 +24,8 @@ abstract class Recording implements Closeable {
     /** What is recorded of the lock's limits. */
     static final int LAYOUT = 1, READERS = 127;
     static final long VERSIONS = 36028797018963966L;
+    /** How many guarded words there may be. */
+    private static final int MOST_WORDS = 16;
 
     /** The counter of tickets lies in the middle of this, alone in its cache lines. */
     private static final int MIDDLE = 16;
@@ -42,6 +44,25 @@ abstract class Recording implements Closeable {
 
     /** Whether gets and puts are recorded. */
     abstract boolean keepsWords();
+
+    /**
+     * Makes sure that gets and puts may have so many words.
+     *
+     * @throws IllegalArgumentException if not
+     */
+    abstract void checkWidth(int words);
+
+    /**
+     * Returns how many words these are.
+     *
+     * @throws IllegalArgumentException if they are none or over 16
+     */
+    static int checked(int words) {
+        if (words < 1 || words > MOST_WORDS) {
+            throw new IllegalArgumentException(words + " words, and not 1 to " + MOST_WORDS);
+        }
+        return words;
+    }
 
     /** Keeps an event whose ticket is below the end. The words are null, but of a put or a get's return. */
     abstract void keep(long ticket, int kind, int lane, long number, long[] words);

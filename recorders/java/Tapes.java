@@ -11,7 +11,6 @@ import java.util.concurrent.atomic.AtomicReferenceArray;
  */
 final class Tapes extends Recording {
     private static final int EVENTS = 1024;
-    private static final int MOST_WORDS = 16;
     /** In place of the ticket at which a call ends. */
     private static final long UNDER_WAY = -1;
     private static final String[] NAMES = {"try_write", "try_read", "write_lock", "read_lock", "optimistic",
@@ -110,16 +109,10 @@ final class Tapes extends Recording {
         return true;
     }
 
-    /**
-     * Makes sure that gets and puts may have so many words.
-     *
-     * @throws IllegalArgumentException if they are none or over 16, or if there were others with more or fewer
-     */
+    /** There may be 1 to 16, and as many as there were before. */
+    @Override
     void checkWidth(int words) {
-        if (words < 1 || words > MOST_WORDS) {
-            throw new IllegalArgumentException(words + " words, and not 1 to " + MOST_WORDS);
-        }
-        if (!width.compareAndSet(0, words) && width.get() != words) {
+        if (!width.compareAndSet(0, checked(words)) && width.get() != words) {
             throw new IllegalArgumentException(words + " words, and not " + width.get() + " as before");
         }
     }

@@ -19,7 +19,7 @@ ELSEWHERE = {
     "compare_exchange_strong", "perf", "count_rs", "unchecked",
     "Fields", "MODULE",
     "RecordedStampedLock", "recorded_handles",
-    "e400", "races", "runners",
+    "e400", "races", "runners", "overflow_cast",
 }
 
 

@@ -16,6 +16,7 @@ import java.util.concurrent.locks.StampedLock;
  * <li>{@code convert}: conversions of all kinds.
  * <li>{@code waits}: a quarter of the threads hold write mode for long, one reads, one tries to, and one asks.
  * <li>{@code stampless}: the views, which give no stamps, and questions.
+ * <li>{@code guarded}: gets and puts of two words, by up to 16 threads.
  * <li>{@code wrong}: as {@code read}, of a lock by which every optimistic read is valid. At the end one is that a write
  *     came in between, and then the run waits until its standard input ends.
  * </ul>
@@ -54,6 +55,7 @@ public final class Loads {
                 case "convert" -> convert(random);
                 case "waits" -> waits(random, thread % 4);
                 case "stampless" -> stampless(random);
+                case "guarded" -> guarded(random);
                 default -> throw new IllegalArgumentException(load);
             };
         }
@@ -183,6 +185,41 @@ public final class Loads {
         };
     }
 
+    private int guarded(Random random) {
+        if (random.nextInt(8) == 0) {
+            long stamp = lock.writeLock();
+            lock.put(this::change, one + 1, other - 1);
+            lock.unlockWrite(stamp);
+            return 3;
+        }
+        int[] calls = {1};
+        lock.get(() -> {
+            long[] words = new long[2];
+            calls[0] += readInto(words);
+            return words;
+        });
+        return calls[0];
+    }
+
+    /** Reads both words. Returns how many calls it made. */
+    private int readInto(long[] words) {
+        long stamp = lock.tryOptimisticRead();
+        words[0] = one;
+        words[1] = other;
+        if (lock.validate(stamp)) {
+            return 2;
+        }
+        stamp = lock.readLock();
+        words[0] = one;
+        words[1] = other;
+        lock.unlockRead(stamp);
+        return 4;
+    }
+
+    private static ObservedStampedLock newLock(String load, Path file) throws IOException {
+        return load.equals("guarded") ? new ObservedStampedLock(file, 2) : new ObservedStampedLock(file);
+    }
+
     private static int hold(Lock view, int rounds) {
         view.lock();
         spin(rounds);
@@ -208,7 +245,7 @@ public final class Loads {
         boolean isTimed = words[2].endsWith("s");
         long many = Long.parseLong(isTimed ? words[2].substring(0, words[2].length() - 1) : words[2]);
         long end = System.nanoTime() + (isTimed ? many * 1_000_000_000 : Long.MAX_VALUE / 2);
-        try (ObservedStampedLock lock = new ObservedStampedLock(Path.of(words[3]))) {
+        try (ObservedStampedLock lock = newLock(load, Path.of(words[3]))) {
             if (load.equals("wrong")) {
                 lock.withLock(new Validating());
             }

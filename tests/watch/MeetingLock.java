@@ -1,3 +1,5 @@
+import java.io.IOException;
+import java.nio.file.Path;
 import java.util.concurrent.atomic.AtomicReference;
 
 /**
@@ -8,6 +10,15 @@ final class MeetingLock extends ObservedStampedLock {
     private static final long serialVersionUID = 1;
     private final transient AtomicReference<Thread> reader = new AtomicReference<>();
     private transient volatile Runnable meanwhile;
+
+    /** A lock that is recorded in memory. */
+    MeetingLock() {
+    }
+
+    /** A lock that is recorded as a stream to the file, with gets and puts of so many words. */
+    MeetingLock(Path file, int width) throws IOException {
+        super(file, width);
+    }
 
     /** Sets what another thread does meanwhile. */
     void meet(Runnable other) {

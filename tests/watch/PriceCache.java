@@ -2,6 +2,7 @@ import java.io.IOException;
 import java.io.OutputStreamWriter;
 import java.io.Writer;
 import java.nio.charset.StandardCharsets;
+import java.nio.file.Path;
 import java.util.concurrent.CountDownLatch;
 import java.util.concurrent.ExecutorService;
 import java.util.concurrent.Executors;
@@ -12,9 +13,9 @@ import java.util.concurrent.locks.StampedLock;
 
 /**
  * A cache of a quote that is slow to fetch, asked for by short-lived threads of pools, as a user of the recorder has
- * it: {@code PriceCache right|upgrade|reader}. With {@code upgrade} its lock lets go of read mode before it takes
- * write mode. With {@code reader} a reader forgets to validate. Threads meet where the bugs show. Prints how many
- * threads there were, and the observed history.
+ * it: {@code PriceCache right|upgrade|reader [FILE]}. With {@code upgrade} its lock lets go of read mode before it
+ * takes write mode. With {@code reader} a reader forgets to validate. Threads meet where the bugs show. Prints how many
+ * threads there were, and the observed history, unless there is a file, for the run's stream.
  */
 public final class PriceCache {
     private static final int POOLS = 12;
@@ -183,7 +184,8 @@ public final class PriceCache {
     }
 
     public static void main(String[] words) throws InterruptedException, IOException {
-        MeetingLock lock = new MeetingLock();
+        boolean isStreamed = words.length > 1;
+        MeetingLock lock = isStreamed ? new MeetingLock(Path.of(words[1]), 3) : new MeetingLock();
         lock.withDelays(1);
         PriceCache cache = new PriceCache(lock, words[0].equals("reader"));
         if (words[0].equals("upgrade")) {
@@ -193,8 +195,11 @@ public final class PriceCache {
         }
         int threads = cache.askFromPools();
         System.out.println(threads + " threads");
-        try (Writer out = new OutputStreamWriter(System.out, StandardCharsets.US_ASCII)) {
-            lock.writeTo(out);
+        lock.close();
+        if (!isStreamed) {
+            try (Writer out = new OutputStreamWriter(System.out, StandardCharsets.US_ASCII)) {
+                lock.writeTo(out);
+            }
         }
     }
 }

@@ -33,7 +33,7 @@ public final class StreamedRuns {
     }
 
     /** A channel to a file that takes so many bytes, and then throws this; or is slow. */
-    private static final class TroubledChannel implements WritableByteChannel {
+    static final class TroubledChannel implements WritableByteChannel {
         private final FileChannel file;
         private final RuntimeException thrown;
         private long left;

@@ -15,11 +15,13 @@ import json
 import os
 import random
 import shutil
+import struct
 import subprocess
 import sys
 import tempfile
 
-from streams import BEGINS, COUNT, DONE, EVENT, HEADER, MISMATCH, NO, STAMP, YES, event_at, fail, run
+from streams import (BEGINS, COUNT, DONE, EVENT, GET, HEADER, MISMATCH, NO, PUT, PUT_IF, STAMP, WIDE_HEADER, YES,
+                     event_at, fail, run, wide_events_of)
 
 sys.path[:0] = ["tests/explain", "bench/common", "recorders"]
 import brute_force  # noqa: E402 (a file of tests/explain)
@@ -31,12 +33,14 @@ import stream_to_history  # noqa: E402 (a file of recorders)
 MOST, MOST_EXPLAINED, AHEAD = 1000, 20_000, (64, 70, 90)
 LATE = collections.Counter()
 LIMITS = [(1, 1), (2, 3), (127, 1000)]
+# The words of a record: more than 0 once stamped_watch reads such streams.
+WIDTHS = (0, 0, 1, 2, 16)
 OTHER = {YES: NO, NO: YES, DONE: MISMATCH, MISMATCH: DONE}
-LOADS = ("mixed", "read", "write", "convert", "waits", "stampless")
+LOADS = ("mixed", "read", "write", "convert", "waits", "stampless", *(["guarded"] if any(WIDTHS) else []))
 
 
-def text_of(entries, limits):
-    return {"entries": entries, "format": 1, "readers": limits[0], "versions": limits[1], "width": 0}
+def text_of(entries, limits, width=0):
+    return {"entries": entries, "format": 1, "readers": limits[0], "versions": limits[1], "width": width}
 
 
 def event_of(entries, number):
@@ -94,11 +98,11 @@ def compare(watch, explain, name, history, stream):
 
 
 def compare_small(watch, explain, chance, change):
-    limits = chance.choice(LIMITS)
-    entries = brute_force.made(chance, brute_force.Model(limits, 0))
+    limits, width = chance.choice(LIMITS), chance.choice(WIDTHS)
+    entries = brute_force.made(chance, brute_force.Model(limits, width))
     for _ in range(chance.randint(1, 2) if change and entries else 0):
         brute_force.change(chance, entries)
-    history = text_of(entries, limits)
+    history = text_of(entries, limits, width)
     try:
         stream = history_to_stream.stream_of(history)
     except ValueError as wrong:
@@ -110,29 +114,41 @@ def compare_small(watch, explain, chance, change):
 
 
 def events_of(stream):
-    return [event_at(stream, number) for number in range((len(stream) - HEADER) // EVENT)]
+    """The events, with the words behind each."""
+    if stream[4] == 2:
+        return [*wide_events_of(stream)]
+    return [(*event_at(stream, number), ()) for number in range((len(stream) - HEADER) // EVENT)]
 
 
 def number_beside(chance, number, numbers):
     return chance.choice([*numbers, number + 1, number + 128, number + 256, max(0, number - 256)])
 
 
+def told_otherwise(chance, event, numbers):
+    """The event with another reply, stamp or word. Nothing if there is none in it."""
+    kind, lane, value, words = event
+    if kind in OTHER:
+        return OTHER[kind], lane, 0, ()
+    if kind == COUNT:
+        return kind, lane, value + chance.choice([1, 2]), ()
+    if kind in (STAMP, *range(5, 12)):
+        return kind, lane, number_beside(chance, value, numbers), ()
+    if words:
+        place = chance.randrange(len(words))
+        return kind, lane, 0, (*words[:place], chance.randrange(3), *words[place + 1:])
+    return None
+
+
 def with_change(chance, events):
     """The events with one change."""
     events, number = [*events], chance.randrange(len(events))
-    kind, lane, value = events[number]
+    kind, lane, *_ = events[number]
     numbers = [other[2] for other in events[max(0, number - 40):number + 40] if other[0] in (STAMP, *range(5, 12))]
     drawn = chance.random()
     if drawn < 0.4:
-        while kind not in (STAMP, COUNT, *OTHER, *range(5, 12)):
+        while not (changed_one := told_otherwise(chance, events[number], numbers)):
             number = chance.randrange(len(events))
-            kind, lane, value = events[number]
-        if kind in OTHER:
-            events[number] = OTHER[kind], lane, 0
-        elif kind == COUNT:
-            events[number] = kind, lane, value + chance.choice([1, 2])
-        else:
-            events[number] = kind, lane, number_beside(chance, value, numbers)
+        events[number] = changed_one
     elif drawn < 0.9:
         step = chance.choice([-1, 1])
         for _ in range(chance.randint(1, 60)):
@@ -141,9 +157,9 @@ def with_change(chance, events):
                 break
             events[number], events[beside], number = events[beside], events[number], beside
     else:
-        while kind in BEGINS:
+        while kind in (*BEGINS, GET, PUT, PUT_IF):
             number = chance.randrange(len(events))
-            kind, lane, value = events[number]
+            kind, lane, *_ = events[number]
         events = events[:number] + [event for event in events[number:] if event[1] != lane]
     return events
 
@@ -153,15 +169,18 @@ def changed(chance, stream):
     events = events_of(stream)
     for _ in range(chance.randint(1, 2)):
         events = with_change(chance, events)
-    return stream[:HEADER] + b"".join(history_to_stream.EVENT.pack(*event) for event in events)
+    header = stream[:WIDE_HEADER if stream[4] == 2 else HEADER]
+    return header + b"".join(history_to_stream.EVENT.pack(*event[:3]) + struct.pack(f"<{len(event[3])}Q", *event[3])
+                             for event in events)
 
 
 def run_history(chance, number):
     """The stream of a run of tests/explain/runs.py, by python."""
     threads, calls = chance.choice([(2, 60), (4, 100), (8, 60), (16, 40)])
     steps = [chance.randrange(threads) for _ in range(threads * calls * 4)]
-    script = {"readers": 127, "steps": steps, "versions": 100_000, "width": 0,
-              "threads": [runs.calls_of(chance, thread, calls, 0) for thread in range(threads)]}
+    width = chance.choice(WIDTHS)
+    script = {"readers": 127, "steps": steps, "versions": 100_000, "width": width,
+              "threads": [runs.calls_of(chance, thread, calls, width) for thread in range(threads)]}
     made = run(["env", "PYTHONPATH=bench/common", sys.executable, "-B", "bench/run/run_script.py"],
                json.dumps(script).encode())
     history = json.loads(made.stdout)

@@ -1,11 +1,13 @@
 """Runs of the JDK's `StampedLock`, recorded by recorders/java as streams, and judged as histories.
 
-    java_streams.py EXPLAIN
+    java_streams.py EXPLAIN [WATCH]
 
 Run at the top of the repository; it wants javac and java. Streams of few and of many threads, with calls that give up
 or are interrupted, of more waiting threads than there are lanes, closed while calls go on, failing, slow, killed and
 terminated must be explained. A stream with one reply changed must be stuck at that call. The same of histories that
-are looked at while calls go on, of more threads than lanes, and of a bounded number of calls."""
+are looked at while calls go on, of more threads than lanes, and of a bounded number of calls. Streams with guarded
+words are explained, too, and where a read isn't validated, a get is stuck: in these runs threads meet there. Of those
+`stamped_watch` tells the same, if it is given."""
 import collections
 import glob
 import json
@@ -16,8 +18,9 @@ import sys
 import tempfile
 import time
 
-from streams import (COUNT, DONE, EVENT, HEADER, MISMATCH, NO, STAMP, TO_HISTORY, WITHDRAWN, YES, entry_that_returns_at,
-                     event_at, fail, history_of, kinds_of, must_be_explained, run, started, verdict, with_event)
+from streams import (CONTENT, COUNT, DONE, EVENT, GET, HEADER, MISMATCH, NO, PUT, STAMP, TO_HISTORY, WITHDRAWN, YES,
+                     entry_that_returns_at, event_at, fail, history_of, kinds_of, must_be_explained, must_be_judged,
+                     run, started, stuck_call, verdict, wide_events_of, with_event)
 
 BEGIN = {"try_read": 1, "write_lock": 2, "read_lock": 3, "unlock_write": 6, "unlock": 8, "try_unlock_write": 12,
          "is_write_locked": 14, "read_count": 16}
@@ -27,9 +30,10 @@ TOLD = collections.Counter()
 class Java:
     """The classes, and a folder for streams."""
 
-    def __init__(self, room, explain):
-        self.room, self.explain = room, explain
-        runs = [f"tests/watch/{name}.java" for name in ("Hanging", "StayingLock", "StreamedRuns")]
+    def __init__(self, room, explain, watch):
+        self.room, self.explain, self.watch = room, explain, watch
+        names = ("GuardedRuns", "Hanging", "MeetingLock", "PriceCache", "StayingLock", "StreamedRuns")
+        runs = [f"tests/watch/{name}.java" for name in names]
         sources = [*sorted(glob.glob("recorders/java/*.java")), *runs]
         subprocess.run(["javac", "-d", room, *sources], check=True)
 
@@ -57,6 +61,18 @@ class Java:
         history = must_be_explained(name, self.explain, stream)
         TOLD[name] += len(history["entries"])
         return history
+
+    def judge_guarded(self, name, stream, width):
+        history = self.judge("guarded " + name, stream)
+        wants(name, history["width"] == width, history["width"])
+        if self.watch:
+            must_be_judged(name, self.watch, stream, f"ok {len(history['entries'])}")
+        return history
+
+    def guarded(self, name, width):
+        """The stream of a run with guarded words, and the lines that it told."""
+        stream, made = self.stream(name, "GuardedRuns", name, self.file(name), width)
+        return stream, made.stdout.decode().splitlines()
 
 
 def wants(name, is_so, *told):
@@ -164,14 +180,16 @@ def try_slow(java):
 
 def try_killed(java):
     """Nothing but whole events are written until then."""
-    with started(java.words("StreamedRuns", "killed", java.file("killed"), 8)) as process:
-        while not os.path.exists(java.file("killed")) or os.path.getsize(java.file("killed")) < 2000 * EVENT:
-            time.sleep(0.005)
-            wants("killed", process.poll() is None, process.returncode)
-        process.kill()
-    stream = java.read("killed")
-    wants("killed", len(stream) % EVENT == 0, len(stream))
-    java.judge("killed", stream)
+    for words in ("StreamedRuns", "killed", 8), ("GuardedRuns", "guarded killed", 5):
+        path = java.file(words[1])
+        with started(java.words(words[0], "killed", path, words[2])) as process:
+            while not os.path.exists(path) or os.path.getsize(path) < 2000 * EVENT:
+                time.sleep(0.005)
+                wants("killed", process.poll() is None, process.returncode)
+            process.kill()
+        stream = java.read(words[1])
+        wants("killed", words[0] == "GuardedRuns" or len(stream) % EVENT == 0, len(stream))
+        java.judge(words[1], stream)
 
 
 def try_hanging(java):
@@ -213,13 +231,63 @@ def try_histories(java):
     wants("most", sorted(tickets) == list(range(2000)), len(tickets), "not complete up to a moment")
 
 
+def counts_of(history):
+    return collections.Counter(entry["call"][0] for entry in history["entries"])
+
+
+def try_guarded(java):
+    """Random runs of narrow and wide words, more events than slots, the examples, and more readers than lanes."""
+    for name, width in (("table", 1), ("table", 16), ("slow", 3)):
+        stream, _ = java.guarded(name, width)
+        history = java.judge_guarded(name, stream, width)
+        wants(name, all("last" in entry for entry in history["entries"]), "a call is under way")
+        wants(name, name != "slow" or 2 * len(history["entries"]) > 65536, len(history["entries"]))
+    for name, words, width in (("Points", (40,), 2), ("PriceCache", ("right",), 3)):
+        stream, made = java.stream(name, name, *words, java.file(name))
+        counts = counts_of(java.judge_guarded(name, stream, width))
+        wants(name, name != "Points" or (counts["get"], counts["put"]) == (120, 40), counts)
+        wants(name, made.stdout == (b"" if name == "Points" else b"96 threads\n"), made.stdout)
+    counts = counts_of(java.judge_guarded("crowd", java.guarded("crowd", 1)[0], 1))
+    wants("crowd", [counts[it] for it in ("put", "get", "read_lock")] == [1, 20, 100], counts)
+
+
+def try_forgotten(java):
+    """A read that isn't validated is stuck at a get, if a write comes in its middle."""
+    counts = counts_of(java.judge_guarded("points", java.guarded("points", 2)[0], 2))
+    wants("points", (counts["get"], counts["put"]) == (600, 201), counts)
+    for name, stream in (("forgets", java.guarded("forgets", 2)[0]),
+                         ("reader", java.stream("reader", "PriceCache", "reader", java.file("reader"))[0])):
+        told = stuck_call(name, java.explain, java.watch, stream)
+        wants(name, told.startswith("get answered ["), told)
+        TOLD["forgotten"] += 1
+    java.stream("Points", "Points", 40, "forgets", java.file("Points"))
+    counts = counts_of(history_of("Points", java.read("Points")))
+    wants("Points", (counts["get"], counts["put"]) == (120, 40), counts)
+
+
+def try_words(java):
+    """What is recorded of gets and puts, one by one, and what is refused. The last two are under way."""
+    stream, told = java.guarded("words", 2)
+    wants("words", told == ["1 words, and not 2", "3 words, and not 2", "returned", "failed"], told)
+    wrong, largest = [(GET, ()), (WITHDRAWN, ())], 2**64 - 1
+    right = [(PUT, (1, largest)), (DONE, ()), (GET, ()), (15, ()), (NO, ()), (CONTENT, (1, largest))]
+    wanted = [*wrong, *wrong, (PUT, (5, 5)), (WITHDRAWN, ()), *right, (GET, ()), (PUT, (3, 4))]
+    found = [(kind, words) for kind, _, _, words in wide_events_of(stream)]
+    wants("words", found == wanted, found)
+    java.judge_guarded("words", stream, 2)
+    before = java.read("words")
+    stream, told = java.stream("words", "GuardedRuns", "refusing", java.file("words"))
+    lines = [f"{width} words, and not 1 to 16" for width in (0, 17, -1)]
+    wants("refusing", told.stdout.decode().splitlines() == lines and stream == before, told.stdout, len(stream))
+
+
 def main():
     with tempfile.TemporaryDirectory() as room:
-        java = Java(room, sys.argv[1])
+        java = Java(room, sys.argv[1], *(sys.argv[2:] or [None]))
         stream = try_threads(java)
         try_planted(java, stream)
         for trial in (try_timed, try_crowded, try_closed, try_failing, try_slow, try_killed, try_hanging,
-                      try_exiting, try_histories):
+                      try_exiting, try_histories, try_guarded, try_forgotten, try_words):
             trial(java)
         java.judge("delayed", java.case("delayed", 7)[0])
     print("java_streams: explained calls: " + ", ".join(f"{name}: {count}" for name, count in TOLD.items()))

@@ -17,6 +17,8 @@ import time
 from streams import started
 
 LOADS, THREADS = ("mixed", "read", "write", "convert", "waits", "stampless"), (4, 16, 64)
+# The threads of the load with guarded words: 4 and 16 once stamped_watch reads such streams.
+GUARDED_THREADS = (4, 16)
 
 
 def judged(watch, classes, fifo, by_name, load, threads, calls):
@@ -68,6 +70,7 @@ def main():
         fifo = os.path.join(room, "run.events")
         os.mkfifo(fifo)
         runs = [(load, threads, calls) for load in LOADS for threads in THREADS]
+        runs += [("guarded", threads, calls) for threads in GUARDED_THREADS]
         if len(sys.argv) > 3:
             runs.append(("write", 16, sys.argv[3] + "s"))
         must_be_stuck(watch, room, fifo)

@@ -1,7 +1,12 @@
-/* The run of recorders/c/observed_count.c. Once a thread waits for a slot of the ring, a line `full` goes to standard
-   error. It comes where the stream is not taken, and there are more events than slots. */
-#define main count_all
-#include "observed_count.c"
+/* The run of a program of recorders/c, observed_count.c if PROGRAM names no other. Once a thread waits for a slot of
+   the ring, a line `full` goes to standard error. It comes where the stream is not taken, and there are more events
+   than slots. */
+#ifndef PROGRAM
+#define PROGRAM "observed_count.c"
+#endif
+#include <stdio.h>
+#define main run_all
+#include PROGRAM
 #undef main
 
 static void *tell_when_full(void *unused) {
@@ -14,5 +19,5 @@ static void *tell_when_full(void *unused) {
 int main(int words, char **word) {
     pthread_t teller;
     if (pthread_create(&teller, NULL, tell_when_full, NULL)) abort();
-    return count_all(words, word);
+    return run_all(words, word);
 }

@@ -1,6 +1,7 @@
 """What the tests of streams share: the converters as programs, and the judge."""
 import contextlib
 import json
+import struct
 import subprocess
 import sys
 import threading
@@ -11,6 +12,10 @@ HEADER, EVENT = 16, 16
 # Seconds after which a process is taken to hang: a hundred times what any of these takes beside other work.
 HANGING = 3600
 BEGINS, STAMP, YES, NO, DONE, MISMATCH, COUNT, WITHDRAWN = range(17), 32, 33, 34, 35, 36, 37, 48
+# Of a stream with a record: its header, its kinds, and how many contents stand behind an event.
+WIDE_HEADER = 24
+GET, PUT, PUT_IF, CONTENT = 17, 18, 19, 38
+CONTENTS = {PUT: 1, PUT_IF: 2, CONTENT: 1}
 
 
 def fail(name, *told):
@@ -69,8 +74,41 @@ def must_be_explained(name, explain, stream):
     return history
 
 
+def must_be_judged(name, watch, stream, wanted):
+    """`stamped_watch` tells this of the stream. Returns what it adds."""
+    made = run([watch], stream)
+    if made.stdout.decode() != wanted + "\n" or made.returncode != (not wanted.startswith("ok ")):
+        fail(name, f"{made.stdout} and not {wanted}", made.returncode, made.stderr)
+    return made.stderr.decode()
+
+
+def stuck_call(name, explain, watch, stream):
+    """What both programs tell of the call at which the stream is stuck; of the second one, if there is one."""
+    history = history_of(name, stream)
+    found = run([explain], json.dumps(history).encode())
+    word, _, number = found.stdout.decode().partition(" ")
+    if word != "stuck":
+        fail(name, "not stuck", found.stdout, found.stderr)
+    entry, note = history["entries"][int(number)], found.stderr.decode().partition(" of thread ")[2]
+    if watch:
+        told = must_be_judged(name, watch, stream, f"stuck {entry['last']}").partition(", lane ")[2]
+        if told.partition(";")[0].rstrip() != note.partition(";")[0].rstrip():
+            fail(name, told, note)
+    return note.partition(": ")[2]
+
+
 def kinds_of(stream):
-    return list(stream[HEADER::EVENT])
+    return [it[0] for it in wide_events_of(stream)] if stream[4:5] == b"\2" else list(stream[HEADER::EVENT])
+
+
+def wide_events_of(stream):
+    """The events of a stream with a record: kind, lane, number, and the words behind."""
+    at, width = WIDE_HEADER, stream[HEADER]
+    while at < len(stream):
+        kind, lane, number = event_at(stream[at - HEADER:at + EVENT], 0)
+        many = width * CONTENTS.get(kind, 0)
+        yield kind, lane, number, struct.unpack_from(f"<{many}Q", stream, at + EVENT)
+        at += EVENT + 8 * many
 
 
 def event_at(stream, number):

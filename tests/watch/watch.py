@@ -145,11 +145,11 @@ def try_random(watch, explain, path):
 
 BROKEN = [
     (b"", "header cut"), (header()[:15], "header cut"), (b"stamp" + header()[5:], "header letters"),
-    (header(form=2), "header form"), (header(layout=3), "header layout"), (header(readers=0), "header limits"),
+    (header(form=3), "header form"), (header(layout=3), "header layout"), (header(readers=0), "header limits"),
     (header(readers=128), "header limits"), (header(versions=2**55 - 1), "header limits"),
     (header(2, versions=2**46 - 1), "header limits"),
     (header() + READ[:1], "0 cut"), (header() + READ + event(STAMP, 3, 257)[:15], "1 cut"),
-    *[(header() + READ + event(kind, 3), "1 kind") for kind in (17, 31, 38, 47, 49, 255)],
+    *[(header() + READ + event(kind, 3), "1 kind") for kind in (20, 31, 39, 47, 49, 255)],
     *[(header() + READ[:byte] + b"\1" + READ[byte + 1:], "0 zeros") for byte in range(2, 8)],
     (header() + event(1, 3, 5), "0 number"), (header() + READ + event(NO, 3, 1), "1 number"),
     (header() + READ + event(WITHDRAWN, 3, 1), "1 number"),

@@ -1,6 +1,7 @@
 -- Free calls that are hidden before an overwriting one.
-use Rattle.std.proofs.Common.{◌≡◌, ◌≢◌, ◌⊎◌, ℕ, Bool, true, false, List, Option, Some, None, refl, sym, ◌∙◌, subst}
-use Rattle.std.proofs.Common.{inl, inr, append-nil}
+use Rattle.std.proofs.Common.{◌≡◌, ◌≢◌, ◌⊎◌, ℕ, Bool, true, false, List, [], ◌∷◌, ◌++◌, Option, Some, None, refl, sym}
+use Rattle.std.proofs.Common.{◌∙◌, ap, subst, inl, inr, append-nil}
+use Rattle.std.specs.Prelude.{map}
 use Rattle.std.proofs.lemmas.Bool.{cases_eq}
 use Rattle.stamp_core.specs.declared.call.Call.{Call}
 use Rattle.stamp_core.specs.declared.reply.Reply.{Reply}
@@ -11,6 +12,9 @@ use Rattle.stamp_runs.specs.Run.Leads.{leads_nowhere, by_effect}
 use Rattle.stamp_runs.specs.Run.Phase.{Asks, Gets}
 use Rattle.stamp_runs.specs.Position.{Hidden, Overwrites}
 use Rattle.stamp_runs.specs.Position.Hidden.{no_more, overwrites, sees}
+use Rattle.stamp_runs.specs.Trace.{LeadsBy, hidden_calls, taken_at}
+use Rattle.stamp_runs.specs.Trace.LeadsBy.{led_nowhere, by_taken}
+use Rattle.stamp_runs.proofs.Ordering.{leads_of}
 use Rattle.stamp_runs.proofs.Lanes.{asks_or_gets, leads_on, set_of, sets_of, sets_alike, sets_swapped, true_or_false}
 
 -- a state as that of the last hidden call, if there was one
@@ -36,59 +40,83 @@ module _ {S : Type 0} (O : Object S) where
   stays_in_effect {a = a} v r (sees lane call reply free asks step sets rest) gets = stays_in_effect v r rest
       (sets.others v (λ e. asks_or_gets asks (subst (λ (w : ℕ). a w ≡ Gets r) e gets)) ∙ gets)
 
-  -- all calls that are hidden before an overwriting one take effect before it
-  pub hidden_leads : {past : List Event} {start : S} {first : Lanes} {free : ℕ → Bool} (lane : ℕ) (call : Call)
-      (reply : Reply) (t : S) → Overwrites O call reply t → free lane ≡ false → {at : Option S} {a' last : Lanes} →
-      Hidden O free at a' last → (s : S) → IsAt at s → (a : Lanes) → a lane ≡ Asks call →
-      Sets a a' lane (Gets reply) → Leads O past start first s a → Leads O past start first t last
-  hidden_leads lane call reply t over apart no_more s at a asks sets way =
-      one_more lane call reply asks (over.may s) sets way
-  hidden_leads {past} {start} {first} {free} lane call reply t over apart {a' = a'} (overwrites {after = after} u c r
-      v free_u asks_u over_u sets_u rest) s at a asks sets way = hidden_leads lane call reply t over apart rest v refl
+  -- all calls that are hidden before an overwriting one take effect before it, in their order
+  pub hidden_take : {free : ℕ → Bool} (n lane : ℕ) (call : Call) (reply : Reply) (t : S) → Overwrites O call reply t →
+      free lane ≡ false → {at : Option S} {a' last : Lanes} → (hidden : Hidden O free at a' last) → (s : S) →
+      IsAt at s → (a : Lanes) → a lane ≡ Asks call → Sets a a' lane (Gets reply) →
+      LeadsBy O n (map (taken_at n) (hidden_calls hidden) ++ taken_at n (lane, reply) ∷ []) [] s a t last
+  hidden_take n lane call reply t over apart no_more s at a asks sets =
+      by_taken lane call reply asks (over.may s) sets led_nowhere
+  hidden_take {free} n lane call reply t over apart {a' = a'} (overwrites {after = after} u c r v free_u asks_u over_u
+      sets_u rest) s at a asks sets =
+      by_taken u c r (sym (sets.others u other) ∙ asks_u) (over_u.may s) (sets_of a u (Gets r))
+      (hidden_take n lane call reply t over apart rest v refl
       (set_of a u (Gets r)) ((sets_of a u (Gets r)).others lane (λ e. other (sym e)) ∙ asks)
       (sets_swapped a a' (set_of a u (Gets r)) after lane u (Gets reply) (Gets r) (λ e. other (sym e)) sets
-      (sets_of a u (Gets r)) sets_u)
-      (one_more u c r (sym (sets.others u other) ∙ asks_u) (over_u.may s) (sets_of a u (Gets r)) way)
+      (sets_of a u (Gets r)) sets_u))
     where
       other : u ≢ lane
       other e = true_or_false (subst (λ (w : ℕ). free w ≡ true) e free_u) apart
-  hidden_leads {past} {start} {first} {free} lane call reply t over apart {a' = a'} (sees {after = after} {t = v} u c
-      r free_u asks_u step sets_u rest) s at a asks sets way = hidden_leads lane call reply t over apart rest v refl
+  hidden_take {free} n lane call reply t over apart {a' = a'} (sees {after = after} {t = v} u c r free_u asks_u step
+      sets_u rest) s at a asks sets =
+      by_taken u c r (sym (sets.others u other) ∙ asks_u) (subst (λ (w : S). O w c r v) (sym at) step)
+      (sets_of a u (Gets r)) (hidden_take n lane call reply t over apart rest v refl
       (set_of a u (Gets r)) ((sets_of a u (Gets r)).others lane (λ e. other (sym e)) ∙ asks)
       (sets_swapped a a' (set_of a u (Gets r)) after lane u (Gets reply) (Gets r) (λ e. other (sym e)) sets
-      (sets_of a u (Gets r)) sets_u)
-      (one_more u c r (sym (sets.others u other) ∙ asks_u) (subst (λ (w : S). O w c r v) (sym at) step)
-      (sets_of a u (Gets r)) way)
+      (sets_of a u (Gets r)) sets_u))
     where
       other : u ≢ lane
       other e = true_or_false (subst (λ (w : ℕ). free w ≡ true) e free_u) apart
 
+  pub hidden_leads : {past : List Event} {start : S} {first : Lanes} {free : ℕ → Bool} (lane : ℕ) (call : Call)
+      (reply : Reply) (t : S) → Overwrites O call reply t → free lane ≡ false → {at : Option S} {a' last : Lanes} →
+      Hidden O free at a' last → (s : S) → IsAt at s → (a : Lanes) → a lane ≡ Asks call →
+      Sets a a' lane (Gets reply) → Leads O past start first s a → Leads O past start first t last
+  hidden_leads {past} {start} {first} lane call reply t over apart {last = last} hidden s at a asks sets way =
+      subst (λ (events : List Event). Leads O events start first t last) (append-nil past)
+      (leads_on way (leads_of O (hidden_take 0 lane call reply t over apart hidden s at a asks sets)))
+
   -- the lane is not free, or its call is not in effect in the end: then what it is about makes no difference to what
   -- is hidden
+  pub also_beside : {free then_free : ℕ → Bool} (lane : ℕ) →
+      ((other : ℕ) → other ≢ lane → free other ≡ true → then_free other ≡ true) → {at : Option S} {a l : Lanes} →
+      (hidden : Hidden O free at a l) → ((r : Reply) → free lane ≡ true → l lane ≡ Gets r → ⊥) → (phase : Phase)
+      (a' l' : Lanes) → Sets a a' lane phase → Sets l l' lane phase →
+      (also : Hidden O then_free at a' l') × (hidden_calls also ≡ hidden_calls hidden)
+  also_beside {then_free = then_free} lane more {at} {a = a} no_more not phase a' l' sets sets_l =
+      subst (λ (m : Lanes). (also : Hidden O then_free at a' m) × (hidden_calls also ≡ []))
+      (sets_alike a a' l' lane phase sets sets_l) (no_more, refl)
+  also_beside {free} lane more {a = a} {l = l} (overwrites {after = after} u c r v free_u asks_u over_u sets_u rest)
+      not phase a' l' sets sets_l = let on = also_beside lane more rest not phase (set_of after lane phase) l'
+      (sets_of after lane phase) sets_l in (
+        overwrites u c r v (more u other free_u) (sets.others u other ∙ asks_u) over_u
+            (sets_swapped a after a' (set_of after lane phase) u lane (Gets r) phase other sets_u sets
+            (sets_of after lane phase)) on.0,
+        ap (λ (calls : List (ℕ × Reply)). (u, r) ∷ calls) on.1,
+      )
+    where
+      other : u ≢ lane
+      other e = not r (subst (λ (w : ℕ). free w ≡ true) e free_u)
+          (subst (λ (w : ℕ). l w ≡ Gets r) e (stays_in_effect u r rest sets_u.here))
+  also_beside {free} lane more {a = a} {l = l} (sees {after = after} u c r free_u asks_u step sets_u rest)
+      not phase a' l' sets sets_l = let on = also_beside lane more rest not phase (set_of after lane phase) l'
+      (sets_of after lane phase) sets_l in (
+        sees u c r (more u other free_u) (sets.others u other ∙ asks_u) step
+            (sets_swapped a after a' (set_of after lane phase) u lane (Gets r) phase other sets_u sets
+            (sets_of after lane phase)) on.0,
+        ap (λ (calls : List (ℕ × Reply)). (u, r) ∷ calls) on.1,
+      )
+    where
+      other : u ≢ lane
+      other e = not r (subst (λ (w : ℕ). free w ≡ true) e free_u)
+          (subst (λ (w : ℕ). l w ≡ Gets r) e (stays_in_effect u r rest sets_u.here))
+
   pub hidden_beside : {free then_free : ℕ → Bool} (lane : ℕ) →
       ((other : ℕ) → other ≢ lane → free other ≡ true → then_free other ≡ true) → {at : Option S} {a l : Lanes} →
       Hidden O free at a l → ((r : Reply) → free lane ≡ true → l lane ≡ Gets r → ⊥) → (phase : Phase)
       (a' l' : Lanes) → Sets a a' lane phase → Sets l l' lane phase → Hidden O then_free at a' l'
-  hidden_beside {then_free = then_free} lane more {at} {a = a} no_more not phase a' l' sets sets_l =
-      subst (λ (m : Lanes). Hidden O then_free at a' m) (sets_alike a a' l' lane phase sets sets_l) no_more
-  hidden_beside {free} lane more {a = a} {l = l} (overwrites {after = after} u c r v free_u asks_u over_u sets_u rest)
-      not phase a' l' sets sets_l = overwrites u c r v (more u other free_u) (sets.others u other ∙ asks_u) over_u
-      (sets_swapped a after a' (set_of after lane phase) u lane (Gets r) phase other sets_u sets
-      (sets_of after lane phase))
-      (hidden_beside lane more rest not phase (set_of after lane phase) l' (sets_of after lane phase) sets_l)
-    where
-      other : u ≢ lane
-      other e = not r (subst (λ (w : ℕ). free w ≡ true) e free_u)
-          (subst (λ (w : ℕ). l w ≡ Gets r) e (stays_in_effect u r rest sets_u.here))
-  hidden_beside {free} lane more {a = a} {l = l} (sees {after = after} u c r free_u asks_u step sets_u rest)
-      not phase a' l' sets sets_l = sees u c r (more u other free_u) (sets.others u other ∙ asks_u) step
-      (sets_swapped a after a' (set_of after lane phase) u lane (Gets r) phase other sets_u sets
-      (sets_of after lane phase))
-      (hidden_beside lane more rest not phase (set_of after lane phase) l' (sets_of after lane phase) sets_l)
-    where
-      other : u ≢ lane
-      other e = not r (subst (λ (w : ℕ). free w ≡ true) e free_u)
-          (subst (λ (w : ℕ). l w ≡ Gets r) e (stays_in_effect u r rest sets_u.here))
+  hidden_beside lane more hidden not phase a' l' sets sets_l =
+      (also_beside lane more hidden not phase a' l' sets sets_l).0
 
   -- what is hidden took effect in calls that asked
   pub asked_before : {free : ℕ → Bool} {at : Option S} {a l : Lanes} (v : ℕ) (c : Call) → Hidden O free at a l →
@@ -123,6 +151,32 @@ module _ {S : Type 0} (O : Object S) where
       overwrites lane call reply t free asks over sets (hidden_on rest later)
   hidden_on (sees lane call reply free asks step sets rest) later =
       sees lane call reply free asks step sets (hidden_on rest later)
+
+  -- those are the same calls, in their order
+  same_from_any : {free : ℕ → Bool} {a l : Lanes} (at : Option S) (hidden : Hidden O free None a l) →
+      hidden_calls (from_any at hidden) ≡ hidden_calls hidden
+  unfolding from_any
+  same_from_any at no_more = refl
+  same_from_any at (overwrites lane call reply t free asks over sets rest) = refl
+
+  same_with_more : {free then_free : ℕ → Bool} (more : (v : ℕ) → free v ≡ true → then_free v ≡ true) {at : Option S}
+      {a l : Lanes} (hidden : Hidden O free at a l) → hidden_calls (with_more more hidden) ≡ hidden_calls hidden
+  unfolding with_more
+  same_with_more more no_more = refl
+  same_with_more more (overwrites lane call reply t free asks over sets rest) =
+      ap (λ (calls : List (ℕ × Reply)). (lane, reply) ∷ calls) (same_with_more more rest)
+  same_with_more more (sees lane call reply free asks step sets rest) =
+      ap (λ (calls : List (ℕ × Reply)). (lane, reply) ∷ calls) (same_with_more more rest)
+
+  pub calls_on : {free then_free : ℕ → Bool} (more : (v : ℕ) → then_free v ≡ true → free v ≡ true) {at : Option S}
+      {a b l : Lanes} (hidden : Hidden O free at a b) (later : Hidden O then_free None b l) →
+      hidden_calls (hidden_on hidden (with_more more later)) ≡ hidden_calls hidden ++ hidden_calls later
+  unfolding hidden_on
+  calls_on more {at} no_more later = same_from_any at (with_more more later) ∙ same_with_more more later
+  calls_on more (overwrites lane call reply t free asks over sets rest) later =
+      ap (λ (calls : List (ℕ × Reply)). (lane, reply) ∷ calls) (calls_on more rest later)
+  calls_on more (sees lane call reply free asks step sets rest) later =
+      ap (λ (calls : List (ℕ × Reply)). (lane, reply) ∷ calls) (calls_on more rest later)
 
   -- each free call that asks overwrites
   abbrev pub EachOverwrites : (ℕ → Bool) → Lanes → Type 0

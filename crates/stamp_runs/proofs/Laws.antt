@@ -9,7 +9,7 @@ use Rattle.std.proofs.lemmas.List.Elements.{Contains-append_left, Contains-push}
 use Rattle.stamp_core.specs.declared.call.Call.{Call}
 use Rattle.stamp_core.specs.declared.reply.Reply.{Reply}
 use Rattle.stamp_runs.specs.declared.event.Event.{Event}
-use Rattle.stamp_runs.specs.declared.event.Event.TheVariants.{Returns}
+use Rattle.stamp_runs.specs.declared.event.Event.TheVariants.{Begins, Returns, Withdraws}
 use Rattle.stamp_runs.specs.Object.{Object}
 use Rattle.stamp_runs.specs.Run.{AreExplainedFrom, EndsBy, Lanes, Leads, Sets, all_idle}
 use Rattle.stamp_runs.specs.Run.Leads.{leads_nowhere}
@@ -23,7 +23,8 @@ use Rattle.stamp_runs.specs.RunLaws.{FreeCovers, HiddenAlikeFirst, HiddenIsPossi
 use Rattle.stamp_runs.specs.RunLaws.{HiddenWithReaders}
 use Rattle.stamp_runs.specs.RunLaws.{OpeningStands, OthersStay, OverwritingIsPossible, OverwritingLosesNothing}
 use Rattle.stamp_runs.specs.RunLaws.{PositionsGoOn, PositionsTell, ReadersLoseNothing, ReturnsGoOn, SoonerAlikeFirst}
-use Rattle.stamp_runs.specs.RunLaws.{BeginsGoOn, KeptStand, StuckIsExact, WithdrawsGoOn}
+use Rattle.stamp_runs.specs.RunLaws.{BeginsGoOn, KeptStand, OrderTells, StuckIsExact, TraceLeads, TracesGoOn}
+use Rattle.stamp_runs.specs.RunLaws.{WithdrawsGoOn}
 use Rattle.stamp_runs.specs.Returning.{told_return}
 use Rattle.stamp_runs.proofs.Lanes.{asks_or_gets, one_call, pick, picks_first, picks_second, sets_itself}
 use Rattle.stamp_runs.proofs.Lanes.{true_or_false}
@@ -42,6 +43,9 @@ use Rattle.stamp_runs.proofs.Endless.{asking_goes_on}
 use Rattle.stamp_runs.proofs.Sets.{leads_survive, none_among, stand_on}
 use Rattle.stamp_runs.proofs.Alike.{endless_first, sooner_first, twisted_of}
 use Rattle.stamp_runs.proofs.Placing.{hidden_alike}
+use Rattle.stamp_runs.proofs.Ordering.{leads_of, order_on}
+use Rattle.stamp_runs.proofs.Traces.{event_traced, reached_traced}
+use Rattle.stamp_runs.proofs.Tracing.{trace_leads}
 use Rattle.stamp_runs.proofs.Returning.{go_on_by_return}
 use Rattle.stamp_runs.proofs.Stepping.{go_on_by_beginning, go_on_by_withdrawal, stand_as_kept}
 
@@ -271,3 +275,20 @@ module _ {S : Type 0} (O : Object S) where
     same = sym same ∙ stands.same;
     hidden = overwrites lane call reply t free asks over sets (from_any O (Some t) (with_more O more stands.hidden));
   }
+
+  pub order_tells : OrderTells O
+  order_tells n events s t lanes last = ((λ way. leads_of O way.1), (λ way. order_on O way n))
+
+  pub trace_tells : TraceLeads O
+  trace_tells start past moves p trace = (trace_leads O start p trace p.lanes no_more, trace_leads O start p trace)
+
+  pub traces_go_on : TracesGoOn O
+  traces_go_on start past old traced = (
+    reached_traced O start past (Contains old) traced,
+    (λ lane call p q there is. event_traced O start past (Contains old) traced (Begins lane call) p q there is.state
+        (is.idle, is.sets) is.free),
+    (λ lane p q there is. event_traced O start past (Contains old) traced (Withdraws lane) p q there is.state
+        (is.call, is.asks, is.sets) is.free),
+    (λ told then_told lane reply p q there is. event_traced O start past (Contains old) traced (Returns lane reply) p q
+        there is.state (is.gets, is.sets) is.free),
+  )

@@ -3,6 +3,7 @@ pub mod Going
 pub mod Reading
 pub mod Endless
 pub mod Alike
+pub mod Ordering
 pub mod Hiding
 pub mod Readers
 pub mod Settling
@@ -15,8 +16,14 @@ pub mod Keeping
 pub mod Returning
 pub mod Stepping
 pub mod Owning
+pub mod OwnEvents
+pub mod Among
+pub mod Merging
 pub mod Telling
+pub mod Tracing
+pub mod Traces
 pub mod Laws
 pub mod Objects
 pub mod WorkedReturns
 pub mod WorkedEqual
+pub mod Naming

@@ -25,34 +25,35 @@ abbrev pub Calls : Type 0
 Calls = ℕ → Option Call
 
 -- one lane's open call becomes this
-record Opens (calls after : Calls) (lane : ℕ) (call : Option Call) : Type 0 where
-  here : after lane ≡ call
-  others : (v : ℕ) → v ≢ lane → after v ≡ calls v
+pub record Opens (calls after : Calls) (lane : ℕ) (call : Option Call) : Type 0 where
+  pub here : after lane ≡ call
+  pub others : (v : ℕ) → v ≢ lane → after v ≡ calls v
 
-if_so : {lane other : ℕ} (x y : Option Call) → lane ≡ other → (if lane == other then x else y) ≡ x
-if_so {lane} {other} x y same = ap (λ (b : Bool). if b then x else y) (eq-eqb lane other same)
+-- an event of this lane, and of another one
+pub in_lane : {lane other : ℕ} (x y : Option Call) → lane ≡ other → (if lane == other then x else y) ≡ x
+in_lane {lane} {other} x y same = ap (λ (b : Bool). if b then x else y) (eq-eqb lane other same)
 
-if_not : {lane other : ℕ} (x y : Option Call) → lane ≢ other → (if lane == other then x else y) ≡ y
-if_not {lane} {other} x y apart = ap (λ (b : Bool). if b then x else y) (ne_eqb lane other apart)
+pub in_other : {lane other : ℕ} (x y : Option Call) → lane ≢ other → (if lane == other then x else y) ≡ y
+in_other {lane} {other} x y apart = ap (λ (b : Bool). if b then x else y) (ne_eqb lane other apart)
 
-begins_opens : (calls : Calls) (lane : ℕ) (call : Call) → Opens calls (open_then calls (Begins lane call)) lane (Some
-    call)
+pub begins_opens : (calls : Calls) (lane : ℕ) (call : Call) →
+    Opens calls (open_then calls (Begins lane call)) lane (Some call)
 begins_opens calls lane call = record {
-  here = if_so (Some call) (calls lane) refl;
-  others = λ v apart. if_not (Some call) (calls v) (λ e. apart (sym e));
+  here = in_lane (Some call) (calls lane) refl;
+  others = λ v apart. in_other (Some call) (calls v) (λ e. apart (sym e));
 }
 
-returns_opens : (calls : Calls) (lane : ℕ) (reply : Reply) → Opens calls (open_then calls (Returns lane reply)) lane
-    None
+pub returns_opens : (calls : Calls) (lane : ℕ) (reply : Reply) →
+    Opens calls (open_then calls (Returns lane reply)) lane None
 returns_opens calls lane reply = record {
-  here = if_so None (calls lane) refl;
-  others = λ v apart. if_not None (calls v) (λ e. apart (sym e));
+  here = in_lane None (calls lane) refl;
+  others = λ v apart. in_other None (calls v) (λ e. apart (sym e));
 }
 
-withdraws_opens : (calls : Calls) (lane : ℕ) → Opens calls (open_then calls (Withdraws lane)) lane None
+pub withdraws_opens : (calls : Calls) (lane : ℕ) → Opens calls (open_then calls (Withdraws lane)) lane None
 withdraws_opens calls lane = record {
-  here = if_so None (calls lane) refl;
-  others = λ v apart. if_not None (calls v) (λ e. apart (sym e));
+  here = in_lane None (calls lane) refl;
+  others = λ v apart. in_other None (calls v) (λ e. apart (sym e));
 }
 
 -- a lane of all calls and of the own ones; where another's call is open this is so of the first
@@ -70,7 +71,8 @@ module _ (mine : Call → Bool) (Q : Call → Phase → Type 0) where
       (subst (λ (z : Phase). Fit mine Q o z y') (sym f) (subst (λ (z : Phase). Fit mine Q o x z) (sym g) fit))
 
   -- one lane of each becomes something else
-  fit_then : {calls after : Calls} {a a1 b b1 : Lanes} {o : Option Call} {p q : Phase} (lane : ℕ) → AllFit calls a b →
+  pub fit_then : {calls after : Calls} {a a1 b b1 : Lanes} {o : Option Call} {p q : Phase} (lane : ℕ) →
+      AllFit calls a b →
       Opens calls after lane o → Sets a a1 lane p → Sets b b1 lane q → Fit mine Q o p q → AllFit after a1 b1
   fit_then {after = after} {a1 = a1} {b1 = b1} lane before opens sa sb now v = by (cases_eq v lane)
     where
@@ -79,10 +81,10 @@ module _ (mine : Call → Bool) (Q : Call → Phase → Type 0) where
           (fit_as opens.here sa.here sb.here now)
       by (inr apart) = fit_as (opens.others v apart) (sa.others v apart) (sb.others v apart) (before v)
 
-still_open : (calls : Calls) (lane : ℕ) → Opens calls calls lane (calls lane)
+pub still_open : (calls : Calls) (lane : ℕ) → Opens calls calls lane (calls lane)
 still_open calls lane = record { here = refl; others = λ v apart. refl }
 
-own_call : (mine : Call → Bool) (o : Option Call) {c : Call} {b : Bool} → o ≡ Some c → mine c ≡ b →
+pub own_call : (mine : Call → Bool) (o : Option Call) {c : Call} {b : Bool} → o ≡ Some c → mine c ≡ b →
     is_own_call mine o ≡ b
 own_call mine o {b = b} is same = subst (λ (x : Option Call). is_own_call mine x ≡ b) (sym is) same
 
@@ -125,11 +127,11 @@ module _ {S : Type 0} (mine : Call → Bool) (O : Object S) where
   others_step {s} {next} {c} {d} r same is step = subst (λ (k : Bool). MatchBool k (O s d r next) (next ≡ s))
       (subst (λ (x : Call). mine x ≡ false) same is) step
 
-  step_of_own : {s next : S} {c d : Call} {r : Reply} → c ≡ d → mine c ≡ true → O s d r next → Of mine O s d r next
+  pub step_of_own : {s next : S} {c d : Call} {r : Reply} → c ≡ d → mine c ≡ true → O s d r next → Of mine O s d r next
   step_of_own {s} {next} {c} {d} {r} same is step = subst (λ (k : Bool). MatchBool k (O s d r next) (next ≡ s))
       (sym (subst (λ (x : Call). mine x ≡ true) same is)) step
 
-  no_step : (s : S) {c : Call} (r : Reply) → mine c ≡ false → Of mine O s c r s
+  pub no_step : (s : S) {c : Call} (r : Reply) → mine c ≡ false → Of mine O s c r s
   no_step s {c} r is = subst (λ (k : Bool). MatchBool k (O s c r s) (s ≡ s)) (sym is) refl
 
   -- what goes on among all goes on along the own events

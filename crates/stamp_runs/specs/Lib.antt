@@ -1,12 +1,17 @@
 pub mod Object
 pub mod Run
 pub mod LockRun
+pub mod BothRun
+pub mod OneWord
+pub mod Names
 pub mod Pairs
 pub mod Own
 pub mod Watching
 pub mod Position
 pub mod Stepping
 pub mod Returning
+pub mod Trace
+pub mod Merged
 pub mod RunLaws
 pub mod WorkedReturns
 pub mod WorkedEqual

@@ -1,6 +1,7 @@
 -- The events of one object's own calls, among those of all.
-use Rattle.std.specs.Prelude.{ℕ, ◌≡◌, ◌==◌, Bool, false, List, [], ◌∷◌, Option, Some, None, IsSome}
+use Rattle.std.specs.Prelude.{ℕ, ◌≡◌, ◌+◌, ◌==◌, Bool, false, List, [], ◌∷◌, Option, Some, None, IsSome}
 use Rattle.std.specs.Prelude.{if◌then◌else◌}
+use Rattle.std.specs.List.{fold}
 use Rattle.stamp_core.specs.declared.call.Call.{Call}
 use Rattle.stamp_runs.specs.declared.event.Event.{Event}
 use Rattle.stamp_runs.specs.declared.event.Event.TheVariants.{Begins, Returns, Withdraws}
@@ -38,6 +39,13 @@ own_from mine calls (event ∷ events) =
     if is_own mine calls event then event ∷ own_from mine (open_then calls event) events
     else own_from mine (open_then calls event) events
 
+-- their numbers among those of all events, the first of which has this one
+abbrev pub own_numbers_from : (Call → Bool) → (ℕ → Option Call) → ℕ → List Event → List ℕ
+own_numbers_from mine calls n [] = []
+own_numbers_from mine calls n (event ∷ events) =
+    if is_own mine calls event then n ∷ own_numbers_from mine (open_then calls event) (n + 1) events
+    else own_numbers_from mine (open_then calls event) (n + 1) events
+
 -- so it is from the opening on, where no call is open
 abbrev pub none_open : ℕ → Option Call
 none_open lane = None
@@ -47,3 +55,10 @@ AreInForm events = AreInFormFrom none_open events
 
 abbrev pub own_events : (Call → Bool) → List Event → List Event
 own_events mine events = own_from mine none_open events
+
+abbrev pub own_numbers : (Call → Bool) → List Event → List ℕ
+own_numbers mine events = own_numbers_from mine none_open 0 events
+
+-- the call that is open in each lane after these events
+abbrev pub open_after : List Event → ℕ → Option Call
+open_after events = fold open_then none_open events

@@ -1,5 +1,5 @@
 -- The laws of runs, of the sets of configurations that a judge keeps, and of positions; of any object.
-use Rattle.std.specs.Prelude.{ℕ, ◌≡◌, ◌≢◌, ◌↔◌, ◌++◌, Bool, true, false, List, [], ◌∷◌, None, length}
+use Rattle.std.specs.Prelude.{ℕ, ◌≡◌, ◌≢◌, ◌↔◌, ◌++◌, Bool, true, false, List, [], ◌∷◌, None, length, map}
 use Rattle.std.specs.List.{Contains}
 use Rattle.stamp_core.specs.Limits.{Bounds}
 use Rattle.stamp_core.specs.declared.call.Call.{Call}
@@ -9,8 +9,11 @@ use Rattle.stamp_core.specs.declared.reply.Reply.TheVariants.{Done, No}
 use Rattle.stamp_runs.specs.declared.event.Event.{Event}
 use Rattle.stamp_runs.specs.declared.event.Event.TheVariants.{Begins, Returns, Withdraws}
 use Rattle.stamp_runs.specs.LockRun.{DoSame}
+use Rattle.stamp_runs.specs.BothRun.{Both}
+use Rattle.stamp_runs.specs.Merged.{Ascends, Merges, among_all}
+use Rattle.stamp_runs.specs.Names.{AreDifferent, Names, event_by}
 use Rattle.stamp_runs.specs.Object.{LockStep, Object, RecordStep}
-use Rattle.stamp_runs.specs.Own.{AreInForm, own_events}
+use Rattle.stamp_runs.specs.Own.{AreInForm, open_after, own_events, own_from}
 use Rattle.stamp_runs.specs.Pairs.{Of, Pair, not_of}
 use Rattle.stamp_runs.specs.Run.{AreAlike, AreExplainedFrom, AreStuckFrom, DoesAs, EndsBy, EndsNever, GoesFirst, Lanes}
 use Rattle.stamp_runs.specs.Run.{Leads, ReturnsSooner, Sets, Survives, all_idle}
@@ -19,8 +22,10 @@ use Rattle.stamp_runs.specs.Watching.{Fits, GoesOn, IsToldFirst, MayGet, StandFo
 use Rattle.stamp_runs.specs.Position.{AfterHidden, AreShown, AskAgain, FreesNoLess, Hidden, IsReader, OfSome}
 use Rattle.stamp_runs.specs.Position.{Covers, Overwrites, OverwritesNever, Position, SameFree, Shows, StandsFor}
 use Rattle.stamp_runs.specs.Position.{opening_position}
-use Rattle.stamp_runs.specs.Returning.{IsKeptAs, IsReached, OneOf, ReturnsBy, told_return}
+use Rattle.stamp_runs.specs.Returning.{IsKeptAs, IsReached, IsReturn, OneOf, ReturnsBy, told_return}
 use Rattle.stamp_runs.specs.Stepping.{IsBegun, IsWithdrawn}
+use Rattle.stamp_runs.specs.Trace.Move.{Frees}
+use Rattle.stamp_runs.specs.Trace.{IsTrace, IsTraced, LeadsBy, Move, Taken, hidden_calls, order_from, order_of}
 
 -- Where an overwriting call takes effect all that the new position stands for is possible, whichever calls are free:
 -- they took effect hidden, just before it.
@@ -111,6 +116,31 @@ ExplainedByOwn {S} {T} mine O P =
     (start : S) (other : T) (events : List Event) → AreInForm events →
     AreExplainedFrom (Pair mine O P) (start, other) events ↔ AreExplainedFrom O start (own_events mine events) ×
     AreExplainedFrom P other (own_events (not_of mine) events)
+
+-- Names of contents don't matter: a run of lock and record is explained exactly where it is by other names, if
+-- different contents have different ones.
+abbrev pub NamesDontMatter : Type 0
+NamesDontMatter =
+    (limits : Bounds) (name : Names) (content : List ℕ) (events : List Event) → AreDifferent name →
+    AreExplainedFrom (Both limits) ([], content) events ↔
+    AreExplainedFrom (Both limits) ([], name content) (map (event_by name) events)
+
+-- So a run is stuck exactly where it is by other names.
+abbrev pub StuckByAnyNames : Type 0
+StuckByAnyNames =
+    (limits : Bounds) (name : Names) (content : List ℕ) (events : List Event) (k : ℕ) → AreDifferent name →
+    AreStuckFrom (Both limits) ([], content) events k ↔
+    AreStuckFrom (Both limits) ([], name content) (map (event_by name) events) k
+
+-- A run that is explained is in form.
+abbrev pub ExplainedInForm : {S : Type 0} → Object S → Type 0
+ExplainedInForm {S} O = (start : S) (events : List Event) → AreExplainedFrom O start events → AreInForm events
+
+-- The own events of a run that goes on are those so far, and those that are own by the calls that are open then.
+abbrev pub OwnEventsGoOn : Type 0
+OwnEventsGoOn =
+    (mine : Call → Bool) (past future : List Event) →
+    own_events mine (past ++ future) ≡ own_events mine past ++ own_from mine (open_after past) future
 
 -- Where the return that is told of a call has a reply by which it changes nothing in any state, nothing is lost if it
 -- is in effect.
@@ -244,6 +274,61 @@ ReturnsGoOn {S} O =
     ((future : List Event) → Fits then_told future → Fits told (Returns lane reply ∷ future)) →
     ReturnsBy O (told_return told then_told lane reply) (Contains old) (Contains looked) (Contains new) →
     GoesOn O (Returns lane reply) (Fits told) (Fits then_told) (OfSome O (Contains old)) (OfSome O (Contains new))
+
+-- An order in which calls take effect along the events tells a way, and each way has one.
+abbrev pub OrderTells : {S : Type 0} → Object S → Type 0
+OrderTells {S} O =
+    (n : ℕ) (events : List Event) (s t : S) (lanes last : Lanes) →
+    ((order : List Taken) × LeadsBy O n order events s lanes t last) ↔ Leads O events s lanes t last
+
+-- A trace leads to its position in the order that is read back from it; and, with calls that are hidden at last, to
+-- all that the position stands for.
+abbrev pub TraceLeads : {S : Type 0} → Object S → Type 0
+TraceLeads {S} O =
+    (start : S) (past : List Event) (moves : List Move) (p : Position S) → IsTrace O start past moves p →
+    LeadsBy O 0 (order_of moves) past start all_idle p.state p.lanes × ((lanes : Lanes)
+    (hidden : Hidden O p.free None p.lanes lanes) →
+    LeadsBy O 0 (order_from (hidden_calls hidden) moves) past start all_idle p.state lanes)
+
+-- What took effect before a call that overwrote keeps its place in the order, whatever moves come later.
+abbrev pub OrderSettles : Type 0
+OrderSettles =
+    (hidden : List (ℕ × Reply)) (newer older : List Move) (x : Taken) →
+    order_from hidden (newer ++ Frees x ∷ older) ≡ order_of older ++ order_from hidden (newer ++ Frees x ∷ [])
+
+-- what comes of traced positions by an event is traced
+abbrev pub EventIsTraced : {S : Type 0} → Object S → S → List Event → List (Position S) → Event →
+    (Position S → Position S → Type 0) → Type 0
+EventIsTraced {S} O start past old event comes =
+    (p q : Position S) → Contains old p → comes p q → IsTraced O start (past ++ event ∷ []) q
+
+-- Each position that a judge keeps is traced: what is reached from traced ones is, and what comes of them where a call
+-- begins, is withdrawn, or returns.
+abbrev pub TracesGoOn : {S : Type 0} → Object S → Type 0
+TracesGoOn {S} O =
+    (start : S) (past : List Event) (old : List (Position S)) →
+    ((p : Position S) → Contains old p → IsTraced O start past p) →
+    ((q : Position S) → IsReached O (Contains old) q → IsTraced O start past q) ×
+    ((lane : ℕ) (call : Call) → EventIsTraced O start past old (Begins lane call) (IsBegun lane call)) ×
+    ((lane : ℕ) → EventIsTraced O start past old (Withdraws lane) (IsWithdrawn lane)) ×
+    ((told then_told : ℕ → Told) (lane : ℕ) (reply : Reply) →
+    EventIsTraced O start past old (Returns lane reply) (IsReturn (told_return told then_told lane reply)))
+
+-- An order along the own events stands in the order of its points among all.
+abbrev pub OrdersAscend : {S : Type 0} → (Call → Bool) → Object S → Type 0
+OrdersAscend {S} mine O =
+    (start : S) (events : List Event) (order : List Taken) (s : S) (lanes : Lanes) →
+    LeadsBy O 0 order (own_events mine events) start all_idle s lanes → Ascends 0 (among_all mine events order)
+
+-- The orders of two objects, each along its own events, are one of both along all, if their effects are merged by the
+-- numbers that their points have among all.
+abbrev pub OrdersMerge : {S T : Type 0} → (Call → Bool) → Object S → Object T → Type 0
+OrdersMerge {S} {T} mine O P =
+    (start s : S) (other t : T) (events : List Event) (first second order : List Taken) (one two : Lanes) →
+    AreInForm events → LeadsBy O 0 first (own_events mine events) start all_idle s one →
+    LeadsBy P 0 second (own_events (not_of mine) events) other all_idle t two →
+    Merges (among_all mine events first) (among_all (not_of mine) events second) order → Ascends 0 order →
+    (lanes : Lanes) × LeadsBy (Pair mine O P) 0 order events (start, other) all_idle (s, t) lanes
 
 -- A free call that overwrites covers the same call in effect: it is as good as hidden first.
 abbrev pub FreeCovers : {S : Type 0} → Object S → Type 0

@@ -2,8 +2,10 @@
 //! contract is the law, over the definitions alone: of the lock and of the record where it holds of any object.
 ghost use Rattle.stamp_core.specs.Call.{is_lock_call};
 ghost use Rattle.stamp_core.specs.Limits.{Bounds};
+ghost use Rattle.stamp_runs.specs.BothRun.{Both};
 ghost use Rattle.stamp_runs.specs.Object.{LockStep, RecordStep};
-ghost use Rattle.stamp_runs.specs.RunLaws.{AtOnceLosesNothing, BeginsGoOn, EndlessAlikeFirst, EndlessMayAsk, ExplainedApart, ExplainedByOwn, FreeCovers, FreeOrAsks, HiddenAlikeFirst, HiddenIsPossible, HiddenLosesNothing, HiddenWithReaders, KeptStand, LockOverwritesNever, OpeningStands, OthersStay, OverwritingIsPossible, OverwritingLosesNothing, OwnEventsTell, PositionsGoOn, PositionsTell, PutsOverwrite, ReadersLoseNothing, ReadsChangeNothing, ReturnsGoOn, SameAreAlike, SoonerAlikeFirst, StuckIsExact, ToldGoesFirst, WithdrawsGoOn};
+ghost use Rattle.stamp_runs.specs.Pairs.{not_of};
+ghost use Rattle.stamp_runs.specs.RunLaws.{AtOnceLosesNothing, BeginsGoOn, EndlessAlikeFirst, EndlessMayAsk, ExplainedApart, ExplainedByOwn, ExplainedInForm, FreeCovers, FreeOrAsks, HiddenAlikeFirst, HiddenIsPossible, HiddenLosesNothing, HiddenWithReaders, KeptStand, LockOverwritesNever, NamesDontMatter, OpeningStands, OrderSettles, OrderTells, OrdersAscend, OrdersMerge, OthersStay, OverwritingIsPossible, OverwritingLosesNothing, OwnEventsGoOn, OwnEventsTell, PositionsGoOn, PositionsTell, PutsOverwrite, ReadersLoseNothing, ReadsChangeNothing, ReturnsGoOn, SameAreAlike, SoonerAlikeFirst, StuckByAnyNames, StuckIsExact, ToldGoesFirst, TraceLeads, TracesGoOn, WithdrawsGoOn};
 ghost use Rattle.stamp_runs.specs.WorkedEqual.{EqualReturns};
 ghost use Rattle.stamp_runs.specs.WorkedReturns.{GetReturns, PutReturns};
 
@@ -11,6 +13,7 @@ ghost use Rattle.stamp_runs.specs.WorkedReturns.{GetReturns, PutReturns};
 pub fn at_once_loses_nothing()
     ensures of_lock { (limits : Bounds) → AtOnceLosesNothing (LockStep limits) }
     ensures of_record { AtOnceLosesNothing RecordStep }
+    ensures of_both { (limits : Bounds) → AtOnceLosesNothing (Both limits) }
 {}
 
 /// Calls whose replies tell that they change nothing may be in effect together.
@@ -23,12 +26,14 @@ pub fn readers_lose_nothing()
 pub fn sooner_alike_first()
     ensures of_lock { (limits : Bounds) → SoonerAlikeFirst (LockStep limits) }
     ensures of_record { SoonerAlikeFirst RecordStep }
+    ensures of_both { (limits : Bounds) → SoonerAlikeFirst (Both limits) }
 {}
 
 /// Of two open calls that are alike, and of which neither ends, either may take effect first.
 pub fn endless_alike_first()
     ensures of_lock { (limits : Bounds) → EndlessAlikeFirst (LockStep limits) }
     ensures of_record { EndlessAlikeFirst RecordStep }
+    ensures of_both { (limits : Bounds) → EndlessAlikeFirst (Both limits) }
 {}
 
 /// What goes on where a call that never ends is in effect goes on where it is not.
@@ -51,6 +56,24 @@ pub fn own_events_tell()
 /// A run of lock and record, in form, is explained exactly where the events of each are.
 pub fn explained_by_own()
     ensures { (limits : Bounds) → ExplainedByOwn is_lock_call (LockStep limits) RecordStep }
+{}
+
+/// Names of contents don't matter: a run is explained exactly where it is by other names, and stuck where it is.
+pub fn names_dont_matter()
+    ensures explained { NamesDontMatter }
+    ensures stuck { StuckByAnyNames }
+{}
+
+/// A run that is explained is in form.
+pub fn explained_in_form()
+    ensures of_lock { (limits : Bounds) → ExplainedInForm (LockStep limits) }
+    ensures of_record { ExplainedInForm RecordStep }
+    ensures of_both { (limits : Bounds) → ExplainedInForm (Both limits) }
+{}
+
+/// The own events of a run that goes on are those so far, and those that are own by the calls that are open then.
+pub fn own_events_go_on()
+    ensures { OwnEventsGoOn }
 {}
 
 /// Of the calls of the record just puts overwrite.
@@ -136,6 +159,7 @@ pub fn told_goes_first()
 pub fn opening_stands()
     ensures of_lock { (limits : Bounds) → OpeningStands (LockStep limits) }
     ensures of_record { OpeningStands RecordStep }
+    ensures of_both { (limits : Bounds) → OpeningStands (Both limits) }
 {}
 
 /// Where a call begins, each position goes on by its beginning.
@@ -166,18 +190,56 @@ pub fn kept_stand()
 pub fn positions_go_on()
     ensures of_lock { (limits : Bounds) → PositionsGoOn (LockStep limits) }
     ensures of_record { PositionsGoOn RecordStep }
+    ensures of_both { (limits : Bounds) → PositionsGoOn (Both limits) }
 {}
 
 /// While a position is kept the run is explained so far, and where none is nothing is that fits what is told.
 pub fn positions_tell()
     ensures of_lock { (limits : Bounds) → PositionsTell (LockStep limits) }
     ensures of_record { PositionsTell RecordStep }
+    ensures of_both { (limits : Bounds) → PositionsTell (Both limits) }
 {}
 
 /// A judge to whom nothing of what comes later is told says exactly at which event a run is stuck.
 pub fn stuck_is_exact()
     ensures of_lock { (limits : Bounds) → StuckIsExact (LockStep limits) }
     ensures of_record { StuckIsExact RecordStep }
+    ensures of_both { (limits : Bounds) → StuckIsExact (Both limits) }
+{}
+
+/// An order in which calls take effect along the events tells a way, and each way has one.
+pub fn order_tells()
+    ensures of_lock { (limits : Bounds) → OrderTells (LockStep limits) }
+    ensures of_record { OrderTells RecordStep }
+    ensures of_both { (limits : Bounds) → OrderTells (Both limits) }
+{}
+
+/// A trace leads to its position in the order that is read back from it.
+pub fn trace_leads()
+    ensures of_lock { (limits : Bounds) → TraceLeads (LockStep limits) }
+    ensures of_record { TraceLeads RecordStep }
+{}
+
+/// What took effect before a call that overwrote keeps its place in the order.
+pub fn order_settles()
+    ensures { OrderSettles }
+{}
+
+/// Each position that a judge keeps is traced.
+pub fn traces_go_on()
+    ensures of_lock { (limits : Bounds) → TracesGoOn (LockStep limits) }
+    ensures of_record { TracesGoOn RecordStep }
+{}
+
+/// An order along the own events stands in the order of its points among all.
+pub fn orders_ascend()
+    ensures of_lock { (limits : Bounds) → OrdersAscend is_lock_call (LockStep limits) }
+    ensures of_record { OrdersAscend (not_of is_lock_call) RecordStep }
+{}
+
+/// The orders of a lock and its record, each along its own events, are one of both, merged by their points.
+pub fn orders_merge()
+    ensures { (limits : Bounds) → OrdersMerge is_lock_call (LockStep limits) RecordStep }
 {}
 
 /// A return of a put, worked out.

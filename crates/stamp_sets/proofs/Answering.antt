@@ -1,15 +1,10 @@
--- What the answers of a watch mean.
-use Rattle.std.proofs.Common.{ℕ, ◌≡◌, ◌≢◌, ◌⊎◌, ◌<◌, ◌≤◌, List, [], ◌∷◌, ◌++◌, length, Bool, false, Option, Some, None}
-use Rattle.std.proofs.Common.{refl, sym, ◌∙◌, ap, subst, inl, inr, arith, append-nil}
+-- What is kept once a call has begun, was withdrawn or returned, and what it means that nothing is.
+use Rattle.std.proofs.Common.{ℕ, ◌≡◌, ◌≢◌, ◌⊎◌, ◌<◌, ◌≤◌, List, [], ◌∷◌, ◌++◌, Bool, true, false, Option, Some, None}
+use Rattle.std.proofs.Common.{refl, sym, subst, inl, inr, arith, append-nil}
 use Rattle.std.specs.Prelude.{slice_set}
-use Rattle.std.specs.Option.{is_some}
 use Rattle.std.specs.List.{All, Contains}
-use Rattle.std.proofs.lemmas.Bool.{false≢true}
 use Rattle.std.specs.Int.{bit_at}
 use Rattle.std.proofs.lemmas.List.Elements.{All-contains, All-head, All-weaker}
-use Rattle.stamp_core.specs.LockDecision.{reply_as}
-use Rattle.stamp_core.specs.declared.lock_decision.LockReply.{LockReply}
-use Rattle.stamp_core.specs.declared.call.Call.{Call}
 use Rattle.stamp_core.specs.declared.reply.Reply.{Reply}
 use Rattle.stamp_runs.specs.Run.{AreExplainedFrom}
 use Rattle.stamp_runs.specs.Watching.{OneSurvives}
@@ -18,32 +13,30 @@ use Rattle.stamp_runs.specs.Position.Hidden.{no_more}
 use Rattle.stamp_runs.specs.declared.event.Event.{Event}
 use Rattle.stamp_runs.specs.declared.event.Event.TheVariants as event
 use Rattle.stamp_runs.proofs.Sets.{leads_survive}
-use Rattle.stamp_sets.specs.declared.ending.SmallEnding.TheVariants.{Returns, Withdraws}
+use Rattle.stamp_sets.specs.declared.ending.Ending.TheVariants.{Returns, Withdraws}
 use Rattle.stamp_sets.specs.declared.open_call.OpenCall.{OpenCall}
 use Rattle.stamp_sets.specs.declared.position.Position.{Position}
-use Rattle.stamp_sets.specs.declared.progress.Progress.{Progress}
-use Rattle.stamp_sets.specs.declared.progress.Progress.TheVariants.{Going, Dead, TooMany, Refused}
 use Rattle.stamp_sets.specs.declared.small_call.SmallReply.{SmallReply}
-use Rattle.stamp_sets.specs.declared.small_call.SmallReply.TheVariants.{OfLock}
-use Rattle.stamp_sets.specs.declared.object.Object.TheVariants.{Lock}
-use Rattle.stamp_sets.specs.declared.watch.Watch.{Watch}
-use Rattle.stamp_sets.specs.Judged.{Judged, call_of_lock, lock}
+use Rattle.stamp_sets.specs.declared.half.Half.{Half}
+use Rattle.stamp_sets.specs.declared.object.Object.{Object}
+use Rattle.stamp_sets.specs.Half.{HasMore, KeepsRun}
+use Rattle.stamp_sets.specs.Judged.{Judged, judged}
+use Rattle.stamp_sets.specs.SmallCall.{call_of, reply_of}
 use Rattle.stamp_sets.specs.inner.State.{IsState}
 use Rattle.stamp_sets.specs.Kept.{AreKept, IsKept, IsPossible}
-use Rattle.stamp_sets.specs.Told.{open_at}
-use Rattle.stamp_sets.specs.Watch.{IsProgress, IsWatched, IsWatching, MoreArePossible}
-use Rattle.stamp_sets.specs.inner.Layer.{AreReturned, IsComeTo, IsLookedAt, ReturnsThrough, TooManyFollow}
+use Rattle.stamp_sets.specs.Told.{IsTold, open_at}
+use Rattle.stamp_sets.specs.inner.Layer.{AreReturned, IsAfterReturn, IsComeTo, IsLookedAt, ReturnsThrough}
+use Rattle.stamp_sets.specs.inner.Layer.{TooManyFollow}
 use Rattle.stamp_sets.specs.inner.Start.{IsFixed, StartsWith}
-use Rattle.stamp_sets.specs.inner.Step.{AreBegun, IsAnswer}
+use Rattle.stamp_sets.specs.inner.Step.{AreBegun}
 use Rattle.stamp_sets.proofs.Lawful.{IsLawful}
 use Rattle.stamp_sets.proofs.Overwriting.{judged_lawful}
 use Rattle.stamp_sets.proofs.Layering.{all_from, none_in_nil, taken_each, under_way_returned}
 use Rattle.stamp_sets.proofs.Returned.{kept_after, reached_may_be, reads_come, taken_unfree}
 use Rattle.stamp_sets.proofs.Stepping.{kept_begun, kept_withdrawn}
-use Rattle.stamp_sets.proofs.Tables.{open_at_within}
 
 module _ {S : Type 0} (o : Judged S) where
-  some_explained : (past : List Event) (table : List (Option OpenCall)) (kept : List Position) → kept ≢ [] →
+  pub some_explained : (past : List Event) (table : List (Option OpenCall)) (kept : List Position) → kept ≢ [] →
       All (IsPossible o past table) kept → AreExplainedFrom o.step o.start past
   some_explained past table [] some are = absurd (some refl)
   some_explained past table (p ∷ ps) some are = by (All-head (IsPossible o past table) p ps are)
@@ -58,7 +51,7 @@ module _ {S : Type 0} (o : Judged S) where
   kept_states past table last kept are = All-weaker (IsPossible o past table) (λ (p : Position). IsState o p.state)
       (λ p is. record { state = is.position.state; holds = is.reads.state }) kept are.possible
 
-  none_left : (past : List Event) (table : List (Option OpenCall)) (kept : List Position) (future : List Event) →
+  pub none_left : (past : List Event) (table : List (Option OpenCall)) (kept : List Position) (future : List Event) →
       kept ≡ [] → OneSurvives o.step future (OfSome o.step (IsKept o past table kept)) → ⊥
   none_left past table kept future none one = none_in_nil one.among.among.is.numbers
       (subst (λ (xs : List Position). Contains xs one.among.among.is.numbers) none one.among.among.is.among)
@@ -113,7 +106,7 @@ module _ {S : Type 0} (o : Judged S) where
 
     pub kept_returned : (lane : ℕ) (begun : OpenCall) (told : SmallReply) (place : ℕ) (reply : Reply)
         (kept done : List Position) → open_at table lane ≡ Some begun → begun.ends ≡ Returns told place →
-        o.reply told ≡ reply → last ≤ place →
+        reply_of told ≡ reply → last ≤ place →
         AreReturned lane kept done ⊎ ReturnsThrough o table lane kept done → AreKept o past table last kept →
         AreKept o (past ++ event.Returns lane reply ∷ []) (slice_set table lane None) place done
     kept_returned lane begun told place reply kept done is_open ends same due returned are =
@@ -128,115 +121,50 @@ module _ {S : Type 0} (o : Judged S) where
         by : ReturnsThrough o table lane kept done
         by = through lane kept done are returned
 
--- what an answer means
-pub answered : (past : List Event) (e : Event) (most : ℕ) (old new : Watch) (progress : Progress) →
-    IsAnswer new.positions.items progress → IsWatching (past ++ e ∷ []) new → IsProgress past e most old new progress
-answered past e most old new Going is watching = (
-  watching,
-  some_explained (lock new.limits) (past ++ e ∷ []) new.table.items new.positions.items is watching.kept.possible,
-)
-answered past e most old new Dead is watching = (
-  watching,
-  record {
-    none = λ future told explained. none_left (lock new.limits) (past ++ e ∷ []) new.table.items new.positions.items
-        future is (watching.kept.stand.whole future told explained);
-  },
-)
-answered past e most old new TooMany is watching = absurd is
-answered past e most old new Refused is watching = absurd is
-
--- a watch stays one
-pub still_watched : (past : List Event) (e : Event) (most : ℕ) (old new : Watch) (progress : Progress) →
-    IsProgress past e most old new progress → IsWatching past old → IsWatched new
-still_watched past e most old new Going is was = record { past = past ++ e ∷ []; watching = is.0 }
-still_watched past e most old new Dead is was = record { past = past ++ e ∷ []; watching = is.0 }
-still_watched past e most old new TooMany is was =
-    record { past = past; watching = subst (λ (w : Watch). IsWatching past w) (sym is.1) was }
-still_watched past e most old new Refused is was =
-    record { past = past; watching = subst (λ (w : Watch). IsWatching past w) (sym is.1) was }
-
 -- the same by what the code reads
-none_from : (o : Option OpenCall) → is_some o ≡ false → o ≡ None
-none_from None none = refl
-none_from (Some o) some = absurd (false≢true (sym some))
+pub begun_read : {S : Type 0} (o : Judged S) (past : List Event) (last lane : ℕ) (begun : OpenCall)
+    (table later : List (Option OpenCall)) (kept new : List Position) → lane < 64 → open_at table lane ≡ None →
+    later ≡ slice_set table lane (Some begun) → AreBegun o begun lane kept new → AreKept o past table last kept →
+    AreKept o (past ++ event.Begins lane (call_of begun.asks) ∷ []) later last new
+begun_read o past last lane begun table later kept new below idle put begins are =
+    subst (λ (t : List (Option OpenCall)). AreKept o (past ++ event.Begins lane (call_of begun.asks) ∷ []) t last new)
+    (sym put) (kept_begun o past table last lane begun kept new are.lanes below idle begins are)
 
-pub idle_read : (table slice : List (Option OpenCall)) (lane : ℕ) (read : Option OpenCall) (some : Bool) →
-    slice ≡ table → read ≡ open_at slice lane → some ≡ is_some read → some ≡ false → open_at table lane ≡ None
-idle_read table slice lane read some same is tests none =
-    ap (λ (t : List (Option OpenCall)). open_at t lane) (sym same) ∙ sym is ∙ none_from read (sym tests ∙ none)
+module _ (object : Object) (past : List Event) (last lane : ℕ) (table later : List (Option OpenCall))
+    (kept : List Position) (are : AreKept (judged object) past table last kept) where
+  pub withdrawn_read : IsTold (open_at table) lane Withdraws → later ≡ slice_set table lane None →
+      AreKept (judged object) (past ++ event.Withdraws lane ∷ []) later last kept
+  withdrawn_read told put =
+      subst (λ (t : List (Option OpenCall)). AreKept (judged object) (past ++ event.Withdraws lane ∷ []) t last kept)
+      (sym put) (kept_withdrawn (judged object) (judged_lawful object) past table last lane told.begun kept told.is_open
+      told.ends are)
 
-pub open_read : (table slice : List (Option OpenCall)) (lane : ℕ) (read : Option OpenCall) (o : OpenCall) →
-    slice ≡ table → read ≡ open_at slice lane → read ≡ Some o → open_at table lane ≡ Some o
-open_read table slice lane read o same is some =
-    ap (λ (t : List (Option OpenCall)). open_at t lane) (sym same) ∙ sym is ∙ some
+  pub returned_read : (slice : List (Option OpenCall)) (done : List Position) (reply : SmallReply) (place most : ℕ) →
+      slice ≡ table → IsTold (open_at table) lane (Returns reply place) → last ≤ place →
+      later ≡ slice_set table lane None → (all : Bool) → all ≡ true →
+      IsAfterReturn (judged object) slice lane most kept done all →
+      AreKept (judged object) (past ++ event.Returns lane (reply_of reply) ∷ []) later place done
+  returned_read slice done reply place most read told due put all is after =
+      subst (λ (t : List (Option OpenCall)).
+      AreKept (judged object) (past ++ event.Returns lane (reply_of reply) ∷ []) t place done) (sym put)
+      (kept_returned (judged object) (judged_lawful object) past table last lane told.begun reply place (reply_of reply)
+      kept done told.is_open told.ends refl due
+      (subst (λ (t : List (Option OpenCall)). IsAfterReturn (judged object) t lane most kept done true) read
+      (subst (λ (b : Bool). IsAfterReturn (judged object) slice lane most kept done b) is after)) are)
 
-pub answer_read : (kept slice : List Position) (progress : Progress) → slice ≡ kept → IsAnswer slice progress →
-    IsAnswer kept progress
-answer_read kept slice progress same is = subst (λ (xs : List Position). IsAnswer xs progress) same is
-
--- an open call is in one of the 64 lanes
-pub lane_read : (old : Watch) (past : List Event) (lane : ℕ) (begun : OpenCall) → IsWatching past old →
-    open_at old.table.items lane ≡ Some begun → lane < 64
-lane_read old past lane begun watching is_open =
-    let low = open_at_within old.table.items lane begun is_open in
-    let full : length old.table.items ≡ 64 = watching.kept.lanes in omega (arith, low, full)
-
-pub begun_read : (past : List Event) (old : Watch) (lane : ℕ) (call : Call) (begun : OpenCall)
-    (table : List (Option OpenCall)) (new : List Position) → IsWatching past old → lane < 64 →
-    open_at old.table.items lane ≡ None → call_of_lock begun.asks ≡ call →
-    table ≡ slice_set old.table.items lane (Some begun) →
-    AreBegun (lock old.limits) begun lane old.positions.items new →
-    AreKept (lock old.limits) (past ++ event.Begins lane call ∷ []) table old.last new
-begun_read past old lane call begun table new watching below idle same put are =
-    subst (λ (x : Call). AreKept (lock old.limits) (past ++ event.Begins lane x ∷ []) table old.last new) same
-    (subst (λ (t : List (Option OpenCall)).
-    AreKept (lock old.limits) (past ++ event.Begins lane (call_of_lock begun.asks) ∷ []) t old.last new) (sym put)
-    (kept_begun (lock old.limits) past old.table.items old.last lane begun old.positions.items new
-    watching.kept.lanes below idle are watching.kept))
-
-pub withdrawn_read : (past : List Event) (old : Watch) (lane : ℕ) (begun : OpenCall) (table : List (Option OpenCall)) →
-    IsWatching past old → open_at old.table.items lane ≡ Some begun → begun.ends ≡ Withdraws →
-    table ≡ slice_set old.table.items lane None →
-    AreKept (lock old.limits) (past ++ event.Withdraws lane ∷ []) table old.last old.positions.items
-withdrawn_read past old lane begun table watching is_open ends put =
-    subst (λ (t : List (Option OpenCall)). AreKept (lock old.limits) (past ++ event.Withdraws lane ∷ []) t old.last
-    old.positions.items) (sym put)
-    (kept_withdrawn (lock old.limits) (judged_lawful (Lock old.limits)) past old.table.items old.last lane begun
-    old.positions.items is_open ends
-    watching.kept)
-
-pub returned_read : (past : List Event) (old : Watch) (lane : ℕ) (begun : OpenCall) (told : LockReply) (place : ℕ)
-    (reply : Reply) (slice table : List (Option OpenCall)) (kept done : List Position) → IsWatching past old →
-    open_at old.table.items lane ≡ Some begun → begun.ends ≡ Returns (OfLock told) place → reply_as told ≡ reply →
-    old.last ≤ place → slice ≡ old.table.items → kept ≡ old.positions.items →
-    table ≡ slice_set old.table.items lane None →
-    AreReturned lane kept done ⊎ ReturnsThrough (lock old.limits) slice lane kept done →
-    AreKept (lock old.limits) (past ++ event.Returns lane reply ∷ []) table place done
-returned_read past old lane begun told place reply slice table kept done watching is_open ends same due read also put
-    under =
-    subst (λ (t : List (Option OpenCall)). AreKept (lock old.limits) (past ++ event.Returns lane reply ∷ []) t place
-    done) (sym put)
-    (kept_returned (lock old.limits) (judged_lawful (Lock old.limits)) past old.table.items old.last lane begun
-    (OfLock told) place reply
-    old.positions.items done is_open ends same due
-    (subst (λ (xs : List Position). AreReturned lane xs done ⊎ ReturnsThrough (lock old.limits) old.table.items lane xs
-    done) also
-    (subst (λ (t : List (Option OpenCall)). AreReturned lane kept done ⊎ ReturnsThrough (lock old.limits) t lane kept
-    done) read under))
-    watching.kept)
-
-pub too_many_read : (past : List Event) (lane most : ℕ) (old : Watch) (slice : List (Option OpenCall))
-    (kept : List Position) → IsWatching past old → slice ≡ old.table.items → kept ≡ old.positions.items →
-    TooManyFollow (lock old.limits) slice lane most kept → MoreArePossible past most old
-too_many_read past lane most old slice kept watching read also follow =
-    by (subst (λ (xs : List Position). TooManyFollow (lock old.limits) old.table.items lane most xs) also
-    (subst (λ (t : List (Option OpenCall)). TooManyFollow (lock old.limits) t lane most kept) read follow))
+pub too_many_read : (half : Half) (past : List Event) (last lane most : ℕ) (slice : List (Option OpenCall))
+    (done : List Position) (all : Bool) → slice ≡ half.table.items → all ≡ false →
+    IsAfterReturn (judged half.object) slice lane most half.positions.items done all → KeepsRun past last half →
+    HasMore past most half
+too_many_read half past last lane most slice done all read is after keeps =
+    by (subst (λ (t : List (Option OpenCall)). TooManyFollow (judged half.object) t lane most half.positions.items) read
+    (subst (λ (b : Bool). IsAfterReturn (judged half.object) slice lane most half.positions.items done b) is after))
   where
-    by : TooManyFollow (lock old.limits) old.table.items lane most old.positions.items → MoreArePossible past most old
+    by : TooManyFollow (judged half.object) half.table.items lane most half.positions.items → HasMore past most half
     by too_many = record {
       many = too_many.more.many;
       more = too_many.more.more;
       different = too_many.more.different;
-      possible = more_possible (lock old.limits) (judged_lawful (Lock old.limits)) past old.table.items old.last lane
-          old.positions.items too_many.first too_many.more.many watching.kept too_many.starts too_many.more.come;
+      possible = more_possible (judged half.object) (judged_lawful half.object) past half.table.items last lane
+          half.positions.items too_many.first too_many.more.many keeps.kept too_many.starts too_many.more.come;
     }

@@ -7,7 +7,7 @@ use Rattle.std.specs.Option.{is_some}
 use Rattle.std.proofs.lemmas.Bool.{cases_eq, false≢true}
 use Rattle.std.proofs.lemmas.Nat.Bits.{bit_at-zero}
 use Rattle.stamp_core.specs.declared.reply.Reply.{Reply}
-use Rattle.stamp_sets.specs.declared.ending.SmallEnding.{SmallEnding}
+use Rattle.stamp_sets.specs.declared.ending.Ending.{Ending}
 use Rattle.stamp_sets.specs.declared.open_call.OpenCall.{OpenCall}
 use Rattle.stamp_sets.specs.declared.position.Position.{Position}
 use Rattle.stamp_sets.specs.Judged.{Judged}
@@ -18,6 +18,8 @@ use Rattle.stamp_sets.specs.inner.Effect.{SettlesOne}
 use Rattle.stamp_sets.specs.inner.Effect.{IsPassedOver, IsUnseen, TakesEffectTo}
 use Rattle.stamp_sets.specs.inner.Effect.Settles.{as_it_is, one_more}
 use Rattle.stamp_sets.specs.Lanes.{SetsBit}
+use Rattle.stamp_sets.specs.SmallCall.{call_of}
+use Rattle.stamp_sets.specs.Unchanging.{reads_only}
 use Rattle.stamp_sets.proofs.Reading.{cleared, unset_cleared}
 use Rattle.stamp_sets.proofs.Tables.{idle_apart, one_open}
 
@@ -47,11 +49,11 @@ module _ {S : Type 0} (o : Judged S) (begun : OpenCall) where
         clears = clears;
       })
     where
-      still : (s next : S) (reply : Reply) → MayGet o.reply begun.ends reply → o.step s (o.call begun.asks) reply next →
+      still : (s next : S) (reply : Reply) → MayGet begun.ends reply → o.step s (call_of begun.asks) reply next →
           next ≡ s
       still s next reply may step = is.unchanging s next
-          (subst (λ (r : Reply). o.step s (o.call begun.asks) r next)
-          (sym (subst (λ (e : SmallEnding). MayGet o.reply e reply) is.ends may)) step)
+          (subst (λ (r : Reply). o.step s (call_of begun.asks) r next)
+          (sym (subst (λ (e : Ending). MayGet e reply) is.ends may)) step)
 
       there : (s : S) → o.holds p.state s → TakesEffectTo o begun s then → TakesEffectTo o begun s q.state
       there s holds to = record {
@@ -141,7 +143,7 @@ pub record SettledSoFar {S : Type 0} (o : Judged S) (table : List (Option OpenCa
   pub left : (l : ℕ) → bit_at rest l ≡ 1 → bit_at lanes l ≡ 1
   pub settles : Settles o table (λ l. bit_at lanes l ≡ 1) p q
   pub whole : (l : ℕ) (begun : OpenCall) → bit_at lanes l ≡ 1 → bit_at rest l ≢ 1 → open_at table l ≡ Some begun →
-      o.reads begun ≡ true → (bit_at q.in_effect l ≡ 1) ⊎ IsEffect o p.state begun None
+      reads_only begun ≡ true → (bit_at q.in_effect l ≡ 1) ⊎ IsEffect o p.state begun None
 
 module _ {S : Type 0} (o : Judged S) (table : List (Option OpenCall)) (lanes : ℕ) (p : Position) where
   pub so_far_settled_none : SettledSoFar o table lanes lanes p p
@@ -166,7 +168,7 @@ module _ {S : Type 0} (o : Judged S) (table : List (Option OpenCall)) (lanes : �
   module _ (rest later k : ℕ) (q r : Position) (among : bit_at rest k ≡ 1) (clears : SetsBit rest later k 0)
       (so_far : SettledSoFar o table lanes rest p q) where
     pub so_far_settled_more : (Settles o table (λ l. bit_at lanes l ≡ 1) q r) →
-        ((begun : OpenCall) → open_at table k ≡ Some begun → o.reads begun ≡ true →
+        ((begun : OpenCall) → open_at table k ≡ Some begun → reads_only begun ≡ true →
         (bit_at r.in_effect k ≡ 1) ⊎ IsEffect o q.state begun None) → SettledSoFar o table lanes later p r
     so_far_settled_more settles here = record {
       left = λ l is. so_far.left l (cleared rest later k l clears is).1;
@@ -186,7 +188,7 @@ module _ {S : Type 0} (o : Judged S) (table : List (Option OpenCall)) (lanes : �
             (same_settled o table (λ l. bit_at lanes l ≡ 1) p q so_far.settles) none)
 
         by : (l : ℕ) (begun : OpenCall) → bit_at lanes l ≡ 1 → bit_at later l ≢ 1 → open_at table l ≡ Some begun →
-            o.reads begun ≡ true → (l ≡ k) ⊎ (l ≢ k) → (bit_at r.in_effect l ≡ 1) ⊎ IsEffect o p.state begun None
+            reads_only begun ≡ true → (l ≡ k) ⊎ (l ≢ k) → (bit_at r.in_effect l ≡ 1) ⊎ IsEffect o p.state begun None
         by l begun is not opens reads (inl same) = subst
             (λ (u : ℕ). (bit_at r.in_effect u ≡ 1) ⊎ IsEffect o p.state begun None) (sym same)
             (first begun (here begun (subst (λ (u : ℕ). open_at table u ≡ Some begun) same opens) reads))
@@ -200,7 +202,8 @@ module _ {S : Type 0} (o : Judged S) (table : List (Option OpenCall)) (lanes : �
         (λ l same. subst (λ (u : ℕ). bit_at lanes u ≡ 1) (sym same) (so_far.left k among)) (one.settles table is_open))
         (λ b opens reads. subst (λ (c : OpenCall). (bit_at r.in_effect k ≡ 1) ⊎ IsEffect o q.state c None)
         (one_open table k begun b is_open opens)
-        (one.whole (subst (λ (c : OpenCall). o.reads c ≡ true) (sym (one_open table k begun b is_open opens)) reads)))
+        (one.whole (subst (λ (c : OpenCall). reads_only c ≡ true) (sym (one_open table k begun b is_open opens))
+        reads)))
 
     pub so_far_settled_idle : open_at table k ≡ None → r ≡ q → SettledSoFar o table lanes later p r
     so_far_settled_idle idle same = subst (λ (x : Position). SettledSoFar o table lanes later p x) (sym same) (record {

@@ -8,24 +8,26 @@ use Rattle.stamp_runs.specs.declared.event.Event.{Event}
 use Rattle.stamp_runs.specs.declared.event.Event.TheVariants as event
 use Rattle.stamp_sets.specs.declared.small_call.SmallReply.{SmallReply}
 use Rattle.stamp_sets.specs.declared.small_call.SmallCall.{SmallCall}
-use Rattle.stamp_sets.specs.declared.ending.SmallEnding.{SmallEnding}
-use Rattle.stamp_sets.specs.declared.ending.SmallEnding.TheVariants.{Never, Returns, Withdraws}
+use Rattle.stamp_sets.specs.declared.ending.Ending.{Ending}
+use Rattle.stamp_sets.specs.declared.ending.Ending.TheVariants.{Never, Returns, Withdraws}
 use Rattle.stamp_sets.specs.declared.open_call.OpenCall.{OpenCall}
 use Rattle.stamp_sets.specs.Judged.{Judged}
 use Rattle.stamp_sets.specs.Told.{ComesAsTold, EndsSo, MayGet, open_at}
 use Rattle.stamp_sets.specs.inner.Effect.{GoesBefore, IsAhead}
+use Rattle.stamp_sets.specs.SmallCall.{call_of, reply_of}
+use Rattle.stamp_sets.specs.Unchanging.{reads_only}
 use Rattle.stamp_sets.proofs.Tables.{one_open}
 use Rattle.stamp_sets.proofs.Telling.{one_ending}
 
-one_told : (a b : SmallEnding) (told reply : SmallReply) (place at : ℕ) → a ≡ b → a ≡ Returns told place →
+one_told : (a b : Ending) (told reply : SmallReply) (place at : ℕ) → a ≡ b → a ≡ Returns told place →
     b ≡ Returns reply at → told ≡ reply
 one_told a b told reply place at same first second = cc
 
-not_both : (a b : SmallEnding) (told : SmallReply) (place : ℕ) → a ≡ b → a ≡ Returns told place → b ≡ Never → ⊥
+not_both : (a b : Ending) (told : SmallReply) (place : ℕ) → a ≡ b → a ≡ Returns told place → b ≡ Never → ⊥
 not_both a b told place same first second = cc
 
 -- a number that is lower for a call that goes before another
-abbrev pub rank_of : ℕ → SmallEnding → ℕ
+abbrev pub rank_of : ℕ → Ending → ℕ
 rank_of lane (Returns told place) = place
 rank_of lane Withdraws = 0
 rank_of lane Never = lane
@@ -74,17 +76,17 @@ module _ {S : Type 0} (o : Judged S) where
       let less : a < b = lower.1 in omega (arith, low, high, less)
 
   pub before_alike : (a b : ℕ) (first other : OpenCall) → GoesBefore o a b first other →
-      AreAlike o.step (o.call first.asks) (o.call other.asks)
+      AreAlike o.step (call_of first.asks) (call_of other.asks)
   before_alike a b first other (inl ahead) = ahead.alike
-  before_alike a b first other (inr lower) = subst (λ (c : SmallCall). AreAlike o.step (o.call first.asks) (o.call c))
+  before_alike a b first other (inr lower) = subst (λ (c : SmallCall). AreAlike o.step (call_of first.asks) (call_of c))
       lower.0.call (record { does = λ s t r step. step; done_by = λ s t r step. step })
 
   pub before_may : (a b : ℕ) (first other : OpenCall) (reply : Reply) → GoesBefore o a b first other →
-      MayGet o.reply other.ends reply → MayGet o.reply first.ends reply
-  before_may a b first other reply (inl ahead) may = subst (λ (e : SmallEnding). MayGet o.reply e reply)
+      MayGet other.ends reply → MayGet first.ends reply
+  before_may a b first other reply (inl ahead) may = subst (λ (e : Ending). MayGet e reply)
       (sym ahead.first_is)
-      (ap o.reply ahead.same ∙ subst (λ (e : SmallEnding). MayGet o.reply e reply) ahead.other_is may)
-  before_may a b first other reply (inr lower) may = subst (λ (e : SmallEnding). MayGet o.reply e reply)
+      (ap reply_of ahead.same ∙ subst (λ (e : Ending). MayGet e reply) ahead.other_is may)
+  before_may a b first other reply (inr lower) may = subst (λ (e : Ending). MayGet e reply)
       (sym lower.0.first_is) tt
 
   module _ (table : List (Option OpenCall)) where
@@ -99,12 +101,12 @@ module _ {S : Type 0} (o : Judged S) where
         omega (arith, low, level)
 
     pub before_first : (a b last : ℕ) (first other : OpenCall) (reply : Reply) (future : List Event) →
-        open_at table a ≡ Some first → open_at table b ≡ Some other → ComesAsTold o.reply table last future →
-        MayGet o.reply other.ends reply → GoesBefore o a b first other → GoesFirst a b reply future
+        open_at table a ≡ Some first → open_at table b ≡ Some other → ComesAsTold (open_at table) last future →
+        MayGet other.ends reply → GoesBefore o a b first other → GoesFirst a b reply future
     before_first a b last first other reply future is also told may (inl ahead) = goes_sooner
         (subst (λ (r : Reply). EndsBy a (event.Returns a r) future)
-        (ap o.reply ahead.same ∙ subst (λ (e : SmallEnding). MayGet o.reply e reply) ahead.other_is may)
-        (subst (λ (e : SmallEnding). EndsSo o.reply a e future) ahead.first_is (told.ends a first is)))
+        (ap reply_of ahead.same ∙ subst (λ (e : Ending). MayGet e reply) ahead.other_is may)
+        (subst (λ (e : Ending). EndsSo a e future) ahead.first_is (told.ends a first is)))
         (told.sooner a b first other is also (record {
           reply = ahead.reply;
           answer = ahead.answer;
@@ -115,8 +117,8 @@ module _ {S : Type 0} (o : Judged S) where
           sooner = ahead.sooner;
         }))
     before_first a b last first other reply future is also told may (inr lower) = goes_endless
-        (subst (λ (e : SmallEnding). EndsSo o.reply a e future) lower.0.first_is (told.ends a first is))
-        (subst (λ (e : SmallEnding). EndsSo o.reply b e future) lower.0.other_is (told.ends b other also))
+        (subst (λ (e : Ending). EndsSo a e future) lower.0.first_is (told.ends a first is))
+        (subst (λ (e : Ending). EndsSo b e future) lower.0.other_is (told.ends b other also))
 
     -- a call gives way to one of some lanes that goes before it
     pub record GivesTo (Among Left : ℕ → Type 0) (u : ℕ) (begun : OpenCall) : Type 0 where
@@ -125,7 +127,7 @@ module _ {S : Type 0} (o : Judged S) where
       pub is_first : open_at table first_lane ≡ Some first
       pub among : Among first_lane
       pub left : Left u
-      pub changes : o.reads first ≡ false
+      pub changes : reads_only first ≡ false
       pub goes : GoesBefore o first_lane u first begun
 
     -- of the calls that go before the one of a lane the first came out so
@@ -138,7 +140,7 @@ module _ {S : Type 0} (o : Judged S) where
         pub among : Among ahead
         pub outcome : Outcome ahead first
         pub goes : ((ahead ≡ u) × (first ≡ begun)) ⊎
-            (GoesBefore o ahead u first begun × (o.reads first ≡ false) × Left u)
+            (GoesBefore o ahead u first begun × (reads_only first ≡ false) × Left u)
 
     module _ (Among Left : ℕ → Type 0) (Outcome : ℕ → OpenCall → Type 0) (whole : (u : ℕ) (begun : OpenCall) →
         open_at table u ≡ Some begun → Among u → Outcome u begun ⊎ GivesTo Among Left u begun) where
@@ -150,12 +152,12 @@ module _ {S : Type 0} (o : Judged S) where
         where
           on : (way : GivesTo Among Left u begun) → (one : ComesFirst Among Left Outcome way.first_lane way.first) →
               ((one.ahead ≡ way.first_lane) × (one.first ≡ way.first)) ⊎
-              (GoesBefore o one.ahead way.first_lane one.first way.first × (o.reads one.first ≡ false) ×
-              Left way.first_lane) → GoesBefore o one.ahead u one.first begun × (o.reads one.first ≡ false) × Left u
+              (GoesBefore o one.ahead way.first_lane one.first way.first × (reads_only one.first ≡ false) ×
+              Left way.first_lane) → GoesBefore o one.ahead u one.first begun × (reads_only one.first ≡ false) × Left u
           on way one (inl same) = (
             subst (λ (w : ℕ). GoesBefore o w u one.first begun) (sym same.0)
                 (subst (λ (c : OpenCall). GoesBefore o way.first_lane u c begun) (sym same.1) way.goes),
-            subst (λ (c : OpenCall). o.reads c ≡ false) (sym same.1) way.changes,
+            subst (λ (c : OpenCall). reads_only c ≡ false) (sym same.1) way.changes,
             way.left,
           )
           on way one (inr before) = (

@@ -11,11 +11,12 @@ use Rattle.stamp_sets.specs.declared.open_call.OpenCall.{OpenCall}
 use Rattle.stamp_sets.specs.Judged.{Judged}
 use Rattle.stamp_sets.specs.Kept.{may_be_free}
 use Rattle.stamp_sets.specs.inner.Effect.{IsOverwriting, IsOverwritingTo, IsUnchanging}
+use Rattle.stamp_sets.specs.Unchanging.{reads_only}
 
 -- its calls overwrite, and read, as is told by their numbers
 pub record IsLawful {S : Type 0} (o : Judged S) : Type 0 where
   pub overwriting : (begun : OpenCall) → IsOverwritingTo o begun (o.overwrites begun)
-  pub reading : (begun : OpenCall) → o.reads begun ≡ true → IsUnchanging o begun
+  pub reading : (begun : OpenCall) → reads_only begun ≡ true → IsUnchanging o begun
   pub freeing : (begun : OpenCall) (number : ℕ) → o.overwrites begun ≡ Some number → o.frees ≡ true
 
 -- a call that overwrites does so with each reply that it gets
@@ -47,18 +48,18 @@ module _ {S : Type 0} (o : Judged S) (lawful : IsLawful o) (begun : OpenCall) wh
   not_overwriting is = subst (λ (found : Option ℕ). IsOverwritingTo o begun found) is (lawful.overwriting begun)
 
   pub kind_of : may_be_free o begun ≡ true →
-      ((number : ℕ) × (o.overwrites begun ≡ Some number)) ⊎ ((o.overwrites begun ≡ None) × (o.reads begun ≡ true))
-  kind_of is = free_cases (o.overwrites begun) (o.reads begun)
-      (if_both o.frees (is_some (o.overwrites begun) || o.reads begun) is)
+      ((number : ℕ) × (o.overwrites begun ≡ Some number)) ⊎ ((o.overwrites begun ≡ None) × (reads_only begun ≡ true))
+  kind_of is = free_cases (o.overwrites begun) (reads_only begun)
+      (if_both o.frees (is_some (o.overwrites begun) || reads_only begun) is)
 
   -- one that overwrites may be free
   pub free_kind : (number : ℕ) → o.overwrites begun ≡ Some number → may_be_free o begun ≡ true
   free_kind number is =
-      ap (λ (any : Bool). any && (is_some (o.overwrites begun) || o.reads begun)) (lawful.freeing begun number is) ∙
-      ap (λ (found : Option ℕ). is_some found || o.reads begun) is
+      ap (λ (any : Bool). any && (is_some (o.overwrites begun) || reads_only begun)) (lawful.freeing begun number is) ∙
+      ap (λ (found : Option ℕ). is_some found || reads_only begun) is
 
   -- so may one that reads, where some call overwrites
-  pub free_reader : o.frees ≡ true → o.reads begun ≡ true → may_be_free o begun ≡ true
+  pub free_reader : o.frees ≡ true → reads_only begun ≡ true → may_be_free o begun ≡ true
   free_reader frees reads =
-      ap (λ (any : Bool). any && (is_some (o.overwrites begun) || o.reads begun)) frees ∙
-      or_right (is_some (o.overwrites begun)) (o.reads begun) reads
+      ap (λ (any : Bool). any && (is_some (o.overwrites begun) || reads_only begun)) frees ∙
+      or_right (is_some (o.overwrites begun)) (reads_only begun) reads

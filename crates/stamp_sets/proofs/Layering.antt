@@ -263,6 +263,15 @@ module _ {S : Type 0} (o : Judged S) (table : List (Option OpenCall)) where
       more = All-nil (λ (p : Position). 0 ≤ lanes_in p.in_effect);
     }
 
+    pub returned_one : (start done : List Position) → AreReturned lane start done → (x : Position) →
+        Contains done x → ReturnsFromOne lane start x
+    returned_one start done are x (k, less, same) =
+        let low : k < length start = let many = are.many in omega (arith, many, less) in record {
+          from = get_or start k x;
+          among = Contains-get_or start k x low;
+          returned = subst (λ (y : Position). IsReturnedFrom lane (get_or start k x) y) same (are.each k x low);
+        }
+
     -- where it is in effect in each position it returns from each
     pub under_way_returned : (start done : List Position) → AreReturned lane start done →
         IsUnderWay o table lane start done [] 0
@@ -271,7 +280,7 @@ module _ {S : Type 0} (o : Judged S) (table : List (Option OpenCall)) where
       starts = λ x is. Contains-append_left start [] x is;
       come = λ x is. from_start x (subst (λ (ys : List Position). Contains ys x) (append-nil start) is);
       each = λ x is. inl (to x is);
-      done_only = λ x is. back x is;
+      done_only = returned_one start done are;
       more = All-nil (λ (p : Position). 0 ≤ lanes_in p.in_effect);
     }
       where
@@ -281,14 +290,6 @@ module _ {S : Type 0} (o : Judged S) (table : List (Option OpenCall)) where
           among = Contains-get_or done k x (let many = are.many in omega (arith, many, less));
           returned = subst (λ (y : Position). IsReturnedFrom lane y (get_or done k x)) same (are.each k x less);
         }
-
-        back : (x : Position) → Contains done x → ReturnsFromOne lane start x
-        back x (k, less, same) = let low : k < length start = let many = are.many in omega (arith, many, less) in
-            record {
-              from = get_or start k x;
-              among = Contains-get_or start k x low;
-              returned = subst (λ (y : Position). IsReturnedFrom lane (get_or start k x) y) same (are.each k x low);
-            }
 
     -- so it is in effect in each
     pub taken_each : (start done : List Position) → AreReturned lane start done → (x : Position) → Contains start x →

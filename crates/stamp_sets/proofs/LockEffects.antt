@@ -15,7 +15,7 @@ use Rattle.stamp_runs.specs.Object.{LockStep}
 use Rattle.stamp_sets.specs.declared.small_call.SmallReply.TheVariants.{OfLock}
 use Rattle.stamp_sets.specs.Judged.{lock}
 use Rattle.stamp_sets.specs.inner.State.{IsState}
-use Rattle.stamp_sets.proofs.Answers.{IsAnswered, Stays, of_lock_told}
+use Rattle.stamp_sets.proofs.Answers.{IsAnswered, Stays}
 
 pub admitted : (limits : Bounds) (number : ℕ) → IsState (lock limits) number → IsAdmitted limits (word_at limits number)
 admitted limits number is = record { events = is.state; represented = is.holds }
@@ -48,9 +48,6 @@ module _ (limits : Bounds) (word : ℕ) (call : Call) where
   pub answered : (reply : LockReply) → Answers limits (word_at limits word) call (reply_as reply) →
       IsAnswered (lock limits) word call (OfLock reply) word
   answered reply answers = record {
-    reply = reply_as reply;
-    is_told = refl;
-    as_told = of_lock_told [] reply;
     some = λ s holds. (
       s ++ [],
       (
@@ -69,9 +66,6 @@ module _ (limits : Bounds) (word : ℕ) (call : Call) where
       Changes limits (word_at limits word) call next (reply_as reply) → bits ≡ next.bits →
       IsAnswered (lock limits) word call (OfLock reply) bits
   changed next reply bits changes same = record {
-    reply = reply_as reply;
-    is_told = refl;
-    as_told = of_lock_told [] reply;
     some = λ s holds. let moves = changes s holds in (
       s ++ moves.appended,
       (

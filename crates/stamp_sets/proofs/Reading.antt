@@ -6,7 +6,6 @@ use Rattle.std.proofs.lemmas.Bool.{cases_eq}
 use Rattle.std.proofs.lemmas.Nat.Bits.{bit_at-lt}
 use Rattle.stamp_core.specs.declared.call.Call.{Call}
 use Rattle.stamp_core.specs.declared.reply.Reply.{Reply}
-use Rattle.stamp_sets.specs.declared.small_call.SmallCall.{SmallCall}
 use Rattle.stamp_runs.specs.Object.{Object}
 use Rattle.stamp_runs.specs.Run.{Phase, Sets}
 use Rattle.stamp_runs.specs.Run.Phase.{Asks, Gets}
@@ -22,6 +21,7 @@ use Rattle.stamp_sets.specs.Kept.{HasPhase, IsFreeCall, IsInEffect, Reads}
 use Rattle.stamp_sets.specs.Told.{MayGet, open_at}
 use Rattle.stamp_sets.specs.inner.Effect.{AreFree, IsFreed, Takes}
 use Rattle.stamp_sets.specs.Lanes.{SetsBit}
+use Rattle.stamp_sets.specs.SmallCall.{call_of}
 use Rattle.stamp_sets.proofs.Lawful.{IsLawful, not_overwriting, over_as, overwriting_to}
 use Rattle.stamp_sets.proofs.Telling.{Beside}
 
@@ -67,38 +67,38 @@ abbrev pub moved : {S : Type 0} → run.Position S → ℕ → Phase → S → �
 moved {S} p lane phase next free = record { state = next; lanes = set_of p.lanes lane phase; free = is_set free }
 
 -- it asks this call, which is open there and not in effect
-pub record AsksIn (call_of : SmallCall → Call) (slot : Option OpenCall) (bit : ℕ) (call : Call) : Type 0 where
+pub record AsksIn (slot : Option OpenCall) (bit : ℕ) (call : Call) : Type 0 where
   pub begun : OpenCall
   pub is_open : slot ≡ Some begun
   pub free : bit ≡ 0
   pub same : call_of begun.asks ≡ call
 
-pub asks_in : {S : Type 0} (o : Judged S) (slot : Option OpenCall) (bit : ℕ) (phase : Phase) (call : Call) →
-    HasPhase o slot bit phase → phase ≡ Asks call → AsksIn o.call slot bit call
-asks_in o None bit phase call idle asks = absurd (idle_or_asks idle asks)
-asks_in o (Some begun) bit phase call (inl is) asks =
+pub asks_in : (slot : Option OpenCall) (bit : ℕ) (phase : Phase) (call : Call) →
+    HasPhase slot bit phase → phase ≡ Asks call → AsksIn slot bit call
+asks_in None bit phase call idle asks = absurd (idle_or_asks idle asks)
+asks_in (Some begun) bit phase call (inl is) asks =
     record { begun = begun; is_open = refl; free = is.free; same = one_call is.asks asks }
-asks_in o (Some begun) bit phase call (inr is) asks = absurd (asks_or_gets asks is.gets)
+asks_in (Some begun) bit phase call (inr is) asks = absurd (asks_or_gets asks is.gets)
 
-has_phase_same : {S : Type 0} (o : Judged S) (r p : Option OpenCall) (a b : ℕ) (x y : Phase) → r ≡ p → a ≡ b → x ≡ y →
-    HasPhase o r a x → HasPhase o p b y
-has_phase_same o r p a b x y opens bits phases has = subst (λ (z : Phase). HasPhase o p b z) phases
-    (subst (λ (i : ℕ). HasPhase o p i x) bits (subst (λ (q : Option OpenCall). HasPhase o q a x) opens has))
+has_phase_same : (r p : Option OpenCall) (a b : ℕ) (x y : Phase) → r ≡ p → a ≡ b → x ≡ y →
+    HasPhase r a x → HasPhase p b y
+has_phase_same r p a b x y opens bits phases has = subst (λ (z : Phase). HasPhase p b z) phases
+    (subst (λ (i : ℕ). HasPhase p i x) bits (subst (λ (q : Option OpenCall). HasPhase q a x) opens has))
 
-free_asks : {S : Type 0} (o : Judged S) (begun : OpenCall) (bit : ℕ) (phase : Phase) →
-    HasPhase o (Some begun) bit phase → bit ≡ 0 → phase ≡ Asks (o.call begun.asks)
-free_asks o begun bit phase (inl is) free = is.asks
-free_asks o begun bit phase (inr is) free = let taken = is.taken in absurd (omega (arith, taken, free))
+free_asks : (begun : OpenCall) (bit : ℕ) (phase : Phase) →
+    HasPhase (Some begun) bit phase → bit ≡ 0 → phase ≡ Asks (call_of begun.asks)
+free_asks begun bit phase (inl is) free = is.asks
+free_asks begun bit phase (inr is) free = let taken = is.taken in absurd (omega (arith, taken, free))
 
-taken_gets : {S : Type 0} (o : Judged S) (begun : OpenCall) (bit : ℕ) (phase : Phase) →
-    HasPhase o (Some begun) bit phase → bit ≡ 1 → IsInEffect o begun bit phase
-taken_gets o begun bit phase (inl is) taken = let free = is.free in absurd (omega (arith, taken, free))
-taken_gets o begun bit phase (inr is) taken = is
+taken_gets : (begun : OpenCall) (bit : ℕ) (phase : Phase) →
+    HasPhase (Some begun) bit phase → bit ≡ 1 → IsInEffect begun bit phase
+taken_gets begun bit phase (inl is) taken = let free = is.free in absurd (omega (arith, taken, free))
+taken_gets begun bit phase (inr is) taken = is
 
-gets_taken : {S : Type 0} (o : Judged S) (begun : OpenCall) (bit : ℕ) (phase : Phase) (reply : Reply) →
-    HasPhase o (Some begun) bit phase → phase ≡ Gets reply → bit ≡ 1
-gets_taken o begun bit phase reply (inl is) gets = absurd (asks_or_gets is.asks gets)
-gets_taken o begun bit phase reply (inr is) gets = is.taken
+gets_taken : (begun : OpenCall) (bit : ℕ) (phase : Phase) (reply : Reply) →
+    HasPhase (Some begun) bit phase → phase ≡ Gets reply → bit ≡ 1
+gets_taken begun bit phase reply (inl is) gets = absurd (asks_or_gets is.asks gets)
+gets_taken begun bit phase reply (inr is) gets = is.taken
 
 -- effects that change the one position to the other
 pub data ComesTo {S : Type 0} (O : Object S) (p : run.Position S) : run.Position S → Type 0 where
@@ -126,29 +126,29 @@ free_call_as o a b m n slots bits is = subst (λ (k : ℕ). IsFreeCall o b k) bi
 module _ {S : Type 0} (o : Judged S) (table : List (Option OpenCall)) where
   module _ (p : Position) (q : run.Position S) (reads : Reads o table p q) where
     module _ (lane : ℕ) (begun : OpenCall) (is_open : open_at table lane ≡ Some begun) where
-      pub phase_at : HasPhase o (Some begun) (bit_at p.in_effect lane) (q.lanes lane)
-      phase_at = subst (λ (x : Option OpenCall). HasPhase o x (bit_at p.in_effect lane) (q.lanes lane)) is_open
+      pub phase_at : HasPhase (Some begun) (bit_at p.in_effect lane) (q.lanes lane)
+      phase_at = subst (λ (x : Option OpenCall). HasPhase x (bit_at p.in_effect lane) (q.lanes lane)) is_open
           (reads.lanes lane)
 
-      pub asks_at : bit_at p.in_effect lane ≡ 0 → q.lanes lane ≡ Asks (o.call begun.asks)
-      asks_at free = free_asks o begun (bit_at p.in_effect lane) (q.lanes lane) phase_at free
+      pub asks_at : bit_at p.in_effect lane ≡ 0 → q.lanes lane ≡ Asks (call_of begun.asks)
+      asks_at free = free_asks begun (bit_at p.in_effect lane) (q.lanes lane) phase_at free
 
-      pub gets_at : bit_at p.in_effect lane ≡ 1 → IsInEffect o begun (bit_at p.in_effect lane) (q.lanes lane)
-      gets_at taken = taken_gets o begun (bit_at p.in_effect lane) (q.lanes lane) phase_at taken
+      pub gets_at : bit_at p.in_effect lane ≡ 1 → IsInEffect begun (bit_at p.in_effect lane) (q.lanes lane)
+      gets_at taken = taken_gets begun (bit_at p.in_effect lane) (q.lanes lane) phase_at taken
 
       pub taken_at : (reply : Reply) → q.lanes lane ≡ Gets reply → bit_at p.in_effect lane ≡ 1
-      taken_at reply gets = gets_taken o begun (bit_at p.in_effect lane) (q.lanes lane) reply phase_at gets
+      taken_at reply gets = gets_taken begun (bit_at p.in_effect lane) (q.lanes lane) reply phase_at gets
 
     pub asked_at : (lane : ℕ) (call : Call) → q.lanes lane ≡ Asks call →
-        AsksIn o.call (open_at table lane) (bit_at p.in_effect lane) call
-    asked_at lane call asks = asks_in o (open_at table lane) (bit_at p.in_effect lane) (q.lanes lane) call
+        AsksIn (open_at table lane) (bit_at p.in_effect lane) call
+    asked_at lane call asks = asks_in (open_at table lane) (bit_at p.in_effect lane) (q.lanes lane) call
         (reads.lanes lane) asks
 
   -- with one lane's phase set, in the table and the numbers, too
   pub reads_set : (later : List (Option OpenCall)) (p r : Position) (q : run.Position S) (lane : ℕ) (phase : Phase)
       (next : S) → Reads o table p q → Beside table later lane →
       ((other : ℕ) → other ≢ lane → bit_at r.in_effect other ≡ bit_at p.in_effect other) →
-      HasPhase o (open_at later lane) (bit_at r.in_effect lane) phase → o.holds r.state next →
+      HasPhase (open_at later lane) (bit_at r.in_effect lane) phase → o.holds r.state next →
       ((u : ℕ) → bit_at r.free u ≡ 1 → IsFreeCall o (open_at later u) (bit_at r.in_effect u)) →
       Reads o later r (moved q lane phase next r.free)
   reads_set later p r q lane phase next reads beside bits has holds kinds = record {
@@ -159,12 +159,12 @@ module _ {S : Type 0} (o : Judged S) (table : List (Option OpenCall)) where
   }
     where
       by : (u : ℕ) → (u ≡ lane) ⊎ (u ≢ lane) →
-          HasPhase o (open_at later u) (bit_at r.in_effect u) (set_of q.lanes lane phase u)
+          HasPhase (open_at later u) (bit_at r.in_effect u) (set_of q.lanes lane phase u)
       by u (inl same) = subst
-          (λ (v : ℕ). HasPhase o (open_at later v) (bit_at r.in_effect v) (set_of q.lanes lane phase v)) (sym same)
-          (subst (λ (x : Phase). HasPhase o (open_at later lane) (bit_at r.in_effect lane) x)
+          (λ (v : ℕ). HasPhase (open_at later v) (bit_at r.in_effect v) (set_of q.lanes lane phase v)) (sym same)
+          (subst (λ (x : Phase). HasPhase (open_at later lane) (bit_at r.in_effect lane) x)
           (sym (sets_of q.lanes lane phase).here) has)
-      by u (inr apart) = has_phase_same o (open_at table u) (open_at later u) (bit_at p.in_effect u)
+      by u (inr apart) = has_phase_same (open_at table u) (open_at later u) (bit_at p.in_effect u)
           (bit_at r.in_effect u) (q.lanes u) (set_of q.lanes lane phase u) (sym (beside.same u apart))
           (sym (bits u apart)) (sym ((sets_of q.lanes lane phase).others u apart)) (reads.lanes u)
 
@@ -186,15 +186,15 @@ module _ {S : Type 0} (o : Judged S) (table : List (Option OpenCall)) where
 
   -- the lane's call in effect
   module _ (lane : ℕ) (p r : Position) (q : run.Position S) (takes : Takes o table lane p r)
-      (reads : Reads o table p q) (reply : Reply) (next : S) (may : MayGet o.reply takes.begun.ends reply)
-      (step : o.step q.state (o.call takes.begun.asks) reply next) where
-    asks : q.lanes lane ≡ Asks (o.call takes.begun.asks)
+      (reads : Reads o table p q) (reply : Reply) (next : S) (may : MayGet takes.begun.ends reply)
+      (step : o.step q.state (call_of takes.begun.asks) reply next) where
+    asks : q.lanes lane ≡ Asks (call_of takes.begun.asks)
     asks = asks_at p q reads lane takes.begun takes.is_open takes.free
 
     pub reads_taken : ((u : ℕ) → bit_at r.free u ≡ 1 → IsFreeCall o (open_at table u) (bit_at r.in_effect u)) →
         Reads o table r (moved q lane (Gets reply) next r.free)
     reads_taken kinds = reads_set table p r q lane (Gets reply) next reads (beside_itself lane) takes.sets.others
-        (subst (λ (x : Option OpenCall). HasPhase o x (bit_at r.in_effect lane) (Gets reply)) (sym takes.is_open)
+        (subst (λ (x : Option OpenCall). HasPhase x (bit_at r.in_effect lane) (Gets reply)) (sym takes.is_open)
         (inr (record { taken = takes.sets.here; reply = reply; may = may; gets = refl })))
         (takes.effect.each q.state next reply reads.state may step) kinds
 
@@ -206,8 +206,8 @@ module _ {S : Type 0} (o : Judged S) (table : List (Option OpenCall)) where
 
       pub comes_changed : (x : run.Position S) → ComesTo o.step x q →
           ComesTo o.step x (moved q lane (Gets reply) next r.free)
-      comes_changed x rest = changes q (moved q lane (Gets reply) next r.free) lane (o.call takes.begun.asks) reply rest
-          asks step (sets_of q.lanes lane (Gets reply)) (not_set r.free lane clears.here)
+      comes_changed x rest = changes q (moved q lane (Gets reply) next r.free) lane (call_of takes.begun.asks) reply
+          rest asks step (sets_of q.lanes lane (Gets reply)) (not_set r.free lane clears.here)
           (λ v is. (reads.free v).1 (cleared p.free r.free lane v clears ((set_bit r.free v).0 is)).1)
 
       no_less_cleared : FreesNoLess q.free (is_set r.free) lane
@@ -223,7 +223,7 @@ module _ {S : Type 0} (o : Judged S) (table : List (Option OpenCall)) where
         kinds : (u : ℕ) → bit_at r.free u ≡ 1 → IsFreeCall o (open_at table u) (bit_at r.in_effect u)
         comes : (x : run.Position S) → ComesTo o.step x q → ComesTo o.step x (moved q lane (Gets reply) next r.free)
         no_less : FreesNoLess q.free (is_set r.free) lane
-        all : Overwrites o.step (o.call takes.begun.asks) reply next → (v : ℕ) → v ≢ lane →
+        all : Overwrites o.step (call_of takes.begun.asks) reply next → (v : ℕ) → v ≢ lane →
             IsFreed o table awaited p.in_effect v → is_set r.free v ≡ true
         not_awaited : bit_at p.free awaited ≡ 0 → bit_at r.free awaited ≡ 0
 
@@ -239,8 +239,8 @@ module _ {S : Type 0} (o : Judged S) (table : List (Option OpenCall)) where
       free_then (Some number) some others = record {
         kinds = λ u is. let left = cleared others.all r.free lane u others.clears is in
             kind u left.0 (others.frees.only u left.1);
-        comes = λ x rest. overwrites q (moved q lane (Gets reply) next r.free) lane (o.call takes.begun.asks) reply rest
-            asks over (sets_of q.lanes lane (Gets reply)) (not_set r.free lane others.clears.here);
+        comes = λ x rest. overwrites q (moved q lane (Gets reply) next r.free) lane (call_of takes.begun.asks) reply
+            rest asks over (sets_of q.lanes lane (Gets reply)) (not_set r.free lane others.clears.here);
         no_less = record {
           not_it = not_set r.free lane others.clears.here;
           others = λ v apart is. (set_bit r.free v).1 (others.clears.others v apart ∙
@@ -251,9 +251,9 @@ module _ {S : Type 0} (o : Judged S) (table : List (Option OpenCall)) where
             (λ is. unfreed (others.frees.only awaited is) unset));
       }
         where
-          over : Overwrites o.step (o.call takes.begun.asks) reply next
+          over : Overwrites o.step (call_of takes.begun.asks) reply next
           over = let is = overwriting_to o lawful takes.begun number some in
-              over_as o.step (o.call takes.begun.asks) is.reply reply q.state is.next next is.overwrites step
+              over_as o.step (call_of takes.begun.asks) is.reply reply q.state is.next next is.overwrites step
 
           kind : (u : ℕ) → u ≢ lane → IsFreed o table awaited p.in_effect u ⊎ (bit_at p.free u ≡ 1) →
               IsFreeCall o (open_at table u) (bit_at r.in_effect u)
@@ -280,7 +280,7 @@ module _ {S : Type 0} (o : Judged S) (table : List (Option OpenCall)) where
       pub no_less_then : FreesNoLess q.free (is_set r.free) lane
       no_less_then = then.no_less
 
-      pub all_then : Overwrites o.step (o.call takes.begun.asks) reply next → (v : ℕ) → v ≢ lane →
+      pub all_then : Overwrites o.step (call_of takes.begun.asks) reply next → (v : ℕ) → v ≢ lane →
           IsFreed o table awaited p.in_effect v → is_set r.free v ≡ true
       all_then = then.all
 

@@ -1,8 +1,7 @@
 -- A return, by layers of numbers: what is kept before it goes on to what is kept after it.
 use Rattle.std.proofs.Common.{ℕ, suc, ◌≡◌, ◌≢◌, ◌<◌, ◌⊎◌, ◌≤◌, Bool, false, true, List, [], ◌∷◌, ◌++◌, length, Option}
 use Rattle.std.proofs.Common.{Some, None, refl, sym, ◌∙◌, ap, subst, inl, inr, arith, append-nil}
-use Rattle.std.specs.Prelude.{◌||◌, slice_set}
-use Rattle.std.specs.Option.{is_some}
+use Rattle.std.specs.Prelude.{slice_set}
 use Rattle.std.specs.Int.{bit_at}
 use Rattle.std.specs.List.{All, Contains}
 use Rattle.std.proofs.lemmas.Bool.{cases_eq}
@@ -34,8 +33,8 @@ use Rattle.stamp_runs.proofs.Lanes.{true_or_false}
 use Rattle.stamp_runs.proofs.Reaching.{reached_came}
 use Rattle.stamp_runs.proofs.Returning.{go_on_by_return}
 use Rattle.stamp_runs.proofs.Sets.{stand_on}
-use Rattle.stamp_sets.specs.declared.ending.SmallEnding.{SmallEnding}
-use Rattle.stamp_sets.specs.declared.ending.SmallEnding.TheVariants.{Never, Returns, Withdraws}
+use Rattle.stamp_sets.specs.declared.ending.Ending.{Ending}
+use Rattle.stamp_sets.specs.declared.ending.Ending.TheVariants.{Never, Returns, Withdraws}
 use Rattle.stamp_sets.specs.declared.small_call.SmallReply.{SmallReply}
 use Rattle.stamp_sets.specs.declared.open_call.OpenCall.{OpenCall}
 use Rattle.stamp_sets.specs.declared.position.Position.{Position}
@@ -51,6 +50,8 @@ use Rattle.stamp_sets.specs.inner.Layer.{IsReturnedFrom, ReturnsFromOne}
 use Rattle.stamp_sets.specs.inner.Layer.IsComeTo.{by_effect, from_start}
 use Rattle.stamp_sets.specs.inner.Start.{HidesAmong, HidesInVain, HidesOne, Includes, IsFixed, IsHidden, IsHiddenFor}
 use Rattle.stamp_sets.specs.inner.Start.{IsTakenFrom, IsTakenUp, IsTriedFor, StartsWith}
+use Rattle.stamp_sets.specs.SmallCall.{call_of, reply_of}
+use Rattle.stamp_sets.specs.Unchanging.{reads_only}
 use Rattle.stamp_sets.proofs.Effects.{taken_settled, unfree_settled}
 use Rattle.stamp_sets.proofs.Going.{ComesFirst, GivesTo, before_alike, before_apart, before_first, before_may}
 use Rattle.stamp_sets.proofs.Going.{first_of, rank_of}
@@ -68,25 +69,25 @@ use Rattle.stamp_sets.proofs.Telling.{beside_set, told_returns}
 use Rattle.stamp_sets.proofs.Unseen.{hidden, hidden_reached, hidden_reads, hidden_with, reader_answered}
 
 -- what is told of a lane
-abbrev pub told_as : (SmallReply → Reply) → SmallEnding → Told
-told_as reply_of (Returns reply place) = Returning (reply_of reply) place
-told_as reply_of Withdraws = Withdrawing
-told_as reply_of Never = NeverEnds
+abbrev pub told_as : Ending → Told
+told_as (Returns reply place) = Returning (reply_of reply) place
+told_as Withdraws = Withdrawing
+told_as Never = NeverEnds
 
-abbrev pub told_in : (SmallReply → Reply) → Option OpenCall → Told
-told_in reply_of None = Nothing
-told_in reply_of (Some begun) = told_as reply_of begun.ends
+abbrev pub told_in : Option OpenCall → Told
+told_in None = Nothing
+told_in (Some begun) = told_as begun.ends
 
-fits_ending : (reply_of : SmallReply → Reply) (v : ℕ) (ends : SmallEnding) (future : List Event) →
-    EndsSo reply_of v ends future → FitsOne v (told_as reply_of ends) future
-fits_ending reply_of v (Returns reply place) future is = is
-fits_ending reply_of v Withdraws future is = is
-fits_ending reply_of v Never future is = is
+fits_ending : (v : ℕ) (ends : Ending) (future : List Event) →
+    EndsSo v ends future → FitsOne v (told_as ends) future
+fits_ending v (Returns reply place) future is = is
+fits_ending v Withdraws future is = is
+fits_ending v Never future is = is
 
-fits_in : (reply_of : SmallReply → Reply) (v : ℕ) (slot : Option OpenCall) (future : List Event) →
-    ((b : OpenCall) → slot ≡ Some b → EndsSo reply_of v b.ends future) → FitsOne v (told_in reply_of slot) future
-fits_in reply_of v None future each = tt
-fits_in reply_of v (Some b) future each = fits_ending reply_of v b.ends future (each b refl)
+fits_in : (v : ℕ) (slot : Option OpenCall) (future : List Event) →
+    ((b : OpenCall) → slot ≡ Some b → EndsSo v b.ends future) → FitsOne v (told_in slot) future
+fits_in v None future each = tt
+fits_in v (Some b) future each = fits_ending v b.ends future (each b refl)
 
 -- an open call that returns at this place
 record OpenTo (slot : Option OpenCall) (place : ℕ) : Type 0 where
@@ -95,33 +96,33 @@ record OpenTo (slot : Option OpenCall) (place : ℕ) : Type 0 where
   told : SmallReply
   ends : begun.ends ≡ Returns told place
 
-place_told : (reply_of : SmallReply → Reply) (reply : Reply) (place at : ℕ) (told : SmallReply) →
+place_told : (reply : Reply) (place at : ℕ) (told : SmallReply) →
     Returning (reply_of told) at ≡ Returning reply place →
     Returns told at ≡ Returns told place
-place_told reply_of reply place at told is = let same : at ≡ place = cc in ap (λ (n : ℕ). Returns told n) same
+place_told reply place at told is = let same : at ≡ place = cc in ap (λ (n : ℕ). Returns told n) same
 
-open_to : (reply_of : SmallReply → Reply) (slot : Option OpenCall) (reply : Reply) (place : ℕ) →
-    told_in reply_of slot ≡ Returning reply place →
+open_to : (slot : Option OpenCall) (reply : Reply) (place : ℕ) →
+    told_in slot ≡ Returning reply place →
     OpenTo slot place
-open_to reply_of None reply place is = absurd (let none : Nothing ≡ Returning reply place → ⊥ = λ same. cc in none is)
-open_to reply_of (Some begun) reply place is = by begun.ends refl is
+open_to None reply place is = absurd (let none : Nothing ≡ Returning reply place → ⊥ = λ same. cc in none is)
+open_to (Some begun) reply place is = by begun.ends refl is
   where
-    by : (ends : SmallEnding) → begun.ends ≡ ends → told_as reply_of ends ≡ Returning reply place →
+    by : (ends : Ending) → begun.ends ≡ ends → told_as ends ≡ Returning reply place →
         OpenTo (Some begun) place
     by (Returns told at) are is = record {
       begun = begun;
       is_open = refl;
       told = told;
-      ends = are ∙ place_told reply_of reply place at told is;
+      ends = are ∙ place_told reply place at told is;
     }
     by Withdraws are is = absurd (let none : Withdrawing ≡ Returning reply place → ⊥ = λ same. cc in none is)
     by Never are is = absurd (let none : NeverEnds ≡ Returning reply place → ⊥ = λ same. cc in none is)
 
-may_as_told : (reply_of : SmallReply → Reply) (ends : SmallEnding) (reply : Reply) →
-    watched.MayGet (told_as reply_of ends) reply → MayGet reply_of ends reply
-may_as_told reply_of (Returns reply place) other may = sym may
-may_as_told reply_of Withdraws other may = may
-may_as_told reply_of Never other may = may
+may_as_told : (ends : Ending) (reply : Reply) →
+    watched.MayGet (told_as ends) reply → MayGet ends reply
+may_as_told (Returns reply place) other may = sym may
+may_as_told Withdraws other may = may
+may_as_told Never other may = may
 
 -- what stands for a run stands for it as what is kept
 module _ {S : Type 0} (o : Judged S) (past : List Event) (table : List (Option OpenCall)) (kept : List Position)
@@ -161,13 +162,13 @@ same_bits false false one other = refl
 
 module _ {S : Type 0} (o : Judged S) (table : List (Option OpenCall)) (lane : ℕ) where
   module _ (x y : Position) (p : run.Position S) (reads : Reads o table x p) (is : IsFixed lane x y) where
-    fixed_free : (v : ℕ) → bit_at y.free v ≡ 1 → bit_at x.free v ≡ 1
+    pub fixed_free : (v : ℕ) → bit_at y.free v ≡ 1 → bit_at x.free v ≡ 1
     fixed_free v free = (cleared x.free y.free lane v is.clears free).1
 
     pub fixed_reads : Reads o table y (fixed_as p y)
     fixed_reads = record {
       state = subst (λ (n : ℕ). o.holds n p.state) (sym is.state) reads.state;
-      lanes = λ v. subst (λ (n : ℕ). HasPhase o (open_at table v) (bit_at n v) (p.lanes v)) (sym is.in_effect)
+      lanes = λ v. subst (λ (n : ℕ). HasPhase (open_at table v) (bit_at n v) (p.lanes v)) (sym is.in_effect)
           (reads.lanes v);
       free = λ v. set_bit y.free v;
       kinds = λ v free. subst (λ (n : ℕ). IsFreeCall o (open_at table v) (bit_at n v)) (sym is.in_effect)
@@ -337,34 +338,34 @@ so_free_if o slot phase is = subst (λ (x : Option OpenCall). free_if o x phase 
 module _ {S : Type 0} (o : Judged S) (lawful : IsLawful o) (table : List (Option OpenCall))
     (past : List Event) (last lane : ℕ) (begun : OpenCall) (reply_told : SmallReply) (place : ℕ) (reply : Reply)
     (is_open : open_at table lane ≡ Some begun) (ends : begun.ends ≡ Returns reply_told place)
-    (same : o.reply reply_told ≡ reply) (due : last ≤ place) (full : length table ≡ 64) where
+    (same : reply_of reply_told ≡ reply) (due : last ≤ place) (full : length table ≡ 64) where
   abbrev pub later : List (Option OpenCall)
   later = slice_set table lane None
 
   abbrev pub e : Return
   e = record {
-    told = λ v. told_in o.reply (open_at table v);
-    fits = ComesAsTold o.reply table last;
-    then_fits = ComesAsTold o.reply later place;
+    told = λ v. told_in (open_at table v);
+    fits = ComesAsTold (open_at table) last;
+    then_fits = ComesAsTold (open_at later) place;
     lane = lane;
     reply = reply;
   }
 
-  fits_then : (future : List Event) → ComesAsTold o.reply later place future →
-      ComesAsTold o.reply table last (event.Returns lane reply ∷ future)
-  fits_then future comes = told_returns o.reply table later last lane begun reply_told place reply future is_open ends
+  fits_then : (future : List Event) → ComesAsTold (open_at later) place future →
+      ComesAsTold (open_at table) last (event.Returns lane reply ∷ future)
+  fits_then future comes = told_returns table later last lane begun reply_told place reply future is_open ends
       same due
       (beside_set table lane None) comes
 
-  all_fit : (future : List Event) → ComesAsTold o.reply table last future → Fits e.told future
+  all_fit : (future : List Event) → ComesAsTold (open_at table) last future → Fits e.told future
   all_fit future comes = record {
-    each = λ v. fits_in o.reply v (open_at table v) future (λ b is. comes.ends v b is);
+    each = λ v. fits_in v (open_at table v) future (λ b is. comes.ends v b is);
     ordered = λ u v r a p q one other less. sooner u v p q (told_open u r p one) (told_open v a q other) less;
   }
     where
-      told_open : (u : ℕ) (r : Reply) (p : ℕ) → told_in o.reply (open_at table u) ≡ Returning r p → OpenTo
+      told_open : (u : ℕ) (r : Reply) (p : ℕ) → told_in (open_at table u) ≡ Returning r p → OpenTo
           (open_at table u) p
-      told_open u r p is = open_to o.reply (open_at table u) r p is
+      told_open u r p is = open_to (open_at table u) r p is
 
       sooner : (u v p q : ℕ) → OpenTo (open_at table u) p → OpenTo (open_at table v) q → p < q →
           ReturnsSooner u v future
@@ -378,12 +379,12 @@ module _ {S : Type 0} (o : Judged S) (lawful : IsLawful o) (table : List (Option
         sooner = less;
       })
 
-  now : (future : List Event) → Comes e future → ComesAsTold o.reply table last future
-  now future comes = subst (λ (events : List Event). ComesAsTold o.reply table last events) (sym comes.events_are)
+  now : (future : List Event) → Comes e future → ComesAsTold (open_at table) last future
+  now future comes = subst (λ (events : List Event). ComesAsTold (open_at table) last events) (sym comes.events_are)
       (fits_then comes.later comes.fits)
 
-  told_reply : (r : Reply) → MayGet o.reply begun.ends r → r ≡ reply
-  told_reply r may = sym (subst (λ (x : SmallEnding). MayGet o.reply x r) ends may) ∙ same
+  told_reply : (r : Reply) → MayGet begun.ends r → r ≡ reply
+  told_reply r may = sym (subst (λ (x : Ending). MayGet x r) ends may) ∙ same
 
   module _ (start first seen done : List Position) (starts : StartsWith o table lane start first)
       (includes : Includes first seen) (each : (x : Position) → Contains seen x → IsLookedAt o table lane x done seen)
@@ -439,7 +440,7 @@ module _ {S : Type 0} (o : Judged S) (lawful : IsLawful o) (table : List (Option
       free_frees p there v is = freed_so p v (λ same. true_or_false (subst (λ (u : ℕ). p.free u ≡ true) same is)
           (unfree p there)) (record {
             begun = it.begun;
-            call = o.call it.begun.asks;
+            call = call_of it.begun.asks;
             is_open = it.is_open;
             asks = asks_at o table there.is.numbers p there.is.reads v it.begun it.is_open it.waits;
             kind = it.kind;
@@ -449,8 +450,8 @@ module _ {S : Type 0} (o : Judged S) (lawful : IsLawful o) (table : List (Option
           it = there.is.reads.kinds v ((there.is.reads.free v).0 is)
 
       comes_looked_at : (p : run.Position S) (there : Looked p) (y : Effect S) (b : OpenCall) →
-          open_at table y.lane ≡ Some b → o.call b.asks ≡ y.call → MayGet o.reply b.ends y.reply →
-          o.step p.state (o.call b.asks) y.reply y.next → ComesAmong o table lane there.is.numbers y.lane seen →
+          open_at table y.lane ≡ Some b → call_of b.asks ≡ y.call → MayGet b.ends y.reply →
+          o.step p.state (call_of b.asks) y.reply y.next → ComesAmong o table lane there.is.numbers y.lane seen →
           OneOf Looked (TakesEffect o.step e (frees p) y p)
       comes_looked_at p there y b is its may step comes = record {
         position = to.then;
@@ -472,7 +473,7 @@ module _ {S : Type 0} (o : Judged S) (lawful : IsLawful o) (table : List (Option
                 y.reply y.next may_it step_it lawful lane comes.after.frees;
             frees_all = λ over v apart freed. all_then o table y.lane there.is.numbers comes.after.between p
                 comes.after.takes there.is.reads y.reply y.next may_it step_it lawful lane comes.after.frees
-                (subst (λ (c : OpenCall). Overwrites o.step (o.call c.asks) y.reply y.next) one
+                (subst (λ (c : OpenCall). Overwrites o.step (call_of c.asks) y.reply y.next) one
                 (subst (λ (c : Call). Overwrites o.step c y.reply y.next) (sym its) over)) v apart
                 (freed_from p there v freed);
           };
@@ -485,11 +486,11 @@ module _ {S : Type 0} (o : Judged S) (lawful : IsLawful o) (table : List (Option
           one : b ≡ comes.after.takes.begun
           one = one_open table y.lane b comes.after.takes.begun is comes.after.takes.is_open
 
-          may_it : MayGet o.reply comes.after.takes.begun.ends y.reply
-          may_it = subst (λ (c : OpenCall). MayGet o.reply c.ends y.reply) one may
+          may_it : MayGet comes.after.takes.begun.ends y.reply
+          may_it = subst (λ (c : OpenCall). MayGet c.ends y.reply) one may
 
-          step_it : o.step p.state (o.call comes.after.takes.begun.asks) y.reply y.next
-          step_it = subst (λ (c : OpenCall). o.step p.state (o.call c.asks) y.reply y.next) one step
+          step_it : o.step p.state (call_of comes.after.takes.begun.asks) y.reply y.next
+          step_it = subst (λ (c : OpenCall). o.step p.state (call_of c.asks) y.reply y.next) one step
 
           moved_to : run.Position S
           moved_to = moved p y.lane (Gets y.reply) y.next comes.after.between.free
@@ -502,8 +503,8 @@ module _ {S : Type 0} (o : Judged S) (lawful : IsLawful o) (table : List (Option
               there.is.reads y.reply y.next may_it step_it lawful lane comes.after.frees))
 
       none_looked_at : (p : run.Position S) (there : Looked p) (y : Effect S) (b : OpenCall) →
-          open_at table y.lane ≡ Some b → o.call b.asks ≡ y.call → MayGet o.reply b.ends y.reply →
-          o.step p.state (o.call b.asks) y.reply y.next → IsEffect o there.is.numbers.state b None →
+          open_at table y.lane ≡ Some b → call_of b.asks ≡ y.call → MayGet b.ends y.reply →
+          o.step p.state (call_of b.asks) y.reply y.next → IsEffect o there.is.numbers.state b None →
           OneOf Looked (TakesEffect o.step e (frees p) y p)
       none_looked_at p there y b is its may step none =
           let not = none p.state y.next y.reply there.is.reads.state may step in record {
@@ -524,7 +525,7 @@ module _ {S : Type 0} (o : Judged S) (lawful : IsLawful o) (table : List (Option
               kept = kept_asking o (Comes e) asking p y.lane y.reply not.1 (sets_of p.lanes y.lane (Gets y.reply))
                   (λ v apart free. sym (picks_second (cases_eq v y.lane) false (p.free v) apart) ∙ free)
                   (λ future comes_so.
-                  subst (λ (x : SmallEnding). EndsSo o.reply y.lane x future) not.0
+                  subst (λ (x : Ending). EndsSo y.lane x future) not.0
                   ((now future comes_so).ends y.lane b is));
             };
           }
@@ -537,8 +538,8 @@ module _ {S : Type 0} (o : Judged S) (lawful : IsLawful o) (table : List (Option
           }
 
       found_looked_at : (p : run.Position S) (there : Looked p) (y : Effect S) (b : OpenCall) →
-          open_at table y.lane ≡ Some b → o.call b.asks ≡ y.call → MayGet o.reply b.ends y.reply →
-          o.step p.state (o.call b.asks) y.reply y.next →
+          open_at table y.lane ≡ Some b → call_of b.asks ≡ y.call → MayGet b.ends y.reply →
+          o.step p.state (call_of b.asks) y.reply y.next →
           ComesAmong o table lane there.is.numbers y.lane seen ⊎ IsEffect o there.is.numbers.state b None →
           OneOf Looked (TakesEffect o.step e (frees p) y p)
       found_looked_at p there y b is its may step (inl comes) = comes_looked_at p there y b is its may step comes
@@ -590,15 +591,15 @@ module _ {S : Type 0} (o : Judged S) (lawful : IsLawful o) (table : List (Option
 
       -- the state that a call left which overwrites
       left_holds : (p : run.Position S) (x : Effect S) (b : OpenCall) (number : ℕ) → o.overwrites b ≡ Some number →
-          o.step p.state (o.call b.asks) x.reply x.next → o.holds number x.next
+          o.step p.state (call_of b.asks) x.reply x.next → o.holds number x.next
       left_holds p x b number leaves step = let found = overwriting_to o lawful b number leaves in
           subst (λ (t : S). o.holds number t) (sym (found.overwrites.leaves p.state x.next x.reply step)) found.holds
 
       -- a call that overwrites is as good as hidden where nothing else may follow it
       unseen_at : (p : run.Position S) (x : Effect S) (there : Looked p) (b : OpenCall) (left number : ℕ) →
-          o.overwrites b ≡ Some left → open_at table x.lane ≡ Some b → o.call b.asks ≡ x.call → x.lane ≢ lane →
+          o.overwrites b ≡ Some left → open_at table x.lane ≡ Some b → call_of b.asks ≡ x.call → x.lane ≢ lane →
           unseen.IsUnseen o table lane there.is.numbers.in_effect number → o.holds number x.next →
-          o.step p.state (o.call b.asks) x.reply x.next → p.lanes x.lane ≡ Asks x.call →
+          o.step p.state (call_of b.asks) x.reply x.next → p.lanes x.lane ≡ Asks x.call →
           IsSeenTo o.step e (frees p) Looked p x
       unseen_at p x there b left number leaves is_open its apart none holds step asks = is_unseen (record {
         overwrites = subst (λ (c : Call). Overwrites o.step c x.reply x.next) its over;
@@ -612,21 +613,21 @@ module _ {S : Type 0} (o : Judged S) (lawful : IsLawful o) (table : List (Option
         only = λ v c r t asks_c step_c may_c. only v c r t asks_c step_c may_c;
       })
         where
-          over : Overwrites o.step (o.call b.asks) x.reply x.next
+          over : Overwrites o.step (call_of b.asks) x.reply x.next
           over = let found = overwriting_to o lawful b left leaves in
-              over_as o.step (o.call b.asks) found.reply x.reply p.state found.next x.next found.overwrites step
+              over_as o.step (call_of b.asks) found.reply x.reply p.state found.next x.next found.overwrites step
 
           only : (v : ℕ) (c : Call) (r : Reply) (t : S) → p.lanes v ≡ Asks c → o.step x.next c r t →
-              watched.MayGet (told_in o.reply (open_at table v)) r →
+              watched.MayGet (told_in (open_at table v)) r →
               Overwrites o.step c r t ⊎ ((frees p v ≡ true) × (t ≡ x.next))
           only v c r t asks_c step_c may_c = by (none.each v at.begun at.is_open at.free)
             where
-              at : AsksIn o.call (open_at table v) (bit_at there.is.numbers.in_effect v) c
+              at : AsksIn (open_at table v) (bit_at there.is.numbers.in_effect v) c
               at = asked_at o table there.is.numbers p there.is.reads v c asks_c
 
-              may : MayGet o.reply at.begun.ends r
-              may = may_as_told o.reply at.begun.ends r
-                  (subst (λ (slot : Option OpenCall). watched.MayGet (told_in o.reply slot) r) at.is_open may_c)
+              may : MayGet at.begun.ends r
+              may = may_as_told at.begun.ends r
+                  (subst (λ (slot : Option OpenCall). watched.MayGet (told_in slot) r) at.is_open may_c)
 
               by : unseen.IsPassedOver o lane v at.begun number →
                   Overwrites o.step c r t ⊎ ((frees p v ≡ true) × (t ≡ x.next))
@@ -641,8 +642,8 @@ module _ {S : Type 0} (o : Judged S) (lawful : IsLawful o) (table : List (Option
                   asks = asks_c;
                   kind = free_reader o lawful at.begun (lawful.freeing b left leaves) reads;
                 }),
-                still.unchanging x.next t (subst (λ (k : Reply). o.step x.next (o.call at.begun.asks) k t)
-                    (sym (subst (λ (y : SmallEnding). MayGet o.reply y r) still.ends may))
+                still.unchanging x.next t (subst (λ (k : Reply). o.step x.next (call_of at.begun.asks) k t)
+                    (sym (subst (λ (y : Ending). MayGet y r) still.ends may))
                     (subst (λ (k : Call). o.step x.next k r t) (sym at.same) step_c)),
               )
               by (inr (inr (ends_it, dead))) = absurd (ends_it (dead x.next t r holds may
@@ -652,14 +653,14 @@ module _ {S : Type 0} (o : Judged S) (lawful : IsLawful o) (table : List (Option
           MayTakeEffect o.step e p x → IsSeenTo o.step e (frees p) Looked p x
       effects p x asked there asks may = by one.goes
         where
-          it : AsksIn o.call (open_at table x.lane) (bit_at there.is.numbers.in_effect x.lane) x.call
+          it : AsksIn (open_at table x.lane) (bit_at there.is.numbers.in_effect x.lane) x.call
           it = asked_at o table there.is.numbers p there.is.reads x.lane x.call may.asks
 
-          may_it : MayGet o.reply it.begun.ends x.reply
-          may_it = may_as_told o.reply it.begun.ends x.reply
-              (subst (λ (slot : Option OpenCall). watched.MayGet (told_in o.reply slot) x.reply) it.is_open may.may)
+          may_it : MayGet it.begun.ends x.reply
+          may_it = may_as_told it.begun.ends x.reply
+              (subst (λ (slot : Option OpenCall). watched.MayGet (told_in slot) x.reply) it.is_open may.may)
 
-          step_it : o.step p.state (o.call it.begun.asks) x.reply x.next
+          step_it : o.step p.state (call_of it.begun.asks) x.reply x.next
           step_it = subst (λ (c : Call). o.step p.state c x.reply x.next) (sym it.same) may.step
 
           one : ComesFirst o table (Waits p there) (NotAwaited p there) (IsFound p there) x.lane it.begun
@@ -667,7 +668,7 @@ module _ {S : Type 0} (o : Judged S) (lawful : IsLawful o) (table : List (Option
               (suc (rank_of x.lane it.begun.ends)) x.lane it.begun it.is_open it.free (omega arith)
 
           by : ((one.ahead ≡ x.lane) × (one.first ≡ it.begun)) ⊎
-              (GoesBefore o one.ahead x.lane one.first it.begun × (o.reads one.first ≡ false) × (x.lane ≢ lane)) →
+              (GoesBefore o one.ahead x.lane one.first it.begun × (reads_only one.first ≡ false) × (x.lane ≢ lane)) →
               IsSeenTo o.step e (frees p) Looked p x
           by (inl itself) = itself_found (subst (λ (c : OpenCall). IsFound p there x.lane c) itself.1
               (subst (λ (u : ℕ). IsFound p there u one.first) itself.0 one.outcome))
@@ -679,17 +680,17 @@ module _ {S : Type 0} (o : Judged S) (lawful : IsLawful o) (table : List (Option
                   it.is_open it.same apart none (left_holds p x it.begun number leaves step_it) step_it may.asks
           by (inr (before, changes, apart)) = given one.outcome
             where
-              alike_it : AreAlike o.step (o.call one.first.asks) (o.call it.begun.asks)
+              alike_it : AreAlike o.step (call_of one.first.asks) (call_of it.begun.asks)
               alike_it = before_alike o one.ahead x.lane one.first it.begun before
 
-              alike : AreAlike o.step (o.call one.first.asks) x.call
-              alike = subst (λ (c : Call). AreAlike o.step (o.call one.first.asks) c) it.same alike_it
+              alike : AreAlike o.step (call_of one.first.asks) x.call
+              alike = subst (λ (c : Call). AreAlike o.step (call_of one.first.asks) c) it.same alike_it
 
               both : (n : ℕ) → o.overwrites one.first ≡ Some n → o.overwrites it.begun ≡ None → ⊥
               both n some none = let over = overwriting_to o lawful one.first n some in
                   not_overwriting o lawful it.begun none x.reply x.next may_it (alike_over o.step
-                  (o.call one.first.asks) (o.call it.begun.asks) x.reply x.next alike_it (over_as o.step
-                  (o.call one.first.asks) over.reply x.reply p.state over.next x.next over.overwrites
+                  (call_of one.first.asks) (call_of it.begun.asks) x.reply x.next alike_it (over_as o.step
+                  (call_of one.first.asks) over.reply x.reply p.state over.next x.next over.overwrites
                   (alike.done_by p.state x.next x.reply may.step)))
 
               -- one that goes before overwrites no more than this one
@@ -702,7 +703,7 @@ module _ {S : Type 0} (o : Judged S) (lawful : IsLawful o) (table : List (Option
                   freed = freed_from p there one.ahead is
 
                   kinds : ((n : ℕ) × (o.overwrites one.first ≡ Some n)) ⊎
-                      ((o.overwrites one.first ≡ None) × (o.reads one.first ≡ true)) → ⊥
+                      ((o.overwrites one.first ≡ None) × (reads_only one.first ≡ true)) → ⊥
                   kinds (inl (n, some)) = both n some none
                   kinds (inr (other, reads)) = true_or_false reads changes
 
@@ -710,7 +711,7 @@ module _ {S : Type 0} (o : Judged S) (lawful : IsLawful o) (table : List (Option
                   (frees p one.ahead ≡ false) ⊎ (Overwrites o.step x.call x.reply x.next × (frees p x.lane ≡ true))
               unfreed None none = inl (false_from (frees p one.ahead) (λ is. not_both none is))
               unfreed (Some n) some = let over = overwriting_to o lawful it.begun n some in inr (
-                subst (λ (c : Call). Overwrites o.step c x.reply x.next) it.same (over_as o.step (o.call it.begun.asks)
+                subst (λ (c : Call). Overwrites o.step c x.reply x.next) it.same (over_as o.step (call_of it.begun.asks)
                     over.reply x.reply p.state over.next x.next over.overwrites step_it),
                 freed_so p x.lane apart (record {
                   begun = it.begun;
@@ -733,7 +734,7 @@ module _ {S : Type 0} (o : Judged S) (lawful : IsLawful o) (table : List (Option
               given : IsFound p there one.ahead one.first → IsSeenTo o.step e (frees p) Looked p x
               given (inl found) = gives_way (record {
                 ahead = one.ahead;
-                other = o.call one.first.asks;
+                other = call_of one.first.asks;
                 instead = record {
                   apart = before_apart o table one.ahead x.lane one.first it.begun one.is_first it.is_open before;
                   asks = asks_at o table there.is.numbers p there.is.reads one.ahead one.first one.is_first one.among;
@@ -744,7 +745,7 @@ module _ {S : Type 0} (o : Judged S) (lawful : IsLawful o) (table : List (Option
                 };
                 unfree = unfreed (o.overwrites it.begun) refl;
                 effect = found_looked_at p there
-                    (record { lane = one.ahead; call = o.call one.first.asks; reply = x.reply; next = x.next })
+                    (record { lane = one.ahead; call = call_of one.first.asks; reply = x.reply; next = x.next })
                     one.first
                     one.is_first refl (before_may o one.ahead x.lane one.first it.begun x.reply before may_it)
                     (alike.done_by p.state x.next x.reply may.step) found;
@@ -763,12 +764,12 @@ module _ {S : Type 0} (o : Judged S) (lawful : IsLawful o) (table : List (Option
         free_call u b is free = let it = old.is.reads.kinds u free in
             subst (λ (c : OpenCall). may_be_free o c ≡ true) (one_open table u it.begun b it.is_open is) it.kind
 
-        free_waits : (u : ℕ) (b : OpenCall) → open_at table u ≡ Some b → IsFreeIn u → p.lanes u ≡ Asks (o.call b.asks)
+        free_waits : (u : ℕ) (b : OpenCall) → open_at table u ≡ Some b → IsFreeIn u → p.lanes u ≡ Asks (call_of b.asks)
         free_waits u b is free = asks_at o table old.is.numbers p old.is.reads u b is (old.is.reads.kinds u free).waits
 
         hidden_from : (u : ℕ) (b : OpenCall) (n : ℕ) → open_at table u ≡ Some b → o.overwrites b ≡ Some n → IsFreeIn u →
             HidesAmong o table u n old.is.numbers first → (z : Effect S) → u ≡ z.lane →
-            Overwrites o.step (o.call b.asks) z.reply z.next → OneOf Looked (IsHiddenWith o.step e z p)
+            Overwrites o.step (call_of b.asks) z.reply z.next → OneOf Looked (IsHiddenWith o.step e z p)
         hidden_from u b n is some free hides z same_lane over = record {
           position = hidden o lawful table old.is.numbers hides.position p old.is.reads u n b is some free hides.hidden;
           there = record {
@@ -786,8 +787,8 @@ module _ {S : Type 0} (o : Judged S) (lawful : IsLawful o) (table : List (Option
                 hides.hidden);
           };
           is = hidden_with o lawful table old.is.numbers hides.position p old.is.reads u n b is some free hides.hidden e
-              (λ v c r opens may. may_as_told o.reply c.ends r
-              (subst (λ (slot : Option OpenCall). watched.MayGet (told_in o.reply slot) r) opens may))
+              (λ v c r opens may. may_as_told c.ends r
+              (subst (λ (slot : Option OpenCall). watched.MayGet (told_in slot) r) opens may))
               (λ future comes v c opens. (now future comes).ends v c opens) z same_lane
               (over.answer p.state its.next its.reply (its.overwrites.may p.state))
               (over.leaves p.state its.next its.reply (its.overwrites.may p.state));
@@ -853,11 +854,11 @@ module _ {S : Type 0} (o : Judged S) (lawful : IsLawful o) (table : List (Option
               by None not = inl (λ n some. absurd (none-some n (sym not ∙ some)))
               by (Some n) some = outcome n some ((tried u within).tried b n is some free)
 
-          awaited_reads : o.reads begun ≡ true
+          awaited_reads : reads_only begun ≡ true
           awaited_reads = by (kind_of o lawful begun (free_call lane begun is_open awaited_free))
             where
-              by : ((n : ℕ) × (o.overwrites begun ≡ Some n)) ⊎ ((o.overwrites begun ≡ None) × (o.reads begun ≡ true)) →
-                  o.reads begun ≡ true
+              by : ((n : ℕ) × (o.overwrites begun ≡ Some n)) ⊎
+                  ((o.overwrites begun ≡ None) × (reads_only begun ≡ true)) → reads_only begun ≡ true
               by (inl (n, some)) = absurd (none-some n (sym none ∙ some))
               by (inr is) = is.1
 
@@ -869,8 +870,8 @@ module _ {S : Type 0} (o : Judged S) (lawful : IsLawful o) (table : List (Option
 
           -- where one is hidden that leaves what it reads it is answered
           not_in_vain : (u : ℕ) (b : OpenCall) (n : ℕ) (r : Reply) (t : S) → open_at table u ≡ Some b →
-              o.overwrites b ≡ Some n → IsFreeIn u → Overwrites o.step (o.call b.asks) r t →
-              o.step t (o.call begun.asks) reply t → HidesInVain o table u n lane old.is.numbers → ⊥
+              o.overwrites b ≡ Some n → IsFreeIn u → Overwrites o.step (call_of b.asks) r t →
+              o.step t (call_of begun.asks) reply t → HidesInVain o table u n lane old.is.numbers → ⊥
           not_in_vain u b n r t is some free over step vain = omega (arith, taken, unset)
             where
               its : IsOverwriting o b n
@@ -882,8 +883,8 @@ module _ {S : Type 0} (o : Judged S) (lawful : IsLawful o) (table : List (Option
               answered : bit_at vain.hidden.then.in_effect lane ≡ 1
               answered = reader_answered o lawful table old.is.numbers vain.position p old.is.reads u n b is some free
                   vain.hidden lane begun reply (apart_from u b n is some) awaited_free is_open awaited_reads
-                  (subst (λ (x : SmallEnding). MayGet o.reply x reply) (sym ends) same)
-                  (subst (λ (v : S). o.step v (o.call begun.asks) reply v) (sym left_it) step)
+                  (subst (λ (x : Ending). MayGet x reply) (sym ends) same)
+                  (subst (λ (v : S). o.step v (call_of begun.asks) reply v) (sym left_it) step)
 
               taken : bit_at vain.position.in_effect lane ≡ 1
               taken = subst (λ (k : ℕ). bit_at k lane ≡ 1) (sym vain.hidden.in_effect) answered
@@ -892,8 +893,8 @@ module _ {S : Type 0} (o : Judged S) (lawful : IsLawful o) (table : List (Option
               unset = vain.waits
 
           source_other : (x : Effect S) (c : OpenCall) (n : ℕ) → open_at table x.lane ≡ Some c → IsFreeIn x.lane →
-              o.overwrites c ≡ Some n → Overwrites o.step (o.call c.asks) x.reply x.next → o.call c.asks ≡ x.call →
-              o.step x.next (o.call begun.asks) reply x.next → IsSource o.step e p x →
+              o.overwrites c ≡ Some n → Overwrites o.step (call_of c.asks) x.reply x.next → call_of c.asks ≡ x.call →
+              o.step x.next (call_of begun.asks) reply x.next → IsSource o.step e p x →
               OneOf Looked (IsHiddenWith o.step e x p) ⊎ GivesPlace o.step e Looked p x
           source_other x c n is free some over its step source = by one.goes
             where
@@ -903,7 +904,7 @@ module _ {S : Type 0} (o : Judged S) (lawful : IsLawful o) (table : List (Option
                   is free (omega arith)
 
               hides_or : (b : OpenCall) (m : ℕ) → open_at table one.ahead ≡ Some b → o.overwrites b ≡ Some m →
-                  Overwrites o.step (o.call b.asks) x.reply x.next →
+                  Overwrites o.step (call_of b.asks) x.reply x.next →
                   HidesAmong o table one.ahead m old.is.numbers first ⊎
                   HidesInVain o table one.ahead m lane old.is.numbers →
                   HidesAmong o table one.ahead m old.is.numbers first
@@ -912,7 +913,7 @@ module _ {S : Type 0} (o : Judged S) (lawful : IsLawful o) (table : List (Option
                   overs step vain)
 
               by : ((one.ahead ≡ x.lane) × (one.first ≡ c)) ⊎
-                  (GoesBefore o one.ahead x.lane one.first c × (o.reads one.first ≡ false) × Unit {0}) →
+                  (GoesBefore o one.ahead x.lane one.first c × (reads_only one.first ≡ false) × Unit {0}) →
                   OneOf Looked (IsHiddenWith o.step e x p) ⊎ GivesPlace o.step e Looked p x
               by (inl itself) = inl (hidden_from one.ahead one.first n one.is_first some_first one.among
                   (hides_or one.first n one.is_first some_first over_first (one.outcome n some_first)) x itself.0
@@ -921,16 +922,16 @@ module _ {S : Type 0} (o : Judged S) (lawful : IsLawful o) (table : List (Option
                   some_first : o.overwrites one.first ≡ Some n
                   some_first = ap o.overwrites itself.1 ∙ some
 
-                  over_first : Overwrites o.step (o.call one.first.asks) x.reply x.next
-                  over_first = subst (λ (b : OpenCall). Overwrites o.step (o.call b.asks) x.reply x.next) (sym itself.1)
-                      over
+                  over_first : Overwrites o.step (call_of one.first.asks) x.reply x.next
+                  over_first = subst (λ (b : OpenCall). Overwrites o.step (call_of b.asks) x.reply x.next)
+                      (sym itself.1) over
               by (inr (before, changes, any)) = inr (record {
                 ahead = one.ahead;
-                other = o.call one.first.asks;
+                other = call_of one.first.asks;
                 instead = record {
                   apart = before_apart o table one.ahead x.lane one.first c one.is_first is before;
                   asks = free_waits one.ahead one.first one.is_first one.among;
-                  alike = subst (λ (k : Call). AreAlike o.step (o.call one.first.asks) k) its alike;
+                  alike = subst (λ (k : Call). AreAlike o.step (call_of one.first.asks) k) its alike;
                   first = λ future comes_so. before_first o table one.ahead x.lane last one.first c x.reply future
                       one.is_first is (now future comes_so) may before;
                 };
@@ -938,26 +939,26 @@ module _ {S : Type 0} (o : Judged S) (lawful : IsLawful o) (table : List (Option
                 hidden = hidden_as (kind_of o lawful one.first (free_call one.ahead one.first one.is_first one.among));
               })
                 where
-                  alike : AreAlike o.step (o.call one.first.asks) (o.call c.asks)
+                  alike : AreAlike o.step (call_of one.first.asks) (call_of c.asks)
                   alike = before_alike o one.ahead x.lane one.first c before
 
                   found : IsOverwriting o c n
                   found = overwriting_to o lawful c n some
 
-                  may : MayGet o.reply c.ends x.reply
-                  may = subst (λ (r : Reply). MayGet o.reply c.ends r)
+                  may : MayGet c.ends x.reply
+                  may = subst (λ (r : Reply). MayGet c.ends r)
                       (over.answer p.state found.next found.reply (found.overwrites.may p.state)) found.may
 
-                  over_first : Overwrites o.step (o.call one.first.asks) x.reply x.next
-                  over_first = alike_over o.step (o.call c.asks) (o.call one.first.asks) x.reply x.next
+                  over_first : Overwrites o.step (call_of one.first.asks) x.reply x.next
+                  over_first = alike_over o.step (call_of c.asks) (call_of one.first.asks) x.reply x.next
                       (record { does = alike.done_by; done_by = alike.does }) over
 
                   hidden_as : ((m : ℕ) × (o.overwrites one.first ≡ Some m)) ⊎
-                      ((o.overwrites one.first ≡ None) × (o.reads one.first ≡ true)) →
-                      OneOf Looked (IsHiddenWith o.step e (of_other one.ahead (o.call one.first.asks) x) p)
+                      ((o.overwrites one.first ≡ None) × (reads_only one.first ≡ true)) →
+                      OneOf Looked (IsHiddenWith o.step e (of_other one.ahead (call_of one.first.asks) x) p)
                   hidden_as (inl (m, also)) = hidden_from one.ahead one.first m one.is_first also one.among
                       (hides_or one.first m one.is_first also over_first (one.outcome m also))
-                      (of_other one.ahead (o.call one.first.asks) x) refl over_first
+                      (of_other one.ahead (call_of one.first.asks) x) refl over_first
                   hidden_as (inr (not, reads)) = absurd (true_or_false reads changes)
 
           source_read : (x : Effect S) → IsSource o.step e p x →
@@ -970,14 +971,14 @@ module _ {S : Type 0} (o : Judged S) (lawful : IsLawful o) (table : List (Option
               it : IsFreeCall o (open_at table x.lane) (bit_at old.is.numbers.in_effect x.lane)
               it = old.is.reads.kinds x.lane free
 
-              its : o.call it.begun.asks ≡ x.call
+              its : call_of it.begun.asks ≡ x.call
               its = one_call (free_waits x.lane it.begun it.is_open free) source.asks
 
-              over : Overwrites o.step (o.call it.begun.asks) x.reply x.next
+              over : Overwrites o.step (call_of it.begun.asks) x.reply x.next
               over = subst (λ (c : Call). Overwrites o.step c x.reply x.next) (sym its) source.overwrites
 
               by : ((n : ℕ) × (o.overwrites it.begun ≡ Some n)) ⊎
-                  ((o.overwrites it.begun ≡ None) × (o.reads it.begun ≡ true)) →
+                  ((o.overwrites it.begun ≡ None) × (reads_only it.begun ≡ true)) →
                   (x.lane ≡ lane) ⊎ (o.step x.next source.call reply x.next × OverwritesNever o.step source.call) →
                   OneOf Looked (IsHiddenWith o.step e x p) ⊎ GivesPlace o.step e Looked p x
               by (inr (not, reads)) from = absurd ((lawful.reading it.begun reads).never x.reply x.next over)
@@ -1016,15 +1017,15 @@ module _ {S : Type 0} (o : Judged S) (lawful : IsLawful o) (table : List (Option
 
         asks_some : IsFreeIn lane → AsksSomeCall o.step (p.lanes lane)
         asks_some free = record {
-          call = o.call begun.asks;
+          call = call_of begun.asks;
           asks = free_waits lane begun is_open free;
           kind = by (kind_of o lawful begun (free_call lane begun is_open free));
         }
           where
             by : ((n : ℕ) × (o.overwrites begun ≡ Some n)) ⊎
-                ((o.overwrites begun ≡ None) × (o.reads begun ≡ true)) →
-                ((r : Reply) × (t : S) × Overwrites o.step (o.call begun.asks) r t) ⊎
-                OverwritesNever o.step (o.call begun.asks)
+                ((o.overwrites begun ≡ None) × (reads_only begun ≡ true)) →
+                ((r : Reply) × (t : S) × Overwrites o.step (call_of begun.asks) r t) ⊎
+                OverwritesNever o.step (call_of begun.asks)
             by (inl (n, some)) = let is = overwriting_to o lawful begun n some in
                 inl (is.reply, is.next, is.overwrites)
             by (inr (none, reads)) = inr (lawful.reading begun reads).never
@@ -1051,7 +1052,7 @@ module _ {S : Type 0} (o : Judged S) (lawful : IsLawful o) (table : List (Option
           IsReturnedFrom lane x d → Reads o later d (moved p lane Idle p.state d.free)
       read_returned x d p reads unset returned = reads_set o table later x d p lane Idle p.state reads
           (beside_set table lane None) returned.clears.others
-          (subst (λ (slot : Option OpenCall). HasPhase o slot (bit_at d.in_effect lane) Idle)
+          (subst (λ (slot : Option OpenCall). HasPhase slot (bit_at d.in_effect lane) Idle)
           (sym (open_at_set_none table lane)) refl)
           (subst (λ (n : ℕ). o.holds n p.state) (sym returned.state) reads.state)
           (λ u is. kinds_beside o table later x d p lane reads (beside_set table lane None) returned.clears.others u
@@ -1084,9 +1085,9 @@ module _ {S : Type 0} (o : Judged S) (lawful : IsLawful o) (table : List (Option
       }
         where
           open_phase : (p : run.Position S) (there : Looked p) →
-              HasPhase o (Some begun) (bit_at there.is.numbers.in_effect lane) (p.lanes lane) →
+              HasPhase (Some begun) (bit_at there.is.numbers.in_effect lane) (p.lanes lane) →
               IsOpen reply (p.lanes lane)
-          open_phase p there (inl is) = inl (o.call begun.asks, is.asks)
+          open_phase p there (inl is) = inl (call_of begun.asks, is.asks)
           open_phase p there (inr is) = inr (is.gets ∙ ap Gets (told_reply is.reply is.may))
 
           stay : (p : run.Position S) (there : Looked p) → p.lanes lane ≡ Gets reply →
@@ -1123,25 +1124,25 @@ module _ {S : Type 0} (o : Judged S) (lawful : IsLawful o) (table : List (Option
         left = left;
       }
 
-      pub goes_on : StandFor o.step o.start past (ComesAsTold o.reply table last) (OfSome o.step OldOnes) →
-          StandFor o.step o.start (past ++ event.Returns lane reply ∷ []) (ComesAsTold o.reply later place)
+      pub goes_on : StandFor o.step o.start past (ComesAsTold (open_at table) last) (OfSome o.step OldOnes) →
+          StandFor o.step o.start (past ++ event.Returns lane reply ∷ []) (ComesAsTold (open_at later) place)
           (OfSome o.step New)
-      goes_on stand = stand_on o.step o.start past (event.Returns lane reply) (ComesAsTold o.reply table last)
-          (ComesAsTold o.reply later place) (OfSome o.step OldOnes) (OfSome o.step New) stand
+      goes_on stand = stand_on o.step o.start past (event.Returns lane reply) (ComesAsTold (open_at table) last)
+          (ComesAsTold (open_at later) place) (OfSome o.step OldOnes) (OfSome o.step New) stand
           (go_on_by_return o.step e OldOnes Looked New all_fit fits_then returns_by)
 
       -- what is kept after the return
       pub kept_after : All (IsPossible o past table) start →
           ((x : Position) → Contains seen x → IsComeTo o table lane first x) →
           ((x : Position) → Contains done x → ReturnsFromOne lane seen x) →
-          StandFor o.step o.start past (ComesAsTold o.reply table last) (OfSome o.step OldOnes) →
+          StandFor o.step o.start past (ComesAsTold (open_at table) last) (OfSome o.step OldOnes) →
           AreKept o (past ++ event.Returns lane reply ∷ []) later place done
       kept_after possible come only stand = record {
         lanes = length-set table lane None ∙ full;
         possible = all_from (IsPossible o (past ++ event.Returns lane reply ∷ []) later) done (λ d among. at d (only
             d among)
             among);
-        stand = stand_kept o (past ++ event.Returns lane reply ∷ []) later done New (ComesAsTold o.reply later place)
+        stand = stand_kept o (past ++ event.Returns lane reply ∷ []) later done New (ComesAsTold (open_at later) place)
             (goes_on stand) (λ q new. new.is);
       }
         where
@@ -1151,14 +1152,14 @@ module _ {S : Type 0} (o : Judged S) (lawful : IsLawful o) (table : List (Option
             position = moved from.position lane Idle from.position.state d.free;
             reads = read_returned one.from d from.position from.reads from.not_free one.returned;
             may_be = new_may_be o (past ++ event.Returns lane reply ∷ []) later done New
-                (ComesAsTold o.reply later place)
+                (ComesAsTold (open_at later) place)
                 (goes_on stand) (λ q is. is.is) (moved from.position lane Idle from.position.state d.free) new;
           }
             where
               from : ReadsReached o lawful table past start lane one.from
               from = reads_come o lawful table past start lane possible first starts one.from (come one.from one.among)
 
-              gets : InEffect o begun (bit_at one.from.in_effect lane) (from.position.lanes lane)
+              gets : InEffect begun (bit_at one.from.in_effect lane) (from.position.lanes lane)
               gets = gets_at o table one.from from.position from.reads lane begun is_open one.returned.taken
 
               there : Looked from.position

@@ -14,7 +14,7 @@ use Rattle.stamp_runs.specs.Returning.{IsKeptAs, IsSettled, IsToldReader, IsUndo
 use Rattle.stamp_runs.specs.declared.event.Event.{Event}
 use Rattle.stamp_runs.proofs.Lanes.{asks_or_gets, one_call, pick, picks_first, picks_second}
 use Rattle.stamp_runs.proofs.Lanes.{sets_of, true_or_false}
-use Rattle.stamp_sets.specs.declared.ending.SmallEnding.{SmallEnding}
+use Rattle.stamp_sets.specs.declared.ending.Ending.{Ending}
 use Rattle.stamp_sets.specs.declared.open_call.OpenCall.{OpenCall}
 use Rattle.stamp_sets.specs.declared.position.Position.{Position}
 use Rattle.stamp_sets.specs.Judged.{Judged}
@@ -22,6 +22,7 @@ use Rattle.stamp_sets.specs.Kept.{Reads}
 use Rattle.stamp_sets.specs.Told.{EndsSo, MayGet, open_at}
 use Rattle.stamp_sets.specs.inner.Effect.{IsUnchanging, Settles, TakesAtOnce, TakesEffectTo}
 use Rattle.stamp_sets.specs.inner.Effect.Settles.{as_it_is, one_more}
+use Rattle.stamp_sets.specs.SmallCall.{call_of, reply_of}
 use Rattle.stamp_sets.proofs.Reading.{ComesTo, asks_at, cleared, comes_changed, kinds_cleared, moved, reads_taken}
 use Rattle.stamp_sets.proofs.Reading.{set_bit}
 use Rattle.stamp_sets.proofs.Reading.ComesTo.{stays}
@@ -106,8 +107,8 @@ module _ {S : Type 0} (o : Judged S) (table : List (Option OpenCall)) where
     pub begun : OpenCall
     pub is_open : open_at table v ≡ Some begun
     pub unchanging : IsUnchanging o begun
-    pub asks : before ≡ Asks (o.call begun.asks)
-    pub gets : after ≡ Gets (o.reply unchanging.told)
+    pub asks : before ≡ Asks (call_of begun.asks)
+    pub gets : after ≡ Gets (reply_of unchanging.told)
 
   abbrev pub IsSettledAt : ℕ → Phase → Phase → Type 0
   IsSettledAt v before after = (after ≡ before) ⊎ IsReaderAt v before after
@@ -137,9 +138,9 @@ module _ {S : Type 0} (o : Judged S) (table : List (Option OpenCall)) where
     lanes = λ v. at v (cases_eq v last.lane);
     comes = comes_changed o table last.lane x y before.then last.takes before.reads effect.reply effect.next effect.may
         effect.step last.clears first before.comes;
-    sees = sees_more before.then.lanes after.lanes last.lane (o.call last.takes.begun.asks) effect.reply before.sees
-        last.among asks (subst (λ (t : S). o.step t (o.call last.takes.begun.asks) effect.reply t) (sym before.state)
-        (subst (λ (t : S). o.step before.then.state (o.call last.takes.begun.asks) effect.reply t) still effect.step))
+    sees = sees_more before.then.lanes after.lanes last.lane (call_of last.takes.begun.asks) effect.reply before.sees
+        last.among asks (subst (λ (t : S). o.step t (call_of last.takes.begun.asks) effect.reply t) (sym before.state)
+        (subst (λ (t : S). o.step before.then.state (call_of last.takes.begun.asks) effect.reply t) still effect.step))
         (sets_of before.then.lanes last.lane (Gets effect.reply));
   }
     where
@@ -149,21 +150,21 @@ module _ {S : Type 0} (o : Judged S) (table : List (Option OpenCall)) where
       after : run.Position S
       after = moved before.then last.lane (Gets effect.reply) effect.next y.free
 
-      its : o.reply last.unchanging.told ≡ effect.reply
-      its = subst (λ (e : SmallEnding). MayGet o.reply e effect.reply) last.unchanging.ends effect.may
+      its : reply_of last.unchanging.told ≡ effect.reply
+      its = subst (λ (e : Ending). MayGet e effect.reply) last.unchanging.ends effect.may
 
-      step : o.step before.then.state (o.call last.takes.begun.asks) (o.reply last.unchanging.told) effect.next
-      step = subst (λ (r : Reply). o.step before.then.state (o.call last.takes.begun.asks) r effect.next) (sym its)
+      step : o.step before.then.state (call_of last.takes.begun.asks) (reply_of last.unchanging.told) effect.next
+      step = subst (λ (r : Reply). o.step before.then.state (call_of last.takes.begun.asks) r effect.next) (sym its)
           effect.step
 
       still : effect.next ≡ before.then.state
       still = last.unchanging.unchanging before.then.state effect.next step
 
-      asks : before.then.lanes last.lane ≡ Asks (o.call last.takes.begun.asks)
+      asks : before.then.lanes last.lane ≡ Asks (call_of last.takes.begun.asks)
       asks = asks_at o table x before.then before.reads last.lane last.takes.begun last.takes.is_open last.takes.free
 
       asked_first : IsSettledAt last.lane (first.lanes last.lane) (before.then.lanes last.lane) →
-          first.lanes last.lane ≡ Asks (o.call last.takes.begun.asks)
+          first.lanes last.lane ≡ Asks (call_of last.takes.begun.asks)
       asked_first (inr reader) = absurd (asks_or_gets asks reader.gets)
       asked_first (inl same) = sym same ∙ asks
 
@@ -211,7 +212,7 @@ module _ {S : Type 0} (o : Judged S) (table : List (Option OpenCall)) where
 
   abbrev pub told_of : (v : ℕ) (before after : Phase) → IsSettledAt v before after → Reply
   told_of v before after (inl same) = Done
-  told_of v before after (inr reader) = o.reply reader.unchanging.told
+  told_of v before after (inr reader) = reply_of reader.unchanging.told
 
   pub reader_reads : (v : ℕ) (before after : Phase) (at : IsSettledAt v before after) →
       is_reader v before after at ≡ true → after ≡ Gets (told_of v before after at)
@@ -241,15 +242,15 @@ module _ {S : Type 0} (o : Judged S) (table : List (Option OpenCall)) where
       (one_call reader.asks asks) reader.unchanging.never
 
   module _ (fits : List Event → Type 0) (ends : (future : List Event) → fits future → (v : ℕ) (b : OpenCall) →
-      open_at table v ≡ Some b → EndsSo o.reply v b.ends future) where
+      open_at table v ≡ Some b → EndsSo v b.ends future) where
     pub reader_told : (v : ℕ) (before after : Phase) (at : IsSettledAt v before after) →
         is_reader v before after at ≡ true → IsToldReader o.step fits v (told_of v before after at) before
     reader_told v before after (inl same) is = absurd (true_or_false is refl)
     reader_told v before after (inr reader) is = record {
-      call = o.call reader.begun.asks;
+      call = call_of reader.begun.asks;
       asks = reader.asks;
       still = reader.unchanging.unchanging;
-      ends = λ future fit. subst (λ (e : SmallEnding). EndsSo o.reply v e future) reader.unchanging.ends
+      ends = λ future fit. subst (λ (e : Ending). EndsSo v e future) reader.unchanging.ends
           (ends future fit v reader.begun reader.is_open);
     }
 

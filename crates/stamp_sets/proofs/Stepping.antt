@@ -25,8 +25,8 @@ use Rattle.stamp_runs.proofs.Lanes.{sets_of, true_or_false}
 use Rattle.stamp_runs.proofs.Sets.{stand_on}
 use Rattle.stamp_runs.proofs.Sources.{unfree_stays}
 use Rattle.stamp_runs.proofs.Stepping.{go_on_by_beginning, go_on_by_withdrawal, stand_as_kept}
-use Rattle.stamp_sets.specs.declared.ending.SmallEnding.{SmallEnding}
-use Rattle.stamp_sets.specs.declared.ending.SmallEnding.TheVariants.{Withdraws}
+use Rattle.stamp_sets.specs.declared.ending.Ending.{Ending}
+use Rattle.stamp_sets.specs.declared.ending.Ending.TheVariants.{Withdraws}
 use Rattle.stamp_sets.specs.declared.open_call.OpenCall.{OpenCall}
 use Rattle.stamp_sets.specs.declared.position.Position.{Position}
 use Rattle.stamp_sets.specs.Judged.{Judged}
@@ -37,6 +37,8 @@ use Rattle.stamp_sets.specs.Told.{ComesAsTold, HasEachOpen, MayGet, open_at}
 use Rattle.stamp_sets.specs.inner.Effect.{Settles}
 use Rattle.stamp_sets.specs.Lanes.{SetsBit}
 use Rattle.stamp_sets.specs.inner.Step.{AreBegun, BeginsIn, IsOpening}
+use Rattle.stamp_sets.specs.SmallCall.{call_of}
+use Rattle.stamp_sets.specs.Unchanging.{reads_only}
 use Rattle.stamp_sets.proofs.Layering.{all_from, contains_one}
 use Rattle.stamp_sets.proofs.Reading.{false_from, is_set, kinds_beside, moved, phase_at, reached_on, reads_set}
 use Rattle.stamp_sets.proofs.Reading.{set_bit, unfree_at}
@@ -53,10 +55,10 @@ module _ {S : Type 0} (o : Judged S) (table : List (Option OpenCall)) (p : Posit
   not_free lane set = let none = bit_at-zero lane in
       let one : bit_at 0 lane ≡ 1 = subst (λ (n : ℕ). bit_at n lane ≡ 1) is.none_free set in omega (arith, none, one)
 
-  opening_reads : Reads o table p (opening_position o.start)
+  pub opening_reads : Reads o table p (opening_position o.start)
   opening_reads = record {
     state = is.state;
-    lanes = λ lane. subst (λ (slot : Option OpenCall). HasPhase o slot (bit_at p.in_effect lane) Idle)
+    lanes = λ lane. subst (λ (slot : Option OpenCall). HasPhase slot (bit_at p.in_effect lane) Idle)
         (sym (ap (λ (t : List (Option OpenCall)). open_at t lane) idle ∙ open_at_idle 64 lane)) refl;
     free = λ lane. (
       λ is. absurd (true_or_false is refl),
@@ -160,7 +162,7 @@ module _ {S : Type 0} (o : Judged S) (past : List Event)
   later = slice_set table lane (Some begun)
 
   abbrev itself : Event
-  itself = event.Begins lane (o.call begun.asks)
+  itself = event.Begins lane (call_of begun.asks)
 
   abbrev Old : run.Position S → Type 0
   Old q = IsKept o past table kept q
@@ -176,7 +178,7 @@ module _ {S : Type 0} (o : Judged S) (past : List Event)
     plain : Position
     settles_to : (t : List (Option OpenCall)) → open_at t lane ≡ Some begun → Settles o t (λ l. l ≡ lane) plain next
     reads : Reads o later plain q
-    is : IsBegun lane (o.call begun.asks) first q
+    is : IsBegun lane (call_of begun.asks) first q
 
   record BegunOne (q : run.Position S) : Type 0 where
     next : Position
@@ -207,13 +209,13 @@ module _ {S : Type 0} (o : Judged S) (past : List Event)
       at = old.is.reads.kinds u is
 
   is_begun : (p : run.Position S) (old : Old p) (free : ℕ) → free ≡ old.is.numbers.free →
-      IsBegun lane (o.call begun.asks) p (moved p lane (Asks (o.call begun.asks)) p.state free)
+      IsBegun lane (call_of begun.asks) p (moved p lane (Asks (call_of begun.asks)) p.state free)
   is_begun p old free same = record {
-    idle = subst (λ (slot : Option OpenCall). HasPhase o slot (bit_at old.is.numbers.in_effect lane)
+    idle = subst (λ (slot : Option OpenCall). HasPhase slot (bit_at old.is.numbers.in_effect lane)
         (p.lanes lane)) idle (old.is.reads.lanes lane);
     not_free = unfree_at o table old.is.numbers p lane old.is.reads (λ is. idle_unfree p old lane is refl);
     state = refl;
-    sets = sets_of p.lanes lane (Asks (o.call begun.asks));
+    sets = sets_of p.lanes lane (Asks (call_of begun.asks));
     free = record {
       not_it = false_from (is_set free lane) (λ is. idle_unfree p old lane (was lane is) refl);
       others = λ v apart. same_bits (is_set free v) (p.free v) (λ is. (old.is.reads.free v).1 (was v is))
@@ -226,17 +228,17 @@ module _ {S : Type 0} (o : Judged S) (past : List Event)
 
   begins_at : (p : run.Position S) (old : Old p) (next : Position) → Contains new next →
       (begins : BeginsIn o begun lane old.is.numbers next) →
-      BegunTo next (moved p lane (Asks (o.call begun.asks)) p.state begins.plain.free)
+      BegunTo next (moved p lane (Asks (call_of begun.asks)) p.state begins.plain.free)
   begins_at p old next among begins = record {
     first = p;
     old = old;
     among = among;
     plain = begins.plain;
     settles_to = begins.settles.settles;
-    reads = reads_set o table later old.is.numbers begins.plain p lane (Asks (o.call begun.asks)) p.state old.is.reads
+    reads = reads_set o table later old.is.numbers begins.plain p lane (Asks (call_of begun.asks)) p.state old.is.reads
         (beside_set table lane (Some begun)) begins.clears.others
         (subst (λ (slot : Option OpenCall).
-        HasPhase o slot (bit_at begins.plain.in_effect lane) (Asks (o.call begun.asks))) (sym here)
+        HasPhase slot (bit_at begins.plain.in_effect lane) (Asks (call_of begun.asks))) (sym here)
         (inl (record { free = begins.clears.here; asks = refl })))
         (subst (λ (n : ℕ). o.holds n p.state) (sym begins.state) old.is.reads.state)
         (λ u is. let was : bit_at old.is.numbers.free u ≡ 1 = subst (λ (n : ℕ). bit_at n u ≡ 1) begins.free is in
@@ -258,20 +260,20 @@ module _ {S : Type 0} (o : Judged S) (past : List Event)
     begins = subst (λ (y : Position). BeginsIn o begun lane y (get_or new k x)) same (are.each k x less);
   }
 
-  stay : (p : run.Position S) → Old p → OneOf BegunOne (IsBegun lane (o.call begun.asks) p)
+  stay : (p : run.Position S) → Old p → OneOf BegunOne (IsBegun lane (call_of begun.asks) p)
   stay p old = let of = comes_of old.is.numbers old.is.among in
       let one = begins_at p old of.next of.among of.begins in record {
-        position = moved p lane (Asks (o.call begun.asks)) p.state of.begins.plain.free;
+        position = moved p lane (Asks (call_of begun.asks)) p.state of.begins.plain.free;
         there = record { next = of.next; to = one };
         is = is_begun p old of.begins.plain.free of.begins.free;
       }
 
-  keep : (q : run.Position S) → BegunOne q → OneOf NewOne (IsKeptAs o.step (ComesAsTold o.reply later last) q)
+  keep : (q : run.Position S) → BegunOne q → OneOf NewOne (IsKeptAs o.step (ComesAsTold (open_at later) last) q)
   keep q one = record {
     position = (settled_one one.next q one.to).then;
     there = new_one one.next q one.to;
-    is = kept_settled o (ComesAsTold o.reply later last) q (settled_one one.next q one.to).then (is_settled o later
-        (ComesAsTold o.reply later last) (λ future fit v b is. fit.ends v b is) (λ l. l ≡ lane) one.next q
+    is = kept_settled o (ComesAsTold (open_at later) last) q (settled_one one.next q one.to).then (is_settled o later
+        (ComesAsTold (open_at later) last) (λ future fit v b is. fit.ends v b is) (λ l. l ≡ lane) one.next q
         (settled_one one.next q one.to));
   }
 
@@ -279,17 +281,17 @@ module _ {S : Type 0} (o : Judged S) (past : List Event)
   kept_begun old = record {
     lanes = length-set table lane (Some begun) ∙ full;
     possible = all_from (IsPossible o (past ++ itself ∷ []) later) new (λ x among. at x among);
-    stand = stand_kept o (past ++ itself ∷ []) later new NewOne (ComesAsTold o.reply later last) stand
+    stand = stand_kept o (past ++ itself ∷ []) later new NewOne (ComesAsTold (open_at later) last) stand
         (λ q one. one.is);
   }
     where
-      stand : StandFor o.step o.start (past ++ itself ∷ []) (ComesAsTold o.reply later last) (OfSome o.step NewOne)
-      stand = stand_as_kept o.step o.start (past ++ itself ∷ []) (ComesAsTold o.reply later last) BegunOne NewOne
-          (stand_on o.step o.start past itself (ComesAsTold o.reply table last) (ComesAsTold o.reply later last)
+      stand : StandFor o.step o.start (past ++ itself ∷ []) (ComesAsTold (open_at later) last) (OfSome o.step NewOne)
+      stand = stand_as_kept o.step o.start (past ++ itself ∷ []) (ComesAsTold (open_at later) last) BegunOne NewOne
+          (stand_on o.step o.start past itself (ComesAsTold (open_at table) last) (ComesAsTold (open_at later) last)
           (OfSome o.step Old)
-          (OfSome o.step BegunOne) old.stand (go_on_by_beginning o.step (ComesAsTold o.reply table last)
-          (ComesAsTold o.reply later last) lane (o.call begun.asks) Old BegunOne
-          (λ future comes. told_begins o.reply table later last lane (o.call begun.asks) future idle
+          (OfSome o.step BegunOne) old.stand (go_on_by_beginning o.step (ComesAsTold (open_at table) last)
+          (ComesAsTold (open_at later) last) lane (call_of begun.asks) Old BegunOne
+          (λ future comes. told_begins table later last lane (call_of begun.asks) future idle
           (beside_set table lane (Some begun)) comes)
           (λ q one. record { position = one.to.first; there = one.to.old; is = one.to.is }) stay))
           (λ q one. one.reached) keep
@@ -305,12 +307,12 @@ module _ {S : Type 0} (o : Judged S) (past : List Event)
           from is = record {
             position = (settled_one (get_or new k x) q one).then;
             reads = (settled_one (get_or new k x) q one).reads;
-            may_be = new_may_be o (past ++ itself ∷ []) later new NewOne (ComesAsTold o.reply later last) stand
+            may_be = new_may_be o (past ++ itself ∷ []) later new NewOne (ComesAsTold (open_at later) last) stand
                 (λ r it. it.is) (settled_one (get_or new k x) q one).then (new_one (get_or new k x) q one);
           }
             where
               q : run.Position S
-              q = moved is.position lane (Asks (o.call begun.asks)) is.position.state (are.each k x low).plain.free
+              q = moved is.position lane (Asks (call_of begun.asks)) is.position.state (are.each k x low).plain.free
 
               one : BegunTo (get_or new k x) q
               one = begins_at is.position (record {
@@ -338,16 +340,17 @@ module _ {S : Type 0} (o : Judged S) (lawful : IsLawful o) (past : List Event) (
     is : ReadsOne o ended kept q
     was : IsWithdrawn lane first q
 
-  asks_in_each : (p : run.Position S) (x : Position) → Reads o table x p → p.lanes lane ≡ Asks (o.call begun.asks)
+  pub asks_in_each : (p : run.Position S) (x : Position) → Reads o table x p → p.lanes lane ≡ Asks (call_of begun.asks)
   asks_in_each p x reads = by (phase_at o table x p reads lane begun is_open)
     where
-      by : HasPhase o (Some begun) (bit_at x.in_effect lane) (p.lanes lane) →
-          p.lanes lane ≡ Asks (o.call begun.asks)
+      by : HasPhase (Some begun) (bit_at x.in_effect lane) (p.lanes lane) →
+          p.lanes lane ≡ Asks (call_of begun.asks)
       by (inl not) = not.asks
-      by (inr taken) = absurd (subst (λ (e : SmallEnding). MayGet o.reply e taken.reply) ends taken.may)
+      by (inr taken) = absurd (subst (λ (e : Ending). MayGet e taken.reply) ends taken.may)
 
   -- a call that is withdrawn gets no reply, and is not free
-  withdrawn_unfree : (p : run.Position S) (x : Position) → Reads o table x p → (u : ℕ) → bit_at x.free u ≡ 1 → u ≢ lane
+  pub withdrawn_unfree : (p : run.Position S) (x : Position) → Reads o table x p → (u : ℕ) → bit_at x.free u ≡ 1 → u ≢
+      lane
   withdrawn_unfree p x reads u is at = by (kind_of o lawful begun
       (subst (λ (c : OpenCall). may_be_free o c ≡ true) (one_open table lane it.begun begun
       (subst (λ (v : ℕ). open_at table v ≡ Some it.begun) at it.is_open) is_open) it.kind))
@@ -355,16 +358,16 @@ module _ {S : Type 0} (o : Judged S) (lawful : IsLawful o) (past : List Event) (
       it : IsFreeCall o (open_at table u) (bit_at x.in_effect u)
       it = reads.kinds u is
 
-      by : ((n : ℕ) × (o.overwrites begun ≡ Some n)) ⊎ ((o.overwrites begun ≡ None) × (o.reads begun ≡ true)) → ⊥
+      by : ((n : ℕ) × (o.overwrites begun ≡ Some n)) ⊎ ((o.overwrites begun ≡ None) × (reads_only begun ≡ true)) → ⊥
       by (inl (n, some)) = let over = overwriting_to o lawful begun n some in
-          subst (λ (e : SmallEnding). MayGet o.reply e over.reply) ends over.may
+          subst (λ (e : Ending). MayGet e over.reply) ends over.may
       by (inr (none, read)) = let still = lawful.reading begun read in
           no_return begun.ends begun.ends still.told still.place refl still.ends ends
 
-  reads_ended : (p : run.Position S) (x : Position) → Reads o table x p →
+  pub reads_ended : (p : run.Position S) (x : Position) → Reads o table x p →
       Reads o ended x (moved p lane Idle p.state x.free)
   reads_ended p x reads = reads_set o table ended x x p lane Idle p.state reads (beside_set table lane None)
-      (λ other apart. refl) (subst (λ (slot : Option OpenCall). HasPhase o slot (bit_at x.in_effect lane) Idle)
+      (λ other apart. refl) (subst (λ (slot : Option OpenCall). HasPhase slot (bit_at x.in_effect lane) Idle)
       (sym (open_at_set_none table lane)) refl) reads.state
       (λ u is. kinds_beside o table ended x x p lane reads (beside_set table lane None) (λ other apart. refl) u
       (withdrawn_unfree p x reads u is, is))
@@ -372,7 +375,7 @@ module _ {S : Type 0} (o : Judged S) (lawful : IsLawful o) (past : List Event) (
   withdrawn_from : (p : run.Position S) (old : Before p) →
       IsWithdrawn lane p (moved p lane Idle p.state old.is.numbers.free)
   withdrawn_from p old = record {
-    call = o.call begun.asks;
+    call = call_of begun.asks;
     asks = asks_in_each p old.is.numbers old.is.reads;
     state = refl;
     sets = sets_of p.lanes lane Idle;
@@ -403,18 +406,18 @@ module _ {S : Type 0} (o : Judged S) (lawful : IsLawful o) (past : List Event) (
     lanes = length-set table lane None ∙ old.lanes;
     possible = all_from (IsPossible o (past ++ event.Withdraws lane ∷ []) ended) kept (λ x among. at x among
         (All-contains (IsPossible o past table) kept x old.possible among));
-    stand = stand_kept o (past ++ event.Withdraws lane ∷ []) ended kept WithdrawnOne (ComesAsTold o.reply ended last)
+    stand = stand_kept o (past ++ event.Withdraws lane ∷ []) ended kept WithdrawnOne (ComesAsTold (open_at ended) last)
         stand
         (λ q one. one.is);
   }
     where
-      stand : StandFor o.step o.start (past ++ event.Withdraws lane ∷ []) (ComesAsTold o.reply ended last)
+      stand : StandFor o.step o.start (past ++ event.Withdraws lane ∷ []) (ComesAsTold (open_at ended) last)
           (OfSome o.step WithdrawnOne)
-      stand = stand_on o.step o.start past (event.Withdraws lane) (ComesAsTold o.reply table last)
-          (ComesAsTold o.reply ended last)
+      stand = stand_on o.step o.start past (event.Withdraws lane) (ComesAsTold (open_at table) last)
+          (ComesAsTold (open_at ended) last)
           (OfSome o.step Before) (OfSome o.step WithdrawnOne) old.stand (go_on_by_withdrawal o.step
-          (ComesAsTold o.reply table last) (ComesAsTold o.reply ended last) lane Before WithdrawnOne
-          (λ future comes. told_withdraws o.reply table ended last lane begun future is_open ends
+          (ComesAsTold (open_at table) last) (ComesAsTold (open_at ended) last) lane Before WithdrawnOne
+          (λ future comes. told_withdraws table ended last lane begun future is_open ends
           (beside_set table lane None)
           comes) (λ q one. record { position = one.first; there = one.old; is = one.was })
           (λ p call it asks. record {
@@ -429,7 +432,7 @@ module _ {S : Type 0} (o : Judged S) (lawful : IsLawful o) (past : List Event) (
         position = moved is.position lane Idle is.position.state x.free;
         reads = reads_ended is.position x is.reads;
         may_be = new_may_be o (past ++ event.Withdraws lane ∷ []) ended kept WithdrawnOne
-            (ComesAsTold o.reply ended last)
+            (ComesAsTold (open_at ended) last)
             stand (λ q one. one.is) (moved is.position lane Idle is.position.state x.free)
             (withdrawn_one is.position (record {
               is = record { numbers = x; among = among; reads = is.reads };

@@ -17,8 +17,8 @@ use Rattle.stamp_runs.specs.Returning.{Comes, Effect, IsHiddenWith, IsReached, I
 use Rattle.stamp_runs.specs.Returning.IsReached.{from_old}
 use Rattle.stamp_runs.specs.declared.event.Event.{Event}
 use Rattle.stamp_runs.proofs.Lanes.{one_call, pick, picks_first, picks_second, sets_of, true_or_false}
-use Rattle.stamp_sets.specs.declared.ending.SmallEnding.{SmallEnding}
-use Rattle.stamp_sets.specs.declared.ending.SmallEnding.TheVariants.{Never, Returns}
+use Rattle.stamp_sets.specs.declared.ending.Ending.{Ending}
+use Rattle.stamp_sets.specs.declared.ending.Ending.TheVariants.{Never, Returns}
 use Rattle.stamp_sets.specs.declared.open_call.OpenCall.{OpenCall}
 use Rattle.stamp_sets.specs.declared.position.Position.{Position}
 use Rattle.stamp_sets.specs.Judged.{Judged}
@@ -26,6 +26,8 @@ use Rattle.stamp_sets.specs.Kept.{HasPhase, IsFreeCall, IsInEffect as InEffect, 
 use Rattle.stamp_sets.specs.Told.{EndsSo, MayGet, open_at}
 use Rattle.stamp_sets.specs.inner.Effect.{IsEffect, IsOverwriting, IsUnchanging}
 use Rattle.stamp_sets.specs.inner.Start.{IsHidden}
+use Rattle.stamp_sets.specs.SmallCall.{call_of}
+use Rattle.stamp_sets.specs.Unchanging.{reads_only}
 use Rattle.stamp_sets.proofs.Lawful.{IsLawful, kind_of, overwriting_to}
 use Rattle.stamp_sets.proofs.Reading.{asks_at, beside_itself, cleared, gets_at, kinds_beside, moved, reads_set}
 use Rattle.stamp_sets.proofs.Reading.{set_bit}
@@ -44,7 +46,7 @@ hidden_seen O free Lane t a b c each (sees_more x y lane call reply before among
 pub reader_returns : {S : Type 0} (o : Judged S) (begun : OpenCall) → IsUnchanging o begun → begun.ends ≡ Never → ⊥
 reader_returns o begun is never = by begun.ends (Returns is.told is.place) is.ends never
   where
-    by : (a b : SmallEnding) → a ≡ b → a ≡ Never → ⊥
+    by : (a b : Ending) → a ≡ b → a ≡ Never → ⊥
     by a b same none = cc
 
 module _ {S : Type 0} (o : Judged S) (lawful : IsLawful o) (table : List (Option OpenCall)) (x y : Position)
@@ -57,13 +59,13 @@ module _ {S : Type 0} (o : Judged S) (lawful : IsLawful o) (table : List (Option
   abbrev pub Free : ℕ → Type 0
   Free v = bit_at hides.there.free v ≡ 1
 
-  was_free : (v : ℕ) → Free v → (v ≢ source) × (bit_at x.free v ≡ 1)
+  pub was_free : (v : ℕ) → Free v → (v ≢ source) × (bit_at x.free v ≡ 1)
   was_free v is = cleared x.free hides.there.free source v hides.clears is
 
   waits : (v : ℕ) → bit_at x.free v ≡ 1 → bit_at x.in_effect v ≡ 0
   waits v is = (reads.kinds v is).waits
 
-  asks : p.lanes source ≡ Asks (o.call begun.asks)
+  pub asks : p.lanes source ≡ Asks (call_of begun.asks)
   asks = asks_at o table x p reads source begun is_open (waits source free)
 
   -- as if it had taken effect in sight
@@ -73,7 +75,7 @@ module _ {S : Type 0} (o : Judged S) (lawful : IsLawful o) (table : List (Option
   shown_reads : Reads o table hides.there shown
   shown_reads = reads_set o table table x hides.there p source (Gets over.reply) over.next reads
       (beside_itself o table source) hides.takes.others
-      (subst (λ (slot : Option OpenCall). HasPhase o slot (bit_at hides.there.in_effect source) (Gets over.reply))
+      (subst (λ (slot : Option OpenCall). HasPhase slot (bit_at hides.there.in_effect source) (Gets over.reply))
       (sym is_open) (inr (record { taken = hides.takes.here; reply = over.reply; may = over.may; gets = refl })))
       (subst (λ (n : ℕ). o.holds n over.next) (sym hides.at) over.holds)
       (λ u is. kinds_beside o table table x hides.there p source reads (beside_itself o table source)
@@ -88,7 +90,7 @@ module _ {S : Type 0} (o : Judged S) (lawful : IsLawful o) (table : List (Option
   pub hidden_reads : Reads o table y hidden
   hidden_reads = record {
     state = subst (λ (n : ℕ). o.holds n p.state) (sym hides.state) reads.state;
-    lanes = λ v. subst (λ (n : ℕ). HasPhase o (open_at table v) (bit_at n v) (to.then.lanes v))
+    lanes = λ v. subst (λ (n : ℕ). HasPhase (open_at table v) (bit_at n v) (to.then.lanes v))
         (sym hides.in_effect) (to.reads.lanes v);
     free = λ v. subst (λ (n : ℕ). (to.then.free v ≡ true) ↔ (bit_at n v ≡ 1)) (sym hides.free) (to.reads.free v);
     kinds = λ v is. subst (λ (n : ℕ). IsFreeCall o (open_at table v) (bit_at n v)) (sym hides.in_effect)
@@ -96,7 +98,7 @@ module _ {S : Type 0} (o : Judged S) (lawful : IsLawful o) (table : List (Option
   }
 
   is_hidden : Hidden o.step p.free None p.lanes to.then.lanes
-  is_hidden = overwrites source (o.call begun.asks) over.reply over.next ((reads.free source).1 free) asks
+  is_hidden = overwrites source (call_of begun.asks) over.reply over.next ((reads.free source).1 free) asks
       over.overwrites (sets_of p.lanes source (Gets over.reply))
       (hidden_seen o.step p.free Free over.next shown.lanes to.then.lanes to.then.lanes
       (λ v is. (reads.free v).1 (was_free v is).1) to.sees no_more)
@@ -111,8 +113,8 @@ module _ {S : Type 0} (o : Judged S) (lawful : IsLawful o) (table : List (Option
 
   -- what another free call becomes that reads
   pub reader_answered : (v : ℕ) (b : OpenCall) (reply : Reply) → v ≢ source → bit_at x.free v ≡ 1 →
-      open_at table v ≡ Some b → o.reads b ≡ true → MayGet o.reply b.ends reply →
-      o.step over.next (o.call b.asks) reply over.next → bit_at hides.then.in_effect v ≡ 1
+      open_at table v ≡ Some b → reads_only b ≡ true → MayGet b.ends reply →
+      o.step over.next (call_of b.asks) reply over.next → bit_at hides.then.in_effect v ≡ 1
   reader_answered v b reply apart is opens read may step = by (hides.settled.whole v b
       (hides.clears.others v apart ∙ is) opens read)
     where
@@ -141,9 +143,9 @@ module _ {S : Type 0} (o : Judged S) (lawful : IsLawful o) (table : List (Option
   before_is v apart = (sets_of p.lanes source (Gets over.reply)).others v apart
 
   module _ (e : Return) (may_as : (v : ℕ) (b : OpenCall) (reply : Reply) → open_at table v ≡ Some b →
-      watched.MayGet (e.told v) reply → MayGet o.reply b.ends reply)
+      watched.MayGet (e.told v) reply → MayGet b.ends reply)
       (ends : (future : List Event) → Comes e future → (v : ℕ) (b : OpenCall) → open_at table v ≡ Some b →
-      EndsSo o.reply v b.ends future) where
+      EndsSo v b.ends future) where
     free_kinds : (v : ℕ) (call : Call) → p.free v ≡ true → p.lanes v ≡ Asks call → v ≢ source →
         ReadsOrOverwrites o.step e.told over.next readers v call
     free_kinds v call is asks_it apart = record {
@@ -158,11 +160,11 @@ module _ {S : Type 0} (o : Judged S) (lawful : IsLawful o) (table : List (Option
         it : IsFreeCall o (open_at table v) (bit_at x.in_effect v)
         it = reads.kinds v bit
 
-        its : o.call it.begun.asks ≡ call
+        its : call_of it.begun.asks ≡ call
         its = one_call (asks_at o table x p reads v it.begun it.is_open it.waits) asks_it
 
         which : ((n : ℕ) × (o.overwrites it.begun ≡ Some n)) ⊎
-            ((o.overwrites it.begun ≡ None) × (o.reads it.begun ≡ true)) →
+            ((o.overwrites it.begun ≡ None) × (reads_only it.begun ≡ true)) →
             ((reply : Reply) × (u : S) × Overwrites o.step call reply u) ⊎
             ((reply : Reply) → o.step over.next call reply over.next → watched.MayGet (e.told v) reply →
             readers v ≡ true)
@@ -173,7 +175,7 @@ module _ {S : Type 0} (o : Judged S) (lawful : IsLawful o) (table : List (Option
             (answer reply step may).gets)
           where
             answer : (reply : Reply) → o.step over.next call reply over.next → watched.MayGet (e.told v) reply →
-                InEffect o it.begun (bit_at hides.then.in_effect v) (to.then.lanes v)
+                InEffect it.begun (bit_at hides.then.in_effect v) (to.then.lanes v)
             answer reply step may = gets_at o table hides.then to.then to.reads v it.begun it.is_open
                 (reader_answered v it.begun reply apart bit it.is_open none.1 (may_as v it.begun reply it.is_open may)
                 (subst (λ (c : Call). o.step over.next c reply over.next) (sym its) step))

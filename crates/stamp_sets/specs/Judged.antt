@@ -1,48 +1,27 @@
--- Objects whose states, calls and replies are told by numbers.
-use Rattle.std.specs.Prelude.{ℕ, ◌≡◌, Bool, true, false, List, [], Option, Some, None, slice_get}
+-- Objects whose states, calls and replies are told by numbers: the lock, and the record that it guards.
+use Rattle.std.specs.Prelude.{ℕ, ◌≡◌, Bool, true, false, List, [], ◌∷◌, Option, Some, None}
 use Rattle.stamp_core.specs.LockEvent.{LockEvent}
 use Rattle.stamp_core.specs.Limits.{Bounds}
 use Rattle.stamp_core.specs.Word.{Represents, word_at}
-use Rattle.stamp_core.specs.LockCall.{call_as}
-use Rattle.stamp_core.specs.LockDecision.{reply_as}
-use Rattle.stamp_core.specs.declared.call.Call.{Call}
-use Rattle.stamp_core.specs.declared.call.Call.TheVariants as any
-use Rattle.stamp_core.specs.declared.reply.Reply.{Reply}
-use Rattle.stamp_core.specs.declared.reply.Reply.TheVariants as given
 use Rattle.stamp_runs.specs.Object.{LockStep, Object, RecordStep}
-use Rattle.stamp_core.specs.declared.lock_decision.LockReply.TheVariants as lock_reply
-use Rattle.stamp_sets.specs.Contents.{content_at}
-use Rattle.stamp_sets.specs.declared.ending.SmallEnding.{SmallEnding}
-use Rattle.stamp_sets.specs.declared.ending.SmallEnding.TheVariants.{Returns, Withdraws, Never}
+use Rattle.stamp_core.specs.declared.lock_decision.LockReply.TheVariants.{Done}
+use Rattle.stamp_sets.specs.declared.ending.Ending.{Ending}
+use Rattle.stamp_sets.specs.declared.ending.Ending.TheVariants.{Returns, Withdraws, Never}
+use Rattle.stamp_sets.specs.declared.object.Object as judging
+use Rattle.stamp_sets.specs.declared.object.Object.TheVariants.{Lock, Record}
 use Rattle.stamp_sets.specs.declared.open_call.OpenCall.{OpenCall}
 use Rattle.stamp_sets.specs.declared.small_call.SmallCall.{SmallCall}
-use Rattle.stamp_sets.specs.declared.small_call.SmallCall.TheVariants.{OfLock, Get, Put, PutIf}
-use Rattle.stamp_sets.specs.declared.small_call.SmallReply.{SmallReply}
-use Rattle.stamp_sets.specs.declared.small_call.SmallReply.TheVariants as small
-use Rattle.stamp_sets.specs.Unchanging.{told_unchanging}
+use Rattle.stamp_sets.specs.declared.small_call.SmallCall.TheVariants.{Put}
+use Rattle.stamp_sets.specs.declared.small_call.SmallReply.TheVariants.{OfLock}
 
--- how it answers, what it is at first, which numbers tell a state, what is asked of it, and what it replies; the number
--- of the state that an open call leaves wherever it takes effect, if it leaves one; whether any call does so; and
--- whether
--- an open call returns with a reply by which it changes nothing
+-- how it answers, what it is at first, and which numbers tell a state; the number of the state that an open call leaves
+-- wherever it takes effect, if it leaves one; and whether any call does so
 pub record Judged (S : Type 0) : Type 1 where
   pub step : Object S
   pub start : S
   pub holds : ℕ → S → Type 0
-  pub call : SmallCall → Call
-  pub reply : SmallReply → Reply
   pub overwrites : OpenCall → Option ℕ
   pub frees : Bool
-  pub reads : OpenCall → Bool
-
-abbrev pub reply_in : List (List ℕ) → SmallReply → Reply
-reply_in contents (small.OfLock reply) = reply_as reply
-reply_in contents (small.Content number) = given.Content (content_at contents number)
-
--- a call of the lock, which answers no others
-abbrev pub call_of_lock : SmallCall → Call
-call_of_lock (OfLock call) = call_as call
-call_of_lock _ = any.Get
 
 -- the lock, by the numbers of its words
 abbrev pub lock : Bounds → Judged (List LockEvent)
@@ -50,9 +29,37 @@ lock limits = record {
   step = LockStep limits;
   start = [];
   holds = λ number events. Represents limits (word_at limits number) events;
-  call = call_of_lock;
-  reply = reply_in [];
   overwrites = λ begun. None;
   frees = false;
-  reads = λ begun. told_unchanging begun.ends begun.asks;
 }
+
+-- it may be answered done
+abbrev pub may_be_done : Ending → Bool
+may_be_done (Returns (OfLock Done) place) = true
+may_be_done (Returns _ place) = false
+may_be_done Withdraws = false
+may_be_done Never = true
+
+-- the number that a put leaves, if it may be answered
+abbrev pub left_by : SmallCall → Bool → Option ℕ
+left_by (Put number) true = Some number
+left_by _ _ = None
+
+-- a guarded record, by the numbers of its contents: each is one word
+abbrev pub guarded : Judged (List ℕ)
+guarded = record {
+  step = RecordStep;
+  start = 0 ∷ [];
+  holds = λ number content. content ≡ number ∷ [];
+  overwrites = λ begun. left_by begun.asks (may_be_done begun.ends);
+  frees = true;
+}
+
+-- the states of a lock are its events so far, and those of a record its contents
+abbrev pub state_of : judging.Object → Type 0
+state_of (Lock limits) = List LockEvent
+state_of Record = List ℕ
+
+abbrev pub judged : (object : judging.Object) → Judged (state_of object)
+judged (Lock limits) = lock limits
+judged Record = guarded

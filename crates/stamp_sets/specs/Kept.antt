@@ -3,7 +3,6 @@ use Rattle.std.specs.Prelude.{ℕ, ◌≡◌, ◌⊎◌, ◌↔◌, ◌&&◌, �
 use Rattle.std.specs.Int.{bit_at}
 use Rattle.std.specs.List.{All, Contains}
 use Rattle.std.specs.Option.{is_some}
-use Rattle.stamp_core.specs.declared.call.Call.{Call}
 use Rattle.stamp_core.specs.declared.reply.Reply.{Reply}
 use Rattle.stamp_runs.specs.Run.{Lanes, Leads, Phase, all_idle}
 use Rattle.stamp_runs.specs.Run.Phase.{Asks, Gets, Idle}
@@ -11,31 +10,32 @@ use Rattle.stamp_runs.specs.Watching.{StandFor}
 use Rattle.stamp_runs.specs.Position.{OfSome, StandsFor}
 use Rattle.stamp_runs.specs.Position as run
 use Rattle.stamp_runs.specs.declared.event.Event.{Event}
-use Rattle.stamp_sets.specs.declared.small_call.SmallCall.{SmallCall}
 use Rattle.stamp_sets.specs.declared.open_call.OpenCall.{OpenCall}
 use Rattle.stamp_sets.specs.declared.position.Position.{Position}
 use Rattle.stamp_sets.specs.Judged.{Judged}
+use Rattle.stamp_sets.specs.SmallCall.{call_of}
 use Rattle.stamp_sets.specs.Told.{ComesAsTold, MayGet, open_at}
+use Rattle.stamp_sets.specs.Unchanging.{reads_only}
 
 -- the open call of a lane is not in effect, by its bit; or it is, with a reply that it may get
-pub record IsBegun (call : SmallCall → Call) (begun : OpenCall) (bit : ℕ) (phase : Phase) : Type 0 where
+pub record IsBegun (begun : OpenCall) (bit : ℕ) (phase : Phase) : Type 0 where
   pub free : bit ≡ 0
-  pub asks : phase ≡ Asks (call begun.asks)
+  pub asks : phase ≡ Asks (call_of begun.asks)
 
-pub record IsInEffect {S : Type 0} (o : Judged S) (begun : OpenCall) (bit : ℕ) (phase : Phase) : Type 0 where
+pub record IsInEffect (begun : OpenCall) (bit : ℕ) (phase : Phase) : Type 0 where
   pub taken : bit ≡ 1
   pub reply : Reply
-  pub may : MayGet o.reply begun.ends reply
+  pub may : MayGet begun.ends reply
   pub gets : phase ≡ Gets reply
 
 -- the phase of a lane with this open call, or none
-abbrev pub HasPhase : {S : Type 0} → Judged S → Option OpenCall → ℕ → Phase → Type 0
-HasPhase o None bit phase = phase ≡ Idle
-HasPhase o (Some begun) bit phase = IsBegun o.call begun bit phase ⊎ IsInEffect o begun bit phase
+abbrev pub HasPhase : Option OpenCall → ℕ → Phase → Type 0
+HasPhase None bit phase = phase ≡ Idle
+HasPhase (Some begun) bit phase = IsBegun begun bit phase ⊎ IsInEffect begun bit phase
 
 -- an open call may be free, where any is: it overwrites, or it returns with a reply by which it changes nothing
 abbrev pub may_be_free : {S : Type 0} → Judged S → OpenCall → Bool
-may_be_free o begun = o.frees && (is_some (o.overwrites begun) || o.reads begun)
+may_be_free o begun = o.frees && (is_some (o.overwrites begun) || reads_only begun)
 
 -- it is open, not in effect, and may be free
 pub record IsFreeCall {S : Type 0} (o : Judged S) (slot : Option OpenCall) (bit : ℕ) : Type 0 where
@@ -48,7 +48,7 @@ pub record IsFreeCall {S : Type 0} (o : Judged S) (slot : Option OpenCall) (bit 
 pub record Reads {S : Type 0} (o : Judged S) (table : List (Option OpenCall)) (p : Position) (q : run.Position S) :
     Type 0 where
   pub state : o.holds p.state q.state
-  pub lanes : (lane : ℕ) → HasPhase o (open_at table lane) (bit_at p.in_effect lane) (q.lanes lane)
+  pub lanes : (lane : ℕ) → HasPhase (open_at table lane) (bit_at p.in_effect lane) (q.lanes lane)
   pub free : (lane : ℕ) → (q.free lane ≡ true) ↔ (bit_at p.free lane ≡ 1)
   pub kinds : (lane : ℕ) → bit_at p.free lane ≡ 1 → IsFreeCall o (open_at table lane) (bit_at p.in_effect lane)
 
@@ -81,4 +81,4 @@ pub record AreKept {S : Type 0} (o : Judged S) (past : List Event) (table : List
     (kept : List Position) : Type 0 where
   pub lanes : length table ≡ 64
   pub possible : All (IsPossible o past table) kept
-  pub stand : StandFor o.step o.start past (ComesAsTold o.reply table last) (OfSome o.step (IsKept o past table kept))
+  pub stand : StandFor o.step o.start past (ComesAsTold (open_at table) last) (OfSome o.step (IsKept o past table kept))

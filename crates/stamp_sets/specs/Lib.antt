@@ -1,9 +1,10 @@
 pub mod inner
 pub mod Lanes
+pub mod SmallCall
 pub mod Told
 pub mod Unchanging
-pub mod Contents
 pub mod Judged
 pub mod Kept
+pub mod Half
 pub mod Watch
 pub mod Positions

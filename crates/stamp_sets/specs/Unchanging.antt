@@ -10,8 +10,9 @@ use Rattle.stamp_core.specs.declared.reply.Reply.TheVariants.{Stamp, No, Mismatc
 use Rattle.stamp_core.specs.LockDecision.{reply_as}
 use Rattle.stamp_core.specs.LockCall.{call_as}
 use Rattle.stamp_core.specs.declared.lock_decision.LockReply.TheVariants as lock
-use Rattle.stamp_sets.specs.declared.ending.SmallEnding.{SmallEnding}
-use Rattle.stamp_sets.specs.declared.ending.SmallEnding.TheVariants.{Returns, Withdraws, Never}
+use Rattle.stamp_sets.specs.declared.ending.Ending.{Ending}
+use Rattle.stamp_sets.specs.declared.ending.Ending.TheVariants.{Returns, Withdraws, Never}
+use Rattle.stamp_sets.specs.declared.open_call.OpenCall.{OpenCall}
 use Rattle.stamp_sets.specs.declared.small_call.SmallCall.{SmallCall}
 use Rattle.stamp_sets.specs.declared.small_call.SmallCall.TheVariants as asked
 use Rattle.stamp_sets.specs.declared.small_call.SmallReply.{SmallReply}
@@ -49,7 +50,10 @@ small_unchanging (asked.PutIf expected number) (told.OfLock lock.No) = true
 small_unchanging (asked.PutIf expected number) _ = false
 
 -- a call that returns with such a reply
-abbrev pub told_unchanging : SmallEnding → SmallCall → Bool
+abbrev pub told_unchanging : Ending → SmallCall → Bool
 told_unchanging (Returns reply place) call = small_unchanging call reply
 told_unchanging Withdraws call = false
 told_unchanging Never call = false
+
+abbrev pub reads_only : OpenCall → Bool
+reads_only begun = told_unchanging begun.ends begun.asks

@@ -1,6 +1,3 @@
-pub mod Contents
-pub mod Guarded
-pub mod Objects
 pub mod Ended
 pub mod State
 pub mod Lanes
@@ -10,5 +7,8 @@ pub mod Effect
 pub mod Start
 pub mod Layer
 pub mod Step
-pub mod Rows
-pub mod Within
+pub mod Covering
+pub mod Pair
+pub mod Half
+pub mod Trail
+pub mod Order

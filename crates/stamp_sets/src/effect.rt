@@ -1,7 +1,7 @@
 //! How open calls take effect in a position.
 ghost use Rattle.std.specs.Prelude.{◌≡◌, ◌<◌, Some};
 ghost use Rattle.std.specs.Int.{bit_at};
-ghost use Rattle.stamp_sets.specs.inner.Objects.{judged};
+ghost use Rattle.stamp_sets.specs.Judged.{judged};
 ghost use Rattle.stamp_sets.specs.inner.State.{IsState};
 ghost use Rattle.stamp_sets.specs.Told.{HasEachOpen, open_at};
 ghost use Rattle.stamp_sets.specs.inner.Effect.{AreFree, AreSettled, Frees, FreesAll, IsFoundAfter, SettlesOne};

@@ -1,22 +1,25 @@
 //! How a set of positions goes on to a return.
-ghost use Rattle.std.specs.Prelude.{ℕ, ◌≡◌, ◌<◌, IsTrue, OnOk, OnErr, IfOk, false, MatchOption, Some, [], ◌∷◌};
-ghost use Rattle.std.specs.List.{All};
+ghost use Rattle.std.specs.Prelude.{ℕ, ◌≡◌, ◌<◌, IsTrue, OnOk, OnErr, IfOk, false, true, MatchOption, Some, [], ◌∷◌};
+ghost use Rattle.std.specs.List.{All, Contains};
 ghost use Rattle.std.specs.Int.{bit_at};
 ghost use Rattle.stamp_sets.specs.declared.position.Position.{Position};
-ghost use Rattle.stamp_sets.specs.inner.Objects.{judged};
+ghost use Rattle.stamp_sets.specs.Judged.{judged};
 ghost use Rattle.stamp_sets.specs.inner.State.{IsState};
 ghost use Rattle.stamp_sets.specs.declared.open_call.OpenCall.{OpenCall};
 ghost use Rattle.stamp_sets.specs.Told.{HasEachOpen, open_at};
 ghost use Rattle.stamp_sets.specs.inner.Effect.{IsLeftOut, IsPassedOver, IsUnseen};
-ghost use Rattle.stamp_sets.specs.inner.Layer.{Expands, LooksAt, LooksThrough, TooManyFollow, ReturnsThrough, IsReturnedFrom, AreReturned, IsAfterReturn};
+ghost use Rattle.stamp_sets.specs.inner.Layer.{Expands, LooksAt, LooksThrough, TooManyFollow, ReturnsThrough};
+ghost use Rattle.stamp_sets.specs.inner.Layer.{IsReturnedFrom, AreReturned, IsAfterReturn};
+ghost use Rattle.stamp_sets.specs.inner.Trail.{AreNoted, AreReturnedBy, ReturnsTraced, way_of};
 
 use crate::effect::after_effect;
-use crate::ending::SmallEnding;
+use crate::ending::Ending;
 use crate::lanes::{first_lane, has_lane, without_lane};
 use crate::object::Object;
 use crate::open_call::{OpenCall, open_in};
 use crate::position::{Position, add};
 use crate::start::take_up_each;
+use crate::trail::{Entry, Link, Trail, Way, add_by};
 use std::alloc::{AllocError, Global};
 
 /// Whether the lane's call, which is not in effect, takes no effect of its own in a state: it overwrites; or it changes
@@ -33,7 +36,7 @@ fn is_passed_over(object: &Object, awaited: u64, lane: u64, begun: &OpenCall, st
             return true;
         }
     }
-    if let SmallEnding::Never = begun.ends {
+    if let Ending::Never = begun.ends {
         return false;
     }
     object.state_after(state, begun).is_none()
@@ -107,6 +110,16 @@ fn is_left_out(
     begun.gives_way(object, table, busy, in_effect, lane)
 }
 
+/// What an effect of the call is.
+fn way_of_effect(object: &Object, begun: &OpenCall) -> Way
+    ensures { result ≡ way_of ((judged object.now).overwrites begun.now) }
+{
+    match object.overwrites(begun) {
+        None => Way::Takes,
+        Some(_) => Way::Frees,
+    }
+}
+
 /// Adds what follows the position by the call of this lane.
 fn expand_lane(
     object: &Object,
@@ -116,12 +129,15 @@ fn expand_lane(
     position: Position,
     lane: u64,
     next: &mut Vec<Position>,
+    trail: &mut Trail,
 ) -> Result<(), AllocError>
     requires state { IsState (judged object.now) position.state }
     requires lane { lane < 64 }
     requires busy { HasEachOpen table.now busy }
-    ensures { OnOk result (Expands (judged object.now) table.now awaited position (λ l. l ≡ lane) next.old.items
-        next.new.items) }
+    ensures expands { OnOk result (Expands (judged object.now) table.now awaited position (λ l. l ≡ lane)
+        next.old.items next.new.items) }
+    ensures noted { OnOk result (AreNoted (judged object.now) table.now (λ p. p ≡ position) trail.old trail.new
+        next.old.items next.new.items) }
 {
     let Some(begun) = open_in(table, lane) else {
         return Ok(());
@@ -132,8 +148,14 @@ fn expand_lane(
     let Some(after) = after_effect(object, table, busy, awaited, lane, &begun, position) else {
         return Ok(());
     };
+    let link = Link {
+        way: way_of_effect(object, &begun),
+        lane,
+        from: position,
+        to: after,
+    };
     if lane == awaited {
-        return add(next, after);
+        return add_by(next, trail, link);
     }
     if is_left_out(
         object,
@@ -146,7 +168,7 @@ fn expand_lane(
     ) {
         return Ok(());
     }
-    add(next, after)
+    add_by(next, trail, link)
 }
 
 /// Adds what follows the position by one call.
@@ -157,16 +179,19 @@ fn expand(
     awaited: u64,
     position: Position,
     next: &mut Vec<Position>,
+    trail: &mut Trail,
 ) -> Result<(), AllocError>
     requires state { IsState (judged object.now) position.state }
     requires busy { HasEachOpen table.now busy }
-    ensures { OnOk result (Expands (judged object.now) table.now awaited position (λ l. l < 64) next.old.items
-        next.new.items) }
+    ensures expands { OnOk result (Expands (judged object.now) table.now awaited position (λ l. l < 64)
+        next.old.items next.new.items) }
+    ensures noted { OnOk result (AreNoted (judged object.now) table.now (λ p. p ≡ position) trail.old trail.new
+        next.old.items next.new.items) }
 {
     let mut rest = busy;
     while rest != 0 {
         let lane = first_lane(rest);
-        expand_lane(object, table, busy, awaited, position, lane, next)?;
+        expand_lane(object, table, busy, awaited, position, lane, next, trail)?;
         rest = without_lane(rest, lane);
     }
     Ok(())
@@ -181,12 +206,15 @@ fn look(
     position: Position,
     done: &mut Vec<Position>,
     next: &mut Vec<Position>,
+    trail: &mut Trail,
 ) -> Result<(), AllocError>
     requires state { IsState (judged object.now) position.state }
     requires lane { lane < 64 }
     requires busy { HasEachOpen table.now busy }
-    ensures { OnOk result (LooksAt (judged object.now) table.now lane (position ∷ []) done.old.items done.new.items next.old.items
-        next.new.items) }
+    ensures looks { OnOk result (LooksAt (judged object.now) table.now lane (position ∷ []) done.old.items
+        done.new.items next.old.items next.new.items) }
+    ensures noted { OnOk result (AreNoted (judged object.now) table.now (λ p. p ≡ position) trail.old trail.new
+        next.old.items next.new.items) }
 {
     if has_lane(position.in_effect, lane) {
         add(
@@ -198,7 +226,7 @@ fn look(
             },
         )
     } else {
-        expand(object, table, busy, lane, position, next)
+        expand(object, table, busy, lane, position, next, trail)
     }
 }
 
@@ -212,15 +240,18 @@ fn look_through(
     most: u64,
     done: &mut Vec<Position>,
     next: &mut Vec<Position>,
+    trail: &mut Trail,
 ) -> Result<bool, AllocError>
     requires states { All (λ (p : Position). IsState (judged object.now) p.state) layer.now }
     requires lane { lane < 64 }
     requires busy { HasEachOpen table.now busy }
-    ensures { IfOk result (λ all. LooksThrough (judged object.now) table.now lane layer.now done.old.items
+    ensures looks { IfOk result (λ all. LooksThrough (judged object.now) table.now lane layer.now done.old.items
         done.new.items next.old.items next.new.items most all) }
+    ensures noted { IfOk result (λ all. AreNoted (judged object.now) table.now (Contains layer.now) trail.old
+        trail.new next.old.items next.new.items) }
 {
     for position in layer {
-        look(object, table, busy, lane, *position, done, next)?;
+        look(object, table, busy, lane, *position, done, next, trail)?;
         if next.len() as u64 > most {
             return Ok(false);
         }
@@ -237,16 +268,19 @@ fn returned(
     lane: u64,
     start: &[Position],
     most: u64,
+    trail: &mut Trail,
 ) -> Result<Option<Vec<Position>>, AllocError>
     requires states { All (λ (p : Position). IsState (judged object.now) p.state) start.now }
     requires lane { lane < 64 }
     requires busy { HasEachOpen table.now busy }
-    ensures { IfOk result (λ found. MatchOption found (TooManyFollow (judged object.now) table.now lane most start.now)
-        (λ done. ReturnsThrough (judged object.now) table.now lane start.now done.items)) }
+    ensures done { IfOk result (λ found. MatchOption found (TooManyFollow (judged object.now) table.now lane most
+        start.now) (λ done. ReturnsThrough (judged object.now) table.now lane start.now done.items)) }
+    ensures noted { IfOk result (λ found. MatchOption found (Unit {0}) (λ done. ReturnsTraced (judged object.now)
+        table.now lane trail.old trail.new start.now done.items)) }
 {
     let mut done = Vec::new(alloc);
     let mut layer = Vec::new(alloc);
-    take_up_each(object, table, lane, start, &mut layer)?;
+    take_up_each(object, table, lane, start, &mut layer, trail)?;
     for depth in 0..65u64 {
         if layer.is_empty() {
             return Ok(Some(done));
@@ -261,6 +295,7 @@ fn returned(
             most,
             &mut done,
             &mut next,
+            trail,
         )? {
             return Ok(None);
         }
@@ -316,6 +351,7 @@ pub(crate) fn return_call(
     lane: u64,
     positions: &mut Vec<Position>,
     most: u64,
+    trail: &mut Trail,
 ) -> Result<bool, AllocError>
     requires states { All (λ (p : Position). IsState (judged object.now) p.state) positions.old.items }
     requires lane { lane < 64 }
@@ -323,15 +359,20 @@ pub(crate) fn return_call(
     ensures done { IfOk result (λ done. IsAfterReturn (judged object.now) table.now lane most positions.old.items
         positions.new.items done) }
     ensures not { IfOk result (λ done. done ≡ false → positions.new ≡ positions.old) }
+    ensures noted { IfOk result (λ done. done ≡ true → AreReturnedBy (judged object.now) table.now lane trail.old
+        trail.new positions.old.items positions.new.items) }
     ensures err { OnErr result (positions.new ≡ positions.old) }
 {
     if is_in_each(positions.as_slice(), lane) {
+        trail.note(Entry::Returns(lane))?;
         return_in_each(positions, lane);
         return Ok(true);
     }
-    let Some(done) = returned(alloc, object, table, busy, lane, positions.as_slice(), most)? else {
+    let start = positions.as_slice();
+    let Some(done) = returned(alloc, object, table, busy, lane, start, most, trail)? else {
         return Ok(false);
     };
+    trail.note(Entry::Returns(lane))?;
     *positions = done;
     Ok(true)
 }

@@ -1,31 +1,25 @@
-//! The object whose runs are judged: a lock, or a guarded record.
-ghost use Rattle.std.specs.Prelude.{◌≡◌, IfOk, IfSome, IsTrue, is_some};
-ghost use Rattle.stamp_core.specs.LockDecision.{reply_as};
+//! The object whose runs are judged: a lock, or the record that it guards.
+ghost use Rattle.std.specs.Prelude.{◌≡◌, IsTrue};
 ghost use Rattle.stamp_runs.specs.Run.{AreAlike};
-ghost use Rattle.stamp_sets.specs.inner.Contents.{IsGrown, width_of};
-ghost use Rattle.stamp_sets.specs.Judged.{lock};
-ghost use Rattle.stamp_sets.specs.inner.Guarded.{guarded, left_by, may_be_done};
+ghost use Rattle.stamp_sets.specs.Judged.{guarded, judged, left_by, lock, may_be_done};
 ghost use Rattle.stamp_sets.specs.Kept.{may_be_free};
-ghost use Rattle.stamp_sets.specs.inner.Objects.{IsGrownTo, IsRecordCall, IsRecordReply, IsToldCall, IsToldReply};
-ghost use Rattle.stamp_sets.specs.inner.Objects.{has_no_content, is_call_of, is_record_call, is_record_reply, is_reply_of, judged};
+ghost use Rattle.stamp_sets.specs.SmallCall.{call_of};
 ghost use Rattle.stamp_sets.specs.declared.object.Object.{Object};
 ghost use Rattle.stamp_sets.specs.Unchanging.{small_unchanging};
 ghost use Rattle.stamp_sets.specs.inner.Effect.{ChangesNothing, IsEffect, IsOverwritingTo};
 ghost use Rattle.stamp_sets.specs.inner.State.{IsState};
 
-use crate::contents::Contents;
 use crate::ending::is_same_reply;
 use crate::lock_calls;
 use crate::open_call::OpenCall;
 use crate::small_call::{SmallCall, SmallReply};
-use stamp_core::{Call, Limits, LockCall, LockDecision, LockReply, Reply, Word, decide_lock};
-use std::alloc::{AllocError, Global};
+use stamp_core::{Limits, LockDecision, LockReply, Word, decide_lock};
 
-/// A judged object: a lock with these limits; or a record that holds one of these contents, by its number.
-#[derive(Drop)]
+/// A judged object: a lock with these limits; or a record, by the numbers of its contents.
+#[derive(Clone, Copy)]
 pub(crate) enum Object {
     Lock(Limits),
-    Record(Contents),
+    Record,
 }
 
 /// The number of a lock's word at first.
@@ -64,11 +58,9 @@ fn lock_after(limits: Limits, state: u64, begun: &OpenCall) -> Option<u64>
 }
 
 /// What a call of the record leaves: as `state_after`.
-fn record_after(contents: &Contents, state: u64, begun: &OpenCall) -> Option<u64>
-    requires { IsState (guarded contents.now) state }
-    ensures { IsEffect (guarded contents.now) state begun.now result }
+fn record_after(state: u64, begun: &OpenCall) -> Option<u64>
+    ensures { IsEffect guarded state begun.now result }
 {
-    contents.known();
     match begun.asks {
         SmallCall::OfLock(_) => None,
         SmallCall::Get => {
@@ -79,18 +71,14 @@ fn record_after(contents: &Contents, state: u64, begun: &OpenCall) -> Option<u64
             }
         }
         SmallCall::Put(next) => {
-            if !contents.has(next) {
-                None
-            } else if begun.ends.may_get(SmallReply::OfLock(LockReply::Done)) {
+            if begun.ends.may_get(SmallReply::OfLock(LockReply::Done)) {
                 Some(next)
             } else {
                 None
             }
         }
         SmallCall::PutIf(expected, number) => {
-            if !contents.has(number) {
-                None
-            } else if expected == state {
+            if expected == state {
                 if begun.ends.may_get(SmallReply::OfLock(LockReply::Yes)) {
                     Some(number)
                 } else {
@@ -106,15 +94,12 @@ fn record_after(contents: &Contents, state: u64, begun: &OpenCall) -> Option<u64
 }
 
 /// The number of the content that a put leaves, if it may be answered.
-fn put_leaves(contents: &Contents, begun: &OpenCall) -> Option<u64>
-    ensures { result ≡ left_by contents.now begun.now.asks (may_be_done begun.now.ends) }
+fn put_leaves(begun: &OpenCall) -> Option<u64>
+    ensures { result ≡ left_by begun.now.asks (may_be_done begun.now.ends) }
 {
     let SmallCall::Put(number) = begun.asks else {
         return None;
     };
-    if !contents.has(number) {
-        return None;
-    }
     if begun.ends.may_get(SmallReply::OfLock(LockReply::Done)) {
         Some(number)
     } else {
@@ -122,117 +107,14 @@ fn put_leaves(contents: &Contents, begun: &OpenCall) -> Option<u64>
     }
 }
 
-/// The call of a record of these contents by their numbers; nothing where it is none, or of another width.
-fn record_call(contents: &mut Contents, call: &Call) -> Result<Option<SmallCall>, AllocError>
-    ensures own { IfOk result (λ found. is_some found ≡ is_record_call (width_of contents.old) call.now) }
-    ensures told { IfOk result (λ found. IfSome found (λ small. IsRecordCall contents.new small call.now)) }
-    ensures grows { IsGrown contents.old contents.new }
-{
-    match call {
-        Call::Get => Ok(Some(SmallCall::Get)),
-        Call::Put(words) => match contents.number_of(words)? {
-            None => Ok(None),
-            Some(number) => Ok(Some(SmallCall::Put(number))),
-        },
-        Call::PutIf(expected, words) => {
-            contents.known();
-            let Some(first) = contents.number_of(expected)? else {
-                return Ok(None);
-            };
-            match contents.number_of(words)? {
-                None => Ok(None),
-                Some(number) => Ok(Some(SmallCall::PutIf(first, number))),
-            }
-        }
-        _ => Ok(None),
-    }
-}
-
-/// The reply without a content that it is; nothing for a content.
-fn without_content(reply: &Reply) -> Option<LockReply>
-    ensures some { is_some result ≡ has_no_content reply.now }
-    ensures same { IfSome result (λ own. reply_as own ≡ reply.now) }
-{
-    match *reply {
-        Reply::Stamp(stamp) => Some(LockReply::Stamp(stamp)),
-        Reply::Yes => Some(LockReply::Yes),
-        Reply::No => Some(LockReply::No),
-        Reply::Done => Some(LockReply::Done),
-        Reply::Mismatch => Some(LockReply::Mismatch),
-        Reply::Count(count) => Some(LockReply::Count(count)),
-        Reply::Content(_) => None,
-    }
-}
-
-/// The reply of a record of these contents by their numbers; nothing for a content of another width.
-fn record_reply(contents: &mut Contents, reply: &Reply) -> Result<Option<SmallReply>, AllocError>
-    ensures own { IfOk result (λ found. is_some found ≡ is_record_reply (width_of contents.old) reply.now) }
-    ensures told { IfOk result (λ found. IfSome found (λ small. IsRecordReply contents.new small reply.now)) }
-    ensures grows { IsGrown contents.old contents.new }
-{
-    if let Reply::Content(words) = reply {
-        return match contents.number_of(words)? {
-            None => Ok(None),
-            Some(number) => Ok(Some(SmallReply::Content(number))),
-        };
-    }
-    match without_content(reply) {
-        None => Ok(None),
-        Some(own) => Ok(Some(SmallReply::OfLock(own))),
-    }
-}
-
 impl Object {
-    /// The same object, in memory of its own.
-    pub(crate) fn copied(&self, alloc: Global) -> Result<Object, AllocError>
-        ensures { IfOk result (λ copy. copy ≡ self.now) }
-    {
-        match self {
-            Object::Lock(limits) => Ok(Object::Lock(*limits)),
-            Object::Record(contents) => Ok(Object::Record(contents.copied(alloc)?)),
-        }
-    }
-
     /// The number of its state at first.
     pub(crate) fn opening(&self) -> u64
         ensures { (judged self.now).holds result (judged self.now).start }
     {
         match self {
             Object::Lock(limits) => lock_opening(*limits),
-            Object::Record(contents) => {
-                contents.known();
-                0
-            }
-        }
-    }
-
-    /// The call by numbers of contents, of which new ones are added; nothing where it is not the object's own.
-    pub(crate) fn small_call(&mut self, call: &Call) -> Result<Option<SmallCall>, AllocError>
-        ensures own { IfOk result (λ found. is_some found ≡ is_call_of self.old call.now) }
-        ensures told { IfOk result (λ found. IfSome found (λ small. IsToldCall self.new small call.now)) }
-        ensures grows { IsGrownTo self.old self.new }
-    {
-        match self {
-            Object::Record(contents) => record_call(contents, call),
-            Object::Lock(_) => match LockCall::of(call) {
-                None => Ok(None),
-                Some(own) => Ok(Some(SmallCall::OfLock(own))),
-            },
-        }
-    }
-
-    /// The reply by numbers of contents, of which a new one is added; nothing where it is not the object's own.
-    pub(crate) fn small_reply(&mut self, reply: &Reply) -> Result<Option<SmallReply>, AllocError>
-        ensures own { IfOk result (λ found. is_some found ≡ is_reply_of self.old reply.now) }
-        ensures told { IfOk result (λ found. IfSome found (λ small. IsToldReply self.new small reply.now)) }
-        ensures grows { IsGrownTo self.old self.new }
-    {
-        match self {
-            Object::Record(contents) => record_reply(contents, reply),
-            Object::Lock(_) => match without_content(reply) {
-                None => Ok(None),
-                Some(own) => Ok(Some(SmallReply::OfLock(own))),
-            },
+            Object::Record => 0,
         }
     }
 
@@ -245,7 +127,7 @@ impl Object {
     {
         match self {
             Object::Lock(limits) => lock_after(*limits, state, begun),
-            Object::Record(contents) => record_after(contents, state, begun),
+            Object::Record => record_after(state, begun),
         }
     }
 
@@ -257,7 +139,7 @@ impl Object {
     {
         match self {
             Object::Lock(_) => None,
-            Object::Record(contents) => put_leaves(contents, begun),
+            Object::Record => put_leaves(begun),
         }
     }
 
@@ -266,7 +148,7 @@ impl Object {
     pub(crate) fn may_be_free(&self, begun: &OpenCall) -> bool
         ensures { result ≡ may_be_free (judged self.now) begun.now }
     {
-        let Object::Record(_) = self else {
+        let Object::Record = self else {
             return false;
         };
         if self.overwrites(begun).is_some() {
@@ -277,8 +159,7 @@ impl Object {
 
     /// Whether both calls do the same in any state.
     pub(crate) fn does_same(&self, call: SmallCall, other: SmallCall) -> bool
-        ensures { IsTrue result → AreAlike (judged self.now).step ((judged self.now).call call)
-            ((judged self.now).call other) }
+        ensures { IsTrue result → AreAlike (judged self.now).step (call_of call) (call_of other) }
     {
         if call == other {
             return true;

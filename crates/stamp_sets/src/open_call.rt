@@ -1,11 +1,12 @@
 //! The open calls of the lanes.
 ghost use Rattle.std.specs.Prelude.{◌≡◌, ◌↔◌, IsTrue, Some, None, IfOk, List, replicate, slice_set};
 ghost use Rattle.stamp_sets.specs.declared.object.Object.{Object};
-ghost use Rattle.stamp_sets.specs.inner.Objects.{judged};
+ghost use Rattle.stamp_sets.specs.Judged.{judged};
 ghost use Rattle.stamp_sets.specs.Told.{open_at};
+ghost use Rattle.stamp_sets.specs.Unchanging.{reads_only};
 ghost use Rattle.stamp_sets.specs.inner.Effect.{AreEndless, GoesBefore, IsAhead, GivesWayAmong, IsUnchanging};
 
-use crate::ending::{SmallEnding, is_same_reply};
+use crate::ending::{Ending, is_same_reply};
 use crate::lanes::{first_lane, has_lane, without_lane};
 use crate::object::{Object, is_unchanging};
 use crate::small_call::SmallCall;
@@ -15,7 +16,7 @@ use std::alloc::{AllocError, Global};
 #[derive(Clone, Copy)]
 pub(crate) struct OpenCall {
     pub(crate) asks: SmallCall,
-    pub(crate) ends: SmallEnding,
+    pub(crate) ends: Ending,
 }
 
 /// So many lanes as a watch has, all without an open call.
@@ -52,11 +53,11 @@ pub(crate) fn put(table: &mut Vec<Option<OpenCall>>, lane: u64, slot: Option<Ope
 impl OpenCall {
     /// Whether the reply that is told of it is one by which it changes nothing.
     pub(crate) fn is_unchanging(&self) -> bool
-        ensures reads { (object : Object) → result ≡ (judged object).reads self.now }
+        ensures value { result ≡ reads_only self.now }
         ensures unchanging { (object : Object) → IsTrue result → IsUnchanging (judged object) self.now }
     {
         match self.ends {
-            SmallEnding::Returns(told, _) => is_unchanging(self.asks, told),
+            Ending::Returns(told, _) => is_unchanging(self.asks, told),
             _ => false,
         }
     }
@@ -65,10 +66,10 @@ impl OpenCall {
     fn is_ahead(&self, object: &Object, other: &OpenCall) -> bool
         ensures { IsTrue result → IsAhead (judged object.now) self.now other.now }
     {
-        let SmallEnding::Returns(reply, place) = self.ends else {
+        let Ending::Returns(reply, place) = self.ends else {
             return false;
         };
-        let SmallEnding::Returns(answer, later) = other.ends else {
+        let Ending::Returns(answer, later) = other.ends else {
             return false;
         };
         if place >= later {
@@ -84,13 +85,13 @@ impl OpenCall {
     fn is_endless_as(&self, other: &OpenCall) -> bool
         ensures { IsTrue result → AreEndless self.now other.now }
     {
-        matches!(self.ends, SmallEnding::Never)
-            && matches!(other.ends, SmallEnding::Never)
+        matches!(self.ends, Ending::Never)
+            && matches!(other.ends, Ending::Never)
             && self.asks == other.asks
     }
 
-    /// Whether this one of its lane goes before the other one of its: it is ahead of it, or neither ends and its lane is
-    /// lower.
+    /// Whether this one of its lane goes before the other one of its: it is ahead of it, or neither ends and its lane
+    /// is lower.
     fn goes_before(&self, object: &Object, lane: u64, other: &OpenCall, others_lane: u64) -> bool
         ensures { IsTrue result → GoesBefore (judged object.now) lane others_lane self.now other.now }
     {

@@ -22,7 +22,7 @@ impl Position {
     }
 }
 
-fn is_among(list: &[Position], position: &Position) -> bool
+pub(crate) fn is_among(list: &[Position], position: &Position) -> bool
     ensures { IsTrue result ↔ Contains list.now position.now }
 {
     for other in list {

@@ -1,15 +1,18 @@
 //! The first layer on the way to a return: where the call that returns is free it may have taken effect unseen.
 ghost use Rattle.std.specs.Prelude.{◌≡◌, ◌<◌, OnOk, []};
 ghost use Rattle.std.specs.Int.{bit_at};
-ghost use Rattle.stamp_sets.specs.inner.Objects.{judged};
+ghost use Rattle.std.specs.List.{Contains};
+ghost use Rattle.stamp_sets.specs.Judged.{judged};
 ghost use Rattle.stamp_sets.specs.inner.State.{IsState};
 ghost use Rattle.stamp_sets.specs.inner.Start.{Hides, HidesEach, IsFixed, IsHidden, StartsWith, TakesUp};
+ghost use Rattle.stamp_sets.specs.inner.Trail.{AreNoted};
 
 use crate::effect::settled;
 use crate::lanes::{first_lane, has_lane, with_lane, without_lane};
 use crate::object::Object;
 use crate::open_call::{OpenCall, open_in};
-use crate::position::{Position, add};
+use crate::position::Position;
+use crate::trail::{Entry, Link, Trail, Way, add_by};
 use std::alloc::AllocError;
 
 /// The position with the lane's call not free.
@@ -58,11 +61,15 @@ fn hide_source(
     lane: u64,
     position: Position,
     first: &mut Vec<Position>,
+    trail: &mut Trail,
 ) -> Result<(), AllocError>
     requires source { source < 64 }
     requires lane { lane < 64 }
     requires free { bit_at position.free source ≡ 1 }
-    ensures { OnOk result (Hides (judged object.now) table.now lane position (λ s. s ≡ source) first.old.items first.new.items) }
+    ensures hides { OnOk result (Hides (judged object.now) table.now lane position (λ s. s ≡ source)
+        first.old.items first.new.items) }
+    ensures noted { OnOk result (AreNoted (judged object.now) table.now (λ p. p ≡ position) trail.old trail.new
+        first.old.items first.new.items) }
 {
     let Some(begun) = open_in(table, source) else {
         return Ok(());
@@ -77,7 +84,13 @@ fn hide_source(
     if !has_lane(then.in_effect, lane) {
         return Ok(());
     }
-    add(first, then)
+    let link = Link {
+        way: Way::Hides,
+        lane: source,
+        from: position,
+        to: then,
+    };
+    add_by(first, trail, link)
 }
 
 /// Adds the positions where some free call that overwrites was hidden, and with it this lane's.
@@ -87,14 +100,18 @@ fn hide_sources(
     lane: u64,
     position: Position,
     first: &mut Vec<Position>,
+    trail: &mut Trail,
 ) -> Result<(), AllocError>
     requires { lane < 64 }
-    ensures { OnOk result (Hides (judged object.now) table.now lane position (λ s. s < 64) first.old.items first.new.items) }
+    ensures hides { OnOk result (Hides (judged object.now) table.now lane position (λ s. s < 64) first.old.items
+        first.new.items) }
+    ensures noted { OnOk result (AreNoted (judged object.now) table.now (λ p. p ≡ position) trail.old trail.new
+        first.old.items first.new.items) }
 {
     let mut rest = position.free;
     while rest != 0 {
         let source = first_lane(rest);
-        hide_source(object, table, source, lane, position, first)?;
+        hide_source(object, table, source, lane, position, first, trail)?;
         rest = without_lane(rest, source);
     }
     Ok(())
@@ -107,17 +124,30 @@ fn hide(
     lane: u64,
     position: Position,
     first: &mut Vec<Position>,
+    trail: &mut Trail,
 ) -> Result<(), AllocError>
     requires lane { lane < 64 }
     requires free { bit_at position.free lane ≡ 1 }
-    ensures { OnOk result (HidesEach (judged object.now) table.now lane position first.old.items first.new.items) }
+    ensures hides { OnOk result (HidesEach (judged object.now) table.now lane position first.old.items
+        first.new.items) }
+    ensures noted { OnOk result (AreNoted (judged object.now) table.now (λ p. p ≡ position) trail.old trail.new
+        first.old.items first.new.items) }
 {
     let Some(begun) = open_in(table, lane) else {
         return Ok(());
     };
     match object.overwrites(&begun) {
-        None => hide_sources(object, table, lane, position, first),
-        Some(left) => add(first, hidden(object, table, lane, left, position)),
+        None => hide_sources(object, table, lane, position, first, trail),
+        Some(left) => {
+            let then = hidden(object, table, lane, left, position);
+            let link = Link {
+                way: Way::Hides,
+                lane,
+                from: position,
+                to: then,
+            };
+            add_by(first, trail, link)
+        }
     }
 }
 
@@ -128,15 +158,27 @@ fn take_up(
     lane: u64,
     position: Position,
     first: &mut Vec<Position>,
+    trail: &mut Trail,
 ) -> Result<(), AllocError>
     requires lane { lane < 64 }
-    ensures { OnOk result (TakesUp (judged object.now) table.now lane position first.old.items first.new.items) }
+    ensures takes { OnOk result (TakesUp (judged object.now) table.now lane position first.old.items
+        first.new.items) }
+    ensures noted { OnOk result (AreNoted (judged object.now) table.now (λ p. p ≡ position) trail.old trail.new
+        first.old.items first.new.items) }
 {
-    first.push(fixed(position, lane))?;
-    if has_lane(position.free, lane) {
-        hide(object, table, lane, position, first)?;
+    if !has_lane(position.free, lane) {
+        first.push(position)?;
+        return Ok(());
     }
-    Ok(())
+    let then = fixed(position, lane);
+    first.push(then)?;
+    trail.note(Entry::Comes(Link {
+        way: Way::Fixes,
+        lane,
+        from: position,
+        to: then,
+    }))?;
+    hide(object, table, lane, position, first, trail)
 }
 
 /// Adds what comes of each position.
@@ -146,12 +188,16 @@ pub(crate) fn take_up_each(
     lane: u64,
     positions: &[Position],
     first: &mut Vec<Position>,
+    trail: &mut Trail,
 ) -> Result<(), AllocError>
     requires lane { lane < 64 }
-    ensures { OnOk result (first.old.items ≡ [] → StartsWith (judged object.now) table.now lane positions.now first.new.items) }
+    ensures starts { OnOk result (first.old.items ≡ [] → StartsWith (judged object.now) table.now lane
+        positions.now first.new.items) }
+    ensures noted { OnOk result (AreNoted (judged object.now) table.now (Contains positions.now) trail.old trail.new
+        first.old.items first.new.items) }
 {
     for position in positions {
-        take_up(object, table, lane, *position, first)?;
+        take_up(object, table, lane, *position, first, trail)?;
     }
     Ok(())
 }

@@ -4,4 +4,8 @@
 #[cfg(test)]
 mod lanes_tests;
 #[cfg(test)]
+mod record_tests;
+#[cfg(test)]
+mod samples;
+#[cfg(test)]
 mod watch_tests;

@@ -1,93 +1,85 @@
 -- A run in which calls begin later is explained only where the run is.
-use Rattle.std.proofs.Common.{◌≡◌, ◌≢◌, ◌⊎◌, ◌+◌, ◌-◌, ◌<◌, ◌≤◌, ℕ, zero, suc, Bool, false, List, [], ◌∷◌, ◌++◌}
+use Rattle.std.proofs.Common.{◌≡◌, ◌≢◌, ◌⊎◌, ◌+◌, ◌-◌, ◌<◌, ◌≤◌, ℕ, zero, suc, false, List, [], ◌∷◌, ◌++◌}
 use Rattle.std.proofs.Common.{length, refl, sym, ◌∙◌, ap, subst, inl, inr, arith}
-use Rattle.std.specs.Prelude.{take}
+use Rattle.std.specs.Prelude.{take, ◌==◌, if◌then◌else◌, Option, Some, None, is_some}
 use Rattle.std.specs.List.{All, fold}
 use Rattle.std.proofs.lemmas.Bool.{cases_eq, cases_lt}
 use Rattle.std.proofs.lemmas.List.{length-append, take-append-le}
 use Rattle.std.proofs.lemmas.List.Elements.{All-append, All-cons, All-drop, All-head, All-tail, All-take}
 use Rattle.std.proofs.Math.Seq.{drop-append_seam, take-append_seam, take-append-add}
-use Rattle.stamp_core.specs.LockEvent.{LockEvent}
 use Rattle.stamp_core.specs.Limits.{Bounds}
 use Rattle.stamp_core.specs.declared.call.Call.{Call}
 use Rattle.stamp_runs.specs.declared.event.Event.{Event}
 use Rattle.stamp_runs.specs.declared.event.Event.TheVariants.{Begins, Returns, Withdraws}
-use Rattle.stamp_runs.specs.Run.{lane_of, Lanes, Survives, all_idle}
-use Rattle.stamp_runs.specs.Object.{LockStep}
-use Rattle.stamp_runs.specs.LockRun.{AreExplained}
+use Rattle.stamp_runs.specs.Run.{lane_of, Lanes, Survives}
+use Rattle.stamp_runs.specs.BothRun.{AreExplained, Both, State, start}
+use Rattle.stamp_runs.specs.Own.{AreInForm, AreInFormFrom, MayCome, none_open, open_then}
 use Rattle.stamp_runs.specs.Run.Phase.{Idle, Asks}
 use Rattle.stamp_runs.proofs.Lanes.{set_of, sets_of}
-use Rattle.stamp_watch.specs.Form.{is_busy_then, is_busy_after, AreInForm, AreInFormFrom, MayCome}
+use Rattle.stamp_runs.proofs.Owning.{Calls}
+use Rattle.stamp_watch.specs.Form.{is_busy_after}
 use Rattle.stamp_watch.specs.Late.{BeginsLater, BeginsOneLater, LaterExplainsNoMore}
 use Rattle.stamp_watch.specs.Late.BeginsLater.{as_it_is, then_later}
-use Rattle.stamp_watch.specs.Verdict.{AreOfLock, IsOfLock}
+use Rattle.stamp_watch.specs.Verdict.{AreOfLanes, IsOfLane}
 use Rattle.stamp_watch.proofs.BeginningLate.{begins_sooner}
 use Rattle.stamp_watch.proofs.Ways.{at_end, comes_next, spared_one}
-use Rattle.stamp_watch.proofs.Form.{busy_other, past_free}
+use Rattle.stamp_watch.proofs.Form.{open_other, past_free}
 
-busy_swapped : (lane : ℕ) (busy : Bool) (d e : Event) → lane_of d ≢ lane_of e →
-    is_busy_then lane (is_busy_then lane busy d) e ≡ is_busy_then lane (is_busy_then lane busy e) d
-busy_swapped lane busy d e apart = by (cases_eq (lane_of d) lane)
+-- an event opens and closes in a lane as it does where the same is open
+open_as : (a b : Calls) (e : Event) (lane : ℕ) → a lane ≡ b lane → open_then a e lane ≡ open_then b e lane
+open_as a b (Begins u call) lane same = ap (λ (o : Option Call). if u == lane then Some call else o) same
+open_as a b (Returns u reply) lane same = ap (λ (o : Option Call). if u == lane then None else o) same
+open_as a b (Withdraws u) lane same = ap (λ (o : Option Call). if u == lane then None else o) same
+
+open_swapped : (calls : Calls) (d e : Event) → lane_of d ≢ lane_of e →
+    open_then (open_then calls d) e ≡ open_then (open_then calls e) d
+open_swapped calls d e apart = λ i lane. by lane (cases_eq (lane_of d) lane) i
   where
-    by : (lane_of d ≡ lane) ⊎ (lane_of d ≢ lane) →
-        is_busy_then lane (is_busy_then lane busy d) e ≡ is_busy_then lane (is_busy_then lane busy e) d
-    by (inl same) = busy_other lane (is_busy_then lane busy d) e other ∙
-        sym (ap (λ (b : Bool). is_busy_then lane b d) (busy_other lane busy e other))
+    by : (lane : ℕ) → (lane_of d ≡ lane) ⊎ (lane_of d ≢ lane) →
+        open_then (open_then calls d) e lane ≡ open_then (open_then calls e) d lane
+    by lane (inl same) = open_other lane (open_then calls d) e other ∙
+        sym (open_as (open_then calls e) calls d lane (open_other lane calls e other))
       where
         other : lane_of e ≢ lane
         other is = apart (same ∙ sym is)
-    by (inr other) = ap (λ (b : Bool). is_busy_then lane b e) (busy_other lane busy d other) ∙
-        sym (busy_other lane (is_busy_then lane busy e) d other)
+    by lane (inr other) = open_as (open_then calls d) calls e lane (open_other lane calls d other) ∙
+        sym (open_other lane (open_then calls e) d other)
 
-may_come_so : (a b : ℕ → Bool) (e : Event) → a (lane_of e) ≡ b (lane_of e) → MayCome a e → MayCome b e
-may_come_so a b (Begins lane call) same may = (sym same ∙ may.0, may.1)
-may_come_so a b (Returns lane reply) same may = sym same ∙ may
-may_come_so a b (Withdraws lane) same may = sym same ∙ may
-
-form_same : (a b : ℕ → Bool) (events : List Event) → ((lane : ℕ) → a lane ≡ b lane) → AreInFormFrom a events →
-    AreInFormFrom b events
-form_same a b [] same form = tt
-form_same a b (e ∷ events) same form = (
-  may_come_so a b e (same (lane_of e)) form.0,
-  form_same (λ (lane : ℕ). is_busy_then lane (a lane) e) (λ (lane : ℕ). is_busy_then lane (b lane) e) events
-      (λ lane. ap (λ (busy : Bool). is_busy_then lane busy e) (same lane)) form.1,
-)
+may_come_so : (a b : Calls) (e : Event) → a (lane_of e) ≡ b (lane_of e) → MayCome a e → MayCome b e
+may_come_so a b (Begins lane call) same may = sym same ∙ may
+may_come_so a b (Returns lane reply) same may = ap is_some (sym same) ∙ may
+may_come_so a b (Withdraws lane) same may = ap is_some (sym same) ∙ may
 
 -- two events of different lanes are in form in either order
-form_swapped : (busy : ℕ → Bool) (past : List Event) (d e : Event) (rest : List Event) → lane_of d ≢ lane_of e →
-    AreInFormFrom busy (past ++ d ∷ e ∷ rest) → AreInFormFrom busy (past ++ e ∷ d ∷ rest)
-form_swapped busy [] d e rest apart form = (
-  may_come_so (λ (lane : ℕ). is_busy_then lane (busy lane) d) busy e
-      (busy_other (lane_of e) (busy (lane_of e)) d apart) form.1.0,
+form_swapped : (calls : Calls) (past : List Event) (d e : Event) (rest : List Event) → lane_of d ≢ lane_of e →
+    AreInFormFrom calls (past ++ d ∷ e ∷ rest) → AreInFormFrom calls (past ++ e ∷ d ∷ rest)
+form_swapped calls [] d e rest apart form = (
+  may_come_so (open_then calls d) calls e (open_other (lane_of e) calls d apart) form.1.0,
   (
-    may_come_so busy (λ (lane : ℕ). is_busy_then lane (busy lane) e) d
-        (sym (busy_other (lane_of d) (busy (lane_of d)) e (λ is. apart (sym is)))) form.0,
-    form_same (λ (lane : ℕ). is_busy_then lane (is_busy_then lane (busy lane) d) e)
-        (λ (lane : ℕ). is_busy_then lane (is_busy_then lane (busy lane) e) d) rest
-        (λ lane. busy_swapped lane (busy lane) d e apart) form.1.1,
+    may_come_so calls (open_then calls e) d (sym (open_other (lane_of d) calls e (λ is. apart (sym is)))) form.0,
+    subst (λ (after : Calls). AreInFormFrom after rest) (open_swapped calls d e apart) form.1.1,
   ),
 )
-form_swapped busy (x ∷ past) d e rest apart form =
-    (form.0, form_swapped (λ (lane : ℕ). is_busy_then lane (busy lane) x) past d e rest apart form.1)
+form_swapped calls (x ∷ past) d e rest apart form =
+    (form.0, form_swapped (open_then calls x) past d e rest apart form.1)
 
 -- a lane is free before a call that begins in it
-pub free_before : (busy : ℕ → Bool) (past : List Event) (lane : ℕ) (call : Call) (rest : List Event) →
-    AreInFormFrom busy (past ++ Begins lane call ∷ rest) → fold (is_busy_then lane) (busy lane) past ≡ false
-free_before busy [] lane call rest form = form.0.0
-free_before busy (x ∷ past) lane call rest form =
-    free_before (λ (u : ℕ). is_busy_then u (busy u) x) past lane call rest form.1
+pub free_before : (calls : Calls) (past : List Event) (lane : ℕ) (call : Call) (rest : List Event) →
+    AreInFormFrom calls (past ++ Begins lane call ∷ rest) → is_some (fold open_then calls past lane) ≡ false
+free_before calls [] lane call rest form = ap is_some form.0
+free_before calls (x ∷ past) lane call rest form = free_before (open_then calls x) past lane call rest form.1
 
 module _ (limits : Bounds) (lane : ℕ) (call : Call) (next : Event) (rest : List Event) (apart : lane_of next ≢ lane)
   where
     -- the call may begin before the event, also where the events end at a place
-    begins_before : (j : ℕ) (s : List LockEvent) (lanes : Lanes) → lanes lane ≡ Idle →
-        Survives (LockStep limits) (take j (next ∷ Begins lane call ∷ rest)) s lanes →
-        Survives (LockStep limits) (take j (Begins lane call ∷ next ∷ rest)) s lanes
+    begins_before : (j : ℕ) (s : State) (lanes : Lanes) → lanes lane ≡ Idle →
+        Survives (Both limits) (take j (next ∷ Begins lane call ∷ rest)) s lanes →
+        Survives (Both limits) (take j (Begins lane call ∷ next ∷ rest)) s lanes
     begins_before zero s lanes idle way = way
     begins_before (suc zero) s lanes idle way = comes_next (Begins lane call)
         (idle, sets_of lanes lane (Asks call)) at_end
     begins_before (suc (suc j)) s lanes idle way = comes_next (Begins lane call) (idle, sets_of lanes lane (Asks call))
-        (begins_sooner limits lane call (next ∷ []) (take j rest) s lanes (set_of lanes lane (Asks call))
+        (begins_sooner (Both limits) lane call (next ∷ []) (take j rest) s lanes (set_of lanes lane (Asks call))
         (sets_of lanes lane (Asks call)) (spared_one lane next apart) way)
 
     cut_before : (past : List Event) (k : ℕ) → is_busy_after past lane ≡ false →
@@ -101,9 +93,8 @@ module _ (limits : Bounds) (lane : ℕ) (call : Call) (next : Event) (rest : Lis
             (take-append-le k past (next ∷ Begins lane call ∷ rest) (omega (arith, less)) ∙
             sym (take-append-le k past (Begins lane call ∷ next ∷ rest) (omega (arith, less)))) way
         by (inr more) = subst (AreExplained limits) (sym (cut (Begins lane call ∷ next ∷ rest)))
-            (past_free limits lane (take (k - length past) (next ∷ Begins lane call ∷ rest))
-            (take (k - length past) (Begins lane call ∷ next ∷ rest)) (begins_before (k - length past)) past []
-            all_idle false refl free
+            (past_free (Both limits) start lane (take (k - length past) (next ∷ Begins lane call ∷ rest))
+            (take (k - length past) (Begins lane call ∷ next ∷ rest)) past (begins_before (k - length past)) free
             (subst (AreExplained limits) (cut (next ∷ Begins lane call ∷ rest)) way))
           where
             sum_is : length past + (k - length past) ≡ k
@@ -122,11 +113,11 @@ one_sound : (limits : Bounds) (old new : List Event) → BeginsOneLater old new 
     IsSound limits old new
 one_sound limits old new is form = record {
   form = subst AreInForm (sym is.new_is)
-      (form_swapped (λ (lane : ℕ). false) is.past (Begins is.lane is.call) is.next is.rest
+      (form_swapped none_open is.past (Begins is.lane is.call) is.next is.rest
       (λ same. is.apart (sym same)) form_here);
   explained = λ k way. subst (λ (xs : List Event). AreExplained limits (take k xs)) (sym is.old_is)
       (cut_before limits is.lane is.call is.next is.rest is.apart is.past k
-      (free_before (λ (lane : ℕ). false) is.past is.lane is.call (is.next ∷ is.rest) form_here)
+      (free_before none_open is.past is.lane is.call (is.next ∷ is.rest) form_here)
       (subst (λ (xs : List Event). AreExplained limits (take k xs)) is.new_is way));
 }
   where
@@ -160,19 +151,19 @@ all_swapped P past d e rest all = All-append P past (e ∷ d ∷ rest)
     behind = subst (All P) (drop-append_seam past (d ∷ e ∷ rest))
         (All-drop P (length past) (past ++ d ∷ e ∷ rest) all)
 
--- it is the lock's, too
-pub later_of_lock : (limits : Bounds) (run handed : List Event) → BeginsLater run handed → AreOfLock run →
-    AreOfLock handed
-later_of_lock limits run handed later whole = record {
+-- it is in those lanes, too
+pub later_of_lanes : (limits : Bounds) (run handed : List Event) → BeginsLater run handed → AreOfLanes run →
+    AreOfLanes handed
+later_of_lanes limits run handed later whole = record {
   form = later_in_form limits run handed later whole.form;
-  lock = by handed later;
+  lanes = by handed later;
 }
   where
-    by : (events : List Event) → BeginsLater run events → All IsOfLock events
-    by events as_it_is = whole.lock
-    by events (then_later {old = old} before one) = subst (All IsOfLock) (sym one.new_is)
-        (all_swapped IsOfLock one.past (Begins one.lane one.call) one.next one.rest
-        (subst (All IsOfLock) one.old_is (by old before)))
+    by : (events : List Event) → BeginsLater run events → All IsOfLane events
+    by events as_it_is = whole.lanes
+    by events (then_later {old = old} before one) = subst (All IsOfLane) (sym one.new_is)
+        (all_swapped IsOfLane one.past (Begins one.lane one.call) one.next one.rest
+        (subst (All IsOfLane) one.old_is (by old before)))
 
 pub later_explains_no_more : LaterExplainsNoMore
 later_explains_no_more limits run handed k form later way = (sound limits run handed later form).explained k way

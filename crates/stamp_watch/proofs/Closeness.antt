@@ -1,8 +1,8 @@
 -- Each call that a judge was given ends near.
-use Rattle.std.proofs.Common.{◌≡◌, ◌≢◌, ◌⊎◌, ◌+◌, ◌-◌, ◌<◌, ◌≤◌, ℕ, zero, suc, Bool, true, false, List, [], ◌∷◌}
+use Rattle.std.proofs.Common.{◌≡◌, ◌≢◌, ◌⊎◌, ◌+◌, ◌-◌, ◌<◌, ◌≤◌, ℕ, zero, suc, List, [], ◌∷◌}
 use Rattle.std.proofs.Common.{◌++◌, length, Some, None, refl, sym, ◌∙◌, ap, subst, inl, inr, arith, append_assoc}
-use Rattle.std.proofs.Common.{append-nil, eq-eqb, map}
-use Rattle.std.specs.Prelude.{drop, take, ◌||◌}
+use Rattle.std.proofs.Common.{append-nil, map}
+use Rattle.std.specs.Prelude.{drop, take, is_some, IsSome}
 use Rattle.std.specs.List.{All, AllPairs}
 use Rattle.std.proofs.lemmas.Bool.{cases_eq, cases_lt, false≢true}
 use Rattle.std.proofs.lemmas.List.{drop-append-le, drop_all, length-append, length-drop, length-map, length_push}
@@ -13,21 +13,22 @@ use Rattle.stamp_core.specs.Limits.{Bounds}
 use Rattle.stamp_core.specs.declared.call.Call.{Call}
 use Rattle.stamp_explain.proofs.Lists.{pairs_map}
 use Rattle.stamp_explain.proofs.Threads.{few_threads}
+use Rattle.stamp_runs.specs.Own.{AreInForm, AreInFormFrom, MayCome, none_open, open_then}
 use Rattle.stamp_runs.specs.Run.{IsEndOf, lane_of, EndsNever}
 use Rattle.stamp_runs.specs.declared.event.Event.{Event}
 use Rattle.stamp_runs.specs.declared.event.Event.TheVariants.{Begins, Returns, Withdraws}
+use Rattle.stamp_runs.proofs.Owning.{Calls, in_lane}
 use Rattle.stamp_watch.specs.Ahead.{IsSpared}
 use Rattle.stamp_watch.specs.Course.{IsRest}
 use Rattle.stamp_watch.specs.declared.verdict.Verdict.{Verdict}
 use Rattle.stamp_watch.specs.declared.verdict.Verdict.TheVariants as verdict
 use Rattle.stamp_watch.specs.declared.verdict.Why.TheVariants as cause
 use Rattle.stamp_watch.specs.Delay.{AreAside, AreNear, EndsNear, IsBeginning}
-use Rattle.stamp_watch.specs.Form.{AreInForm, AreInFormFrom, MayCome, is_busy_then}
 use Rattle.stamp_watch.specs.Judging.{IsFound}
 use Rattle.stamp_watch.specs.SoFar.{BeginWithOpenCall}
 use Rattle.stamp_watch.specs.Verdict.{IsOpenFor}
 use Rattle.stamp_watch.specs.inner.Delay.{IsToBeAside}
-use Rattle.stamp_watch.proofs.Form.{busy_other}
+use Rattle.stamp_watch.proofs.Form.{open_other}
 use Rattle.stamp_watch.proofs.Ways.{first_same, never_later, no_empty, not_end, rest_same}
 
 -- each call that is aside is in a lane of its own
@@ -61,29 +62,28 @@ no_end_within lane (suc n) (x ∷ xs) e ys less ends never = no_end_within lane 
     (never_later lane x (take n (xs ++ e ∷ ys)) never)
 
 -- in a lane that has an open call no call begins
-ends_where_busy : (busy : ℕ → Bool) (lane : ℕ) (e : Event) → busy lane ≡ true → lane_of e ≡ lane → MayCome busy e →
+ends_where_open : (calls : Calls) (lane : ℕ) (e : Event) → IsSome (calls lane) → lane_of e ≡ lane → MayCome calls e →
     IsEndOf lane e
-ends_where_busy busy lane (Begins u call) taken same may = absurd (false≢true (sym may.0 ∙ ap busy same ∙ taken))
-ends_where_busy busy lane (Returns u reply) taken same may = same
-ends_where_busy busy lane (Withdraws u) taken same may = same
+ends_where_open calls lane (Begins u call) taken same may =
+    absurd (false≢true (sym (ap is_some may) ∙ ap (λ (v : ℕ). is_some (calls v)) same ∙ taken))
+ends_where_open calls lane (Returns u reply) taken same may = same
+ends_where_open calls lane (Withdraws u) taken same may = same
 
-next_ends : (busy : ℕ → Bool) (lane : ℕ) (before : List Event) (e : Event) (after : List Event) → busy lane ≡ true →
-    IsSpared before lane → lane_of e ≡ lane → AreInFormFrom busy (before ++ e ∷ after) → IsEndOf lane e
-next_ends busy lane [] e after taken spared same form = ends_where_busy busy lane e taken same form.0
-next_ends busy lane (x ∷ before) e after taken spared same form =
-    next_ends (λ (u : ℕ). is_busy_then u (busy u) x) lane before e after
-    (busy_other lane (busy lane) x (All-head (λ (d : Event). lane_of d ≢ lane) x before spared) ∙ taken)
+next_ends : (calls : Calls) (lane : ℕ) (before : List Event) (e : Event) (after : List Event) → IsSome (calls lane) →
+    IsSpared before lane → lane_of e ≡ lane → AreInFormFrom calls (before ++ e ∷ after) → IsEndOf lane e
+next_ends calls lane [] e after taken spared same form = ends_where_open calls lane e taken same form.0
+next_ends calls lane (x ∷ before) e after taken spared same form = next_ends (open_then calls x) lane before e after
+    (ap is_some (open_other lane calls x (All-head (λ (d : Event). lane_of d ≢ lane) x before spared)) ∙ taken)
     (All-tail (λ (d : Event). lane_of d ≢ lane) x before spared) same form.1
 
 -- the next event of its lane ends a call
-call_ends : (busy : ℕ → Bool) (past : List Event) (lane : ℕ) (call : Call) (before : List Event) (e : Event)
-    (after : List Event) → AreInFormFrom busy (past ++ Begins lane call ∷ (before ++ e ∷ after)) →
+call_ends : (calls : Calls) (past : List Event) (lane : ℕ) (call : Call) (before : List Event) (e : Event)
+    (after : List Event) → AreInFormFrom calls (past ++ Begins lane call ∷ (before ++ e ∷ after)) →
     IsSpared before lane → lane_of e ≡ lane → IsEndOf lane e
-call_ends busy [] lane call before e after form spared same =
-    next_ends (λ (u : ℕ). is_busy_then u (busy u) (Begins lane call)) lane before e after
-    (ap (λ (b : Bool). b || busy lane) (eq-eqb lane lane refl)) spared same form.1
-call_ends busy (x ∷ past) lane call before e after form spared same =
-    call_ends (λ (u : ℕ). is_busy_then u (busy u) x) past lane call before e after form.1 spared same
+call_ends calls [] lane call before e after form spared same = next_ends (open_then calls (Begins lane call)) lane
+    before e after (ap is_some (in_lane (Some call) (calls lane) refl)) spared same form.1
+call_ends calls (x ∷ past) lane call before e after form spared same =
+    call_ends (open_then calls x) past lane call before e after form.1 spared same
 
 -- the first of these events that is of the lane
 record HasNext (lane : ℕ) (events : List Event) : Type 0 where
@@ -274,7 +274,7 @@ near_passes window reach run past given aside waiting rest x first form run_is n
           end = has.next;
           after = has.after;
           waiting_is = has.events_are;
-          ends = call_ends (λ (u : ℕ). false) past lane call has.before has.next has.after
+          ends = call_ends none_open past lane call has.before has.next has.after
               (subst AreInForm (run_is ∙ ap (λ (xs : List Event). past ++ xs) (first ∙
               ap (λ (e : Event). e ∷ rest) begins ∙
               ap (λ (xs : List Event). Begins lane call ∷ xs) has.events_are)) form) has.spared has.same;
@@ -313,7 +313,7 @@ near_late window reach run past later given aside aside' waiting b e form run_is
       end = e;
       after = [];
       waiting_is = refl;
-      ends = call_ends (λ (u : ℕ). false) past lane call later e []
+      ends = call_ends none_open past lane call later e []
           (subst AreInForm (ap (λ (xs : List Event). xs ++ e ∷ []) run_is ∙ append_assoc past (b ∷ later) (e ∷ []) ∙
           ap (λ (d : Event). past ++ d ∷ (later ++ e ∷ [])) begins) form)
           (subst (IsSpared later) (ap lane_of begins) spared) (same ∙ ap lane_of begins);

@@ -22,12 +22,12 @@ use Rattle.stamp_watch.specs.Judge.{HasRoomForOne, IsGiven, IsJudge, IsJudgeOfSo
 use Rattle.stamp_watch.specs.Late.{IsLongCall}
 use Rattle.stamp_watch.specs.Late.LongCallsBeginLater.{as_they_are}
 use Rattle.stamp_watch.specs.Possible.{KeepsBase, KeepsOn}
-use Rattle.stamp_watch.specs.Verdict.{AreOfLock, IsOfLock}
+use Rattle.stamp_watch.specs.Verdict.{AreOfLanes, IsOfLane}
 use Rattle.stamp_watch.specs.Waiting.{IsCounted, count_of}
 use Rattle.stamp_watch.specs.inner.Delay.{HasBegun, HasRoomFor, IsOfLaneAt, IsReady, IsReadyFor, IsShownBy}
 use Rattle.stamp_watch.specs.inner.Delay.{IsToBeAside}
 use Rattle.stamp_watch.proofs.Closeness.{few_aside, near_aside, near_first, near_late, near_passes, near_waits}
-use Rattle.stamp_watch.proofs.Forming.{form_first, next_of_lock}
+use Rattle.stamp_watch.proofs.Forming.{form_first, next_of_lane}
 use Rattle.stamp_watch.proofs.GoingOn.{judge_stays, run_long, way_of}
 use Rattle.stamp_watch.proofs.HandingOn.{first_or, given_length, begins_so, handed_aside, handed_passes, handed_waits}
 use Rattle.stamp_watch.proofs.HandingOn.{passed_length, spared_so, x_spared}
@@ -78,8 +78,8 @@ module _ (delay : Delay) (ready : IsReady delay) where
         omega (arith, all, long, room, some);
   }
 
-low_lane : (e : Event) → IsOfLock e → lane_of e < 64
-low_lane (Begins lane call) is = is
+low_lane : (e : Event) → IsOfLane e → lane_of e < 64
+low_lane (Begins lane call) is = is.0
 low_lane (Returns lane reply) is = is.0
 low_lane (Withdraws lane) is = is
 
@@ -142,7 +142,7 @@ near_as reach given aside aside' waiting waiting' a w is =
 
 module _ (limits : Bounds) (most ahead : ℕ) (run : List Event) (old : Delay) where
   -- one event more waits
-  pub delayed_waits : (e : Event) → HasBegun limits most ahead run e old → AreOfLock (run ++ e ∷ []) →
+  pub delayed_waits : (e : Event) → HasBegun limits most ahead run e old → AreOfLanes (run ++ e ∷ []) →
       IsSpared old.aside.items (lane_of e) → (new : Delay) → new.limits ≡ old.limits → new.judge ≡ old.judge →
       new.ahead ≡ old.ahead → IsCounted new.waiting → new.waiting.events.items ≡ old.waiting.events.items ++ e ∷ [] →
       new.aside ≡ old.aside → new.passed ≡ old.passed → new.first_late ≡ old.first_late → new.shown ≡ old.shown →
@@ -198,7 +198,7 @@ module _ (limits : Bounds) (most ahead : ℕ) (run : List Event) (old : Delay) w
     -- a call begins late, whose end comes in
     pub late_shown : (place : ℕ) (b e : Event) → IsOfLaneAt old.aside.items (lane_of e) place →
         b ≡ get_or old.aside.items place b → IsSpared (remove old.aside.items place) (lane_of e) →
-        AreOfLock (run ++ e ∷ []) → (shown : Option ℕ) → (IsSome shown → AreInRange old.limits) →
+        AreOfLanes (run ++ e ∷ []) → (shown : Option ℕ) → (IsSome shown → AreInRange old.limits) →
         IsShownBy old b e shown → IsShownIfAny limits (run ++ e ∷ []) (is.given ++ b ∷ [])
         (remove old.aside.items place) (old.waiting.events.items ++ e ∷ []) shown
     late_shown place b e there read others whole None range by = tt
@@ -226,7 +226,7 @@ module _ (limits : Bounds) (most ahead : ℕ) (run : List Event) (old : Delay) w
 
     -- its end comes near
     pub near_begun : (place : ℕ) (b e : Event) → IsOfLaneAt old.aside.items (lane_of e) place →
-        b ≡ get_or old.aside.items place b → length old.waiting.events.items ≤ old.ahead → AreOfLock (run ++ e ∷ []) →
+        b ≡ get_or old.aside.items place b → length old.waiting.events.items ≤ old.ahead → AreOfLanes (run ++ e ∷ []) →
         AreNear (reach_of ahead) (is.given ++ b ∷ []) (remove old.aside.items place)
         (old.waiting.events.items ++ e ∷ [])
     near_begun place b e there read few whole = near_late (ahead - 64) (reach_of ahead) run (take late.late run)
@@ -292,7 +292,7 @@ module _ (limits : Bounds) (most ahead : ℕ) (run : List Event) (old : Delay) w
           old.passed) some is.handed
 
       low : lane_of x < 64
-      low = low_lane x (next_of_lock handed_here.past x rest (subst AreOfLock handed_here.run_is is.whole))
+      low = low_lane x (next_of_lane handed_here.past x rest (subst AreOfLanes handed_here.run_is is.whole))
 
       spared : IsSpared old.aside.items (lane_of x)
       spared = x_spared (ahead - 64) run is.given old.aside.items rest x old.first_late old.passed handed_here
@@ -466,7 +466,7 @@ delayed_first limits most ahead delay limits_are judge_of keeps far counted asid
 -- once one more event waits
 pub ready_then : (old new : Delay) (e : Event) (ready : IsReadyFor e old) →
     ((limits : Bounds) (most ahead : ℕ) (run : List Event) → IsDelayed limits most ahead run old →
-    AreOfLock (run ++ e ∷ []) → IsDelayed limits most ahead (run ++ e ∷ []) new) → new.judge.found ≡ None →
+    AreOfLanes (run ++ e ∷ []) → IsDelayed limits most ahead (run ++ e ∷ []) new) → new.judge.found ≡ None →
     IsReady new
 ready_then old new e for_one goes none = record {
   limits = for_one.ready.limits;

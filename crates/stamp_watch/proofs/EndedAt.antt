@@ -3,7 +3,7 @@ use Rattle.std.proofs.Common.{◌≡◌, ◌≢◌, ◌⊎◌, ◌+◌, ◌-◌,
 use Rattle.std.proofs.Common.{length, Option, Some, None, refl, sym, ◌∙◌, ap, subst, inl, inr, arith, append_assoc}
 use Rattle.std.proofs.Common.{eq-eqb, ne_eqb}
 use Rattle.std.specs.Prelude.{⊤, IfSome, MatchOption, drop, take, slice_get, nat_le, option_and_then, option_map}
-use Rattle.std.specs.Prelude.{not, ◌&&◌, if◌then◌else◌}
+use Rattle.std.specs.Prelude.{if◌then◌else◌, is_some, IsSome}
 use Rattle.std.specs.List.{fold}
 use Rattle.std.proofs.lemmas.Bool.{cases_eq, false≢true, leb-true}
 use Rattle.std.proofs.lemmas.List.{drop-append-le, drop-take, length-append, length-drop, length-take-le, length_push}
@@ -15,6 +15,7 @@ use Rattle.std.proofs.Math.Seq.{drop-append_seam, take-append-add}
 use Rattle.stamp_core.specs.Limits.{Bounds}
 use Rattle.stamp_core.specs.declared.call.Call.{Call}
 use Rattle.stamp_core.specs.declared.reply.Reply.{Reply}
+use Rattle.stamp_runs.specs.Own.{MayCome, none_open, open_after, open_then}
 use Rattle.stamp_runs.specs.Run.{lane_of}
 use Rattle.stamp_runs.specs.declared.event.Event.{Event}
 use Rattle.stamp_runs.specs.declared.event.Event.TheVariants.{Begins, Returns, Withdraws}
@@ -23,11 +24,11 @@ use Rattle.stamp_watch.specs.declared.course.Course.{Course}
 use Rattle.stamp_watch.specs.declared.delay.Delay.{Delay}
 use Rattle.stamp_watch.specs.declared.ended_call.EndedCall.{EndedCall}
 use Rattle.stamp_watch.specs.EndedCall.{IsEndedAt, begun_in, begun_then, end_in, ended, ended_at, ended_by, ended_from}
-use Rattle.stamp_watch.specs.Form.{MayCome, is_busy_after, is_busy_then}
 use Rattle.stamp_watch.specs.Possible.{IsKept}
 use Rattle.stamp_watch.specs.PossibleLate.{AreSameUntil, KeepsDelayed}
-use Rattle.stamp_watch.specs.Verdict.{AreOfLock}
-use Rattle.stamp_watch.proofs.Form.{busy_other}
+use Rattle.stamp_watch.specs.Verdict.{AreOfLanes}
+use Rattle.stamp_runs.proofs.Owning.{Calls, in_lane}
+use Rattle.stamp_watch.proofs.Form.{open_other}
 use Rattle.stamp_watch.proofs.Forming.{next_comes}
 use Rattle.stamp_watch.proofs.Reading.{around}
 
@@ -39,26 +40,26 @@ record BeginsLast (lane : ℕ) (call : Call) (events : List Event) : Type 0 wher
   spared : IsSpared between lane
 
 -- or it began before these events, none of which is of its lane
-abbrev HasBegunLast : ℕ → Call → Bool → Option Call → List Event → Type 0
-HasBegunLast lane call busy last events =
-    (IsSpared events lane × (last ≡ Some call) × (busy ≡ true)) ⊎ BeginsLast lane call events
+abbrev HasBegunLast : ℕ → Call → Calls → Option Call → List Event → Type 0
+HasBegunLast lane call calls last events =
+    (IsSpared events lane × (last ≡ Some call) × IsSome (calls lane)) ⊎ BeginsLast lane call events
 
-one_more : (lane : ℕ) (call : Call) (busy : Bool) (last : Option Call) (e : Event) (events : List Event) →
-    HasBegunLast lane call (is_busy_then lane busy e) (begun_then lane last e) events →
-    HasBegunLast lane call busy last (e ∷ events)
-one_more lane call busy last e events (inr is) = inr (record {
+one_more : (lane : ℕ) (call : Call) (calls : Calls) (last : Option Call) (e : Event) (events : List Event) →
+    HasBegunLast lane call (open_then calls e) (begun_then lane last e) events →
+    HasBegunLast lane call calls last (e ∷ events)
+one_more lane call calls last e events (inr is) = inr (record {
   before = e ∷ is.before;
   between = is.between;
   events_are = ap (λ (xs : List Event). e ∷ xs) is.events_are;
   spared = is.spared;
 })
-one_more lane call busy last e events (inl is) = by e (cases_eq (lane_of e) lane) is.1 is.2
+one_more lane call calls last e events (inl is) = by e (cases_eq (lane_of e) lane) is.1 is.2
   where
     behind : (d : Event) → lane_of d ≢ lane → IsSpared (d ∷ events) lane
     behind d apart = All-cons (λ (x : Event). lane_of x ≢ lane) d events apart is.0
 
     by : (d : Event) → (lane_of d ≡ lane) ⊎ (lane_of d ≢ lane) → begun_then lane last d ≡ Some call →
-        is_busy_then lane busy d ≡ true → HasBegunLast lane call busy last (d ∷ events)
+        IsSome (open_then calls d lane) → HasBegunLast lane call calls last (d ∷ events)
     by (Begins u c) (inl same) some taken = inr (record {
       before = [];
       between = events;
@@ -69,43 +70,43 @@ one_more lane call busy last e events (inl is) = by e (cases_eq (lane_of e) lane
     by (Begins u c) (inr apart) some taken = inl (
       behind (Begins u c) apart,
       sym (ap (λ (b : Bool). if b then Some c else last) (ne_eqb u lane apart)) ∙ some,
-      sym (busy_other lane busy (Begins u c) apart) ∙ taken,
+      sym (ap is_some (open_other lane calls (Begins u c) apart)) ∙ taken,
     )
     by (Returns u r) (inl same) some taken =
-        absurd (false≢true (sym (ap (λ (b : Bool). not b && busy) (eq-eqb u lane same)) ∙ taken))
+        absurd (false≢true (sym (ap is_some (in_lane None (calls lane) same)) ∙ taken))
     by (Returns u r) (inr apart) some taken =
-        inl (behind (Returns u r) apart, some, sym (busy_other lane busy (Returns u r) apart) ∙ taken)
+        inl (behind (Returns u r) apart, some, sym (ap is_some (open_other lane calls (Returns u r) apart)) ∙ taken)
     by (Withdraws u) (inl same) some taken =
-        absurd (false≢true (sym (ap (λ (b : Bool). not b && busy) (eq-eqb u lane same)) ∙ taken))
+        absurd (false≢true (sym (ap is_some (in_lane None (calls lane) same)) ∙ taken))
     by (Withdraws u) (inr apart) some taken =
-        inl (behind (Withdraws u) apart, some, sym (busy_other lane busy (Withdraws u) apart) ∙ taken)
+        inl (behind (Withdraws u) apart, some, sym (ap is_some (open_other lane calls (Withdraws u) apart)) ∙ taken)
 
 -- where a lane has an open call its last call is that
-begun_last : (lane : ℕ) (call : Call) (busy : Bool) (last : Option Call) (events : List Event) →
-    fold (is_busy_then lane) busy events ≡ true → fold (begun_then lane) last events ≡ Some call →
-    HasBegunLast lane call busy last events
-begun_last lane call busy last [] taken some = inl (All-nil (λ (e : Event). lane_of e ≢ lane), some, taken)
-begun_last lane call busy last (e ∷ events) taken some = one_more lane call busy last e events
-    (begun_last lane call (is_busy_then lane busy e) (begun_then lane last e) events taken some)
+begun_last : (lane : ℕ) (call : Call) (calls : Calls) (last : Option Call) (events : List Event) →
+    IsSome (fold open_then calls events lane) → fold (begun_then lane) last events ≡ Some call →
+    HasBegunLast lane call calls last events
+begun_last lane call calls last [] taken some = inl (All-nil (λ (e : Event). lane_of e ≢ lane), some, taken)
+begun_last lane call calls last (e ∷ events) taken some = one_more lane call calls last e events
+    (begun_last lane call (open_then calls e) (begun_then lane last e) events taken some)
 
-begins_last : (lane : ℕ) (call : Call) (busy : Bool) (events : List Event) →
-    fold (is_busy_then lane) busy events ≡ true → begun_in lane events ≡ Some call → BeginsLast lane call events
-begins_last lane call busy events taken some = by (begun_last lane call busy None events taken some)
+begins_last : (lane : ℕ) (call : Call) (calls : Calls) (events : List Event) →
+    IsSome (fold open_then calls events lane) → begun_in lane events ≡ Some call → BeginsLast lane call events
+begins_last lane call calls events taken some = by (begun_last lane call calls None events taken some)
   where
-    by : HasBegunLast lane call busy None events → BeginsLast lane call events
+    by : HasBegunLast lane call calls None events → BeginsLast lane call events
     by (inl none) = absurd (none-some call none.1)
     by (inr is) = is
 
-pub taken_by_end : (busy : ℕ → Bool) (lane : ℕ) (reply : Option Reply) → MayCome busy (end_in lane reply) →
-    busy lane ≡ true
-taken_by_end busy lane None may = may
-taken_by_end busy lane (Some reply) may = may
+pub taken_by_end : (calls : Calls) (lane : ℕ) (reply : Option Reply) → MayCome calls (end_in lane reply) →
+    IsSome (calls lane)
+taken_by_end calls lane None may = may
+taken_by_end calls lane (Some reply) may = may
 
 lane_of_end : (lane : ℕ) (reply : Option Reply) → lane_of (end_in lane reply) ≡ lane
 lane_of_end lane None = refl
 lane_of_end lane (Some reply) = refl
 
-module _ (past items : List Event) (whole : AreOfLock (past ++ items)) (at : ℕ) where
+module _ (past items : List Event) (whole : AreOfLanes (past ++ items)) (at : ℕ) where
   -- an event that ends a call
   module _ (lane : ℕ) (reply : Option Reply) (call : Call) (there : slice_get items at ≡ Some (end_in lane reply))
       (some : begun_in lane (take at items) ≡ Some call) where
@@ -119,15 +120,16 @@ module _ (past items : List Event) (whole : AreOfLock (past ++ items)) (at : ℕ
     parts = around items at (end_in lane reply) within
         (sym (get_or_from_slice_get items at (end_in lane reply) (end_in lane reply) there))
 
-    taken : is_busy_after (past ++ take at items) lane ≡ true
-    taken = taken_by_end (is_busy_after (past ++ take at items)) lane reply
+    taken : IsSome (open_after (past ++ take at items) lane)
+    taken = taken_by_end (open_after (past ++ take at items)) lane reply
         (next_comes (past ++ take at items) (end_in lane reply) (drop (at + 1) items)
-        (subst AreOfLock (ap (λ (xs : List Event). past ++ xs) (sym parts) ∙
+        (subst AreOfLanes (ap (λ (xs : List Event). past ++ xs) (sym parts) ∙
         sym (append_assoc past (take at items) (end_in lane reply ∷ drop (at + 1) items))) whole))
 
     last : BeginsLast lane call (take at items)
-    last = begins_last lane call (is_busy_after past lane) (take at items)
-        (sym (fold-append (is_busy_then lane) false past (take at items)) ∙ taken) some
+    last = begins_last lane call (open_after past) (take at items)
+        (sym (ap (λ (calls : Calls). is_some (calls lane)) (fold-append open_then none_open past (take at items))) ∙
+        taken) some
 
     ended_event : IsEndedAt (past ++ items) (length past + at) (ended lane reply call)
     unfolding last

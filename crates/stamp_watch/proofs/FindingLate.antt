@@ -9,7 +9,7 @@ use Rattle.std.proofs.Math.Seq.{take-append_seam, take-length}
 use Rattle.stamp_core.specs.Limits.{Bounds}
 use Rattle.stamp_runs.specs.declared.event.Event.{Event}
 use Rattle.stamp_runs.specs.declared.event.Event.TheVariants.{Withdraws}
-use Rattle.stamp_runs.specs.LockRun.{AreExplained}
+use Rattle.stamp_runs.specs.BothRun.{AreExplained}
 use Rattle.stamp_watch.specs.Course.{IsRest}
 use Rattle.stamp_watch.specs.declared.late_verdict.LateVerdict.{LateVerdict}
 use Rattle.stamp_watch.specs.declared.late_verdict.LateVerdict.TheVariants as finding
@@ -20,10 +20,10 @@ use Rattle.stamp_watch.specs.Delay.{AreLate, IsFirstIfAny, IsHandedOn, IsShown, 
 use Rattle.stamp_watch.specs.Judging.{IsFound}
 use Rattle.stamp_watch.specs.Late.{BeginsLater, HasGivenUp, IsLate, IsLateFound, IsLateInForm, LongCallsBeginLater}
 use Rattle.stamp_watch.specs.Late.{OneIsUnshown, RestsOn, TellsOf}
-use Rattle.stamp_watch.specs.Verdict.{AreOfLock, AreTooMany, IsOpenFor, IsVerdict}
+use Rattle.stamp_watch.specs.Verdict.{AreOfLanes, AreTooMany, IsOpenFor, IsVerdict}
 use Rattle.stamp_watch.specs.inner.Delay.{IsFindingOf, IsLateRest, IsSettled, IsSettledFor, RestsBefore}
-use Rattle.stamp_watch.proofs.BeginningLater.{later_as_long, later_explains_no_more, later_of_lock}
-use Rattle.stamp_watch.proofs.Forming.{GoesOnFor, goes_on_for, next_of_lock, of_lock_up_to, stops_here}
+use Rattle.stamp_watch.proofs.BeginningLater.{later_as_long, later_explains_no_more, later_of_lanes}
+use Rattle.stamp_watch.proofs.Forming.{GoesOnFor, goes_on_for, next_of_lane, of_lanes_up_to, stops_here}
 use Rattle.stamp_watch.proofs.LongCalls.{later_of_long, longs_still, open_still}
 use Rattle.stamp_watch.proofs.Running.{found_now, rest_now}
 use Rattle.stamp_watch.proofs.Showing.{settled_cut}
@@ -33,18 +33,18 @@ use Rattle.stamp_watch.proofs.Unshown.{one_unshown}
 abbrev stray : Event
 stray = Withdraws 64
 
-no_stray : (run : List Event) → AreOfLock (run ++ stray ∷ []) → ⊥
-no_stray run whole = let low : 64 < 64 = next_of_lock run stray [] whole in omega (arith, low)
+no_stray : (run : List Event) → AreOfLanes (run ++ stray ∷ []) → ⊥
+no_stray run whole = let low : 64 < 64 = next_of_lane run stray [] whole in omega (arith, low)
 
 stray_whole : (run : List Event) (k : ℕ) → length run < k → take k (run ++ stray ∷ []) ≡ run ++ stray ∷ []
 stray_whole run k more = take_all k (run ++ stray ∷ [])
     (let long : length (run ++ stray ∷ []) ≡ length run + 1 = length_push run stray in omega (arith, long, more))
 
-cut_within : (run : List Event) (k : ℕ) → AreOfLock (take k (run ++ stray ∷ [])) → k ≤ length run
+cut_within : (run : List Event) (k : ℕ) → AreOfLanes (take k (run ++ stray ∷ [])) → k ≤ length run
 cut_within run k whole = by (cases_lt (length run) k)
   where
     by : (length run < k) ⊎ (k ≤ length run) → k ≤ length run
-    by (inl more) = absurd (no_stray run (subst AreOfLock (stray_whole run k more) whole))
+    by (inl more) = absurd (no_stray run (subst AreOfLanes (stray_whole run k more) whole))
     by (inr within) = within
 
 -- a place in a run up to which it is explained
@@ -76,12 +76,12 @@ place_of limits run most n k (verdict.Undecided j cause.TooFar) has tells rests 
 place_of limits run most n k (verdict.Broken j) has tells rests = absurd rests
 
 -- events in form are not broken
-not_broken : (limits : Bounds) (events : List Event) (most k : ℕ) → AreOfLock events →
+not_broken : (limits : Bounds) (events : List Event) (most k : ℕ) → AreOfLanes events →
     ¬ IsVerdict limits events most None (verdict.Broken k)
-not_broken limits events most k whole has = has.0.broken (of_lock_up_to (k + 1) events whole)
+not_broken limits events most k whole has = has.0.broken (of_lanes_up_to (k + 1) events whole)
 
 -- a verdict that rests on what came before a place is that of each run that is the same up to there
-module _ (limits : Bounds) (run handed : List Event) (most first : ℕ) (whole : AreOfLock handed)
+module _ (limits : Bounds) (run handed : List Event) (most first : ℕ) (whole : AreOfLanes handed)
     (within : first ≤ length run) (same : take first handed ≡ take first run) where
   cut_same : (n : ℕ) (more : List Event) → n ≤ first → take n handed ≡ take n (run ++ more)
   cut_same n more less = sym (take-take n first handed less) ∙ ap (take n) same ∙ take-take n first run less ∙
@@ -91,7 +91,7 @@ module _ (limits : Bounds) (run handed : List Event) (most first : ℕ) (whole :
       IsVerdict limits handed most None v → IsFound limits run most None v
   rests_before verdict.Explained not rests has more = absurd (not refl)
   rests_before (verdict.Stuck k) not rests has more = (
-    subst AreOfLock (cut_same (k + 1) more (omega (arith, rests))) has.0,
+    subst AreOfLanes (cut_same (k + 1) more (omega (arith, rests))) has.0,
     record {
       explained = subst (AreExplained limits) (cut_same k more (omega (arith, rests))) has.1.explained;
       stuck = λ way. has.1.stuck
@@ -101,7 +101,7 @@ module _ (limits : Bounds) (run handed : List Event) (most first : ℕ) (whole :
   rests_before (verdict.StuckWithin k m) not rests has more = record {
     there = let long : length (run ++ more) ≡ length run + length more = length-append run more in
         omega (arith, rests, within, long);
-    whole = subst AreOfLock (cut_same m more rests) has.whole;
+    whole = subst AreOfLanes (cut_same m more rests) has.whole;
     explained = subst (AreExplained limits) (cut_same k more (omega (arith, rests, after, inside))) has.explained;
     stuck = λ way. has.stuck (subst (AreExplained limits) (sym (cut_same m more rests)) way);
     cut = has.cut;
@@ -157,7 +157,7 @@ late_with limits run more handed most ahead first k v on later has place tells r
     within = place.within
 
 module _ (limits : Bounds) (most ahead : ℕ) (run given aside waiting : List Event) (first : Option ℕ) (passed : ℕ)
-    (whole : AreOfLock run) (is : IsHandedOn (ahead - 64) run given aside waiting first passed) (shown : Option ℕ)
+    (whole : AreOfLanes run) (is : IsHandedOn (ahead - 64) run given aside waiting first passed) (shown : Option ℕ)
     (shows : IsShownIfAny limits run given aside waiting shown)
     (late : AreLate limits run aside waiting (ahead - 64) shown) where
   longs_here : LongCallsBeginLater run (ahead - 64) run (given ++ (aside ++ waiting))
@@ -184,12 +184,12 @@ module _ (limits : Bounds) (most ahead : ℕ) (run given aside waiting : List Ev
   long_here : length (given ++ (aside ++ waiting)) ≡ length run
   long_here = later_as_long run (given ++ (aside ++ waiting)) later_here
 
-  of_lock_here : AreOfLock (given ++ (aside ++ waiting))
-  of_lock_here = later_of_lock limits run (given ++ (aside ++ waiting)) later_here whole
+  of_lanes_here : AreOfLanes (given ++ (aside ++ waiting))
+  of_lanes_here = later_of_lanes limits run (given ++ (aside ++ waiting)) later_here whole
 
-  of_lock_given : AreOfLock given
-  of_lock_given = subst AreOfLock (take-append_seam given (aside ++ waiting))
-      (of_lock_up_to (length given) (given ++ (aside ++ waiting)) of_lock_here)
+  of_lanes_given : AreOfLanes given
+  of_lanes_given = subst AreOfLanes (take-append_seam given (aside ++ waiting))
+      (of_lanes_up_to (length given) (given ++ (aside ++ waiting)) of_lanes_here)
 
   place_here : (k : ℕ) → IsPlace limits (given ++ (aside ++ waiting)) k → IsPlace limits run k
   place_here k place = record {
@@ -233,7 +233,7 @@ module _ (limits : Bounds) (most ahead : ℕ) (run given aside waiting : List Ev
       IsFound limits run most None (verdict.Stuck k)
   settled None any k none within explained stuck more = absurd none
   settled (Some many) any k is within explained stuck more = (
-    subst AreOfLock (sym (take-append-le (k + 1) run more within)) (of_lock_up_to (k + 1) run whole),
+    subst AreOfLanes (sym (take-append-le (k + 1) run more within)) (of_lanes_up_to (k + 1) run whole),
     record {
       explained = subst (AreExplained limits) (sym (take-append-le k run more (omega (arith, within)))) explained;
       stuck = λ way. stuck (settled_cut limits run given waiting many
@@ -286,7 +286,7 @@ module _ (limits : Bounds) (most ahead : ℕ) (run given aside waiting : List Ev
             (sym both.0) (either both.1)
           where
             either : RestsBefore v n ⊎ IsSettledFor aside shown v → IsLateFound limits run most ahead (finding.Is v)
-            either (inl rests) = rests_before limits run given most n of_lock_given
+            either (inl rests) = rests_before limits run given most n of_lanes_given
                 (let less : n < length run = some.before in omega (arith, less)) some.same v not_explained rests
                 (found_now limits given most None v found)
             either (inr is_settled) = settled_found v found is_settled
@@ -318,13 +318,13 @@ module _ (limits : Bounds) (most ahead : ℕ) (run given aside waiting : List Ev
         IsRest limits run most None w
     rest_before n less within same verdict.Explained has rests = (whole, explained_here has.1)
     rest_before n less within same (verdict.Stuck k) has rests = rests_before limits run (given ++ (aside ++ waiting))
-        most n of_lock_here less (same_here n within same) (verdict.Stuck k) (λ e. cc) rests has
+        most n of_lanes_here less (same_here n within same) (verdict.Stuck k) (λ e. cc) rests has
     rest_before n less within same (verdict.StuckWithin k m) has rests = rests_before limits run
-        (given ++ (aside ++ waiting)) most n of_lock_here less (same_here n within same) (verdict.StuckWithin k m)
+        (given ++ (aside ++ waiting)) most n of_lanes_here less (same_here n within same) (verdict.StuckWithin k m)
         (λ e. cc) rests has
     rest_before n less within same (verdict.Undecided k why) has rests = absurd rests
     rest_before n less within same (verdict.Broken k) has rests =
-        absurd (not_broken limits (given ++ (aside ++ waiting)) most k of_lock_here has)
+        absurd (not_broken limits (given ++ (aside ++ waiting)) most k of_lanes_here has)
 
     settled_rest : (w : Verdict) → IsRest limits (given ++ (aside ++ waiting)) most None w →
         IsSettledFor aside shown w → IsRest limits run most None w
@@ -366,7 +366,7 @@ module _ (limits : Bounds) (most ahead : ℕ) (run given aside waiting : List Ev
             with_stray (verdict.Stuck j) tells ends = ends (stray ∷ [])
             with_stray (verdict.StuckWithin j m) tells ends = ends (stray ∷ [])
             with_stray (verdict.Undecided j cause.TooMany) tells ends = ends (stray ∷ [])
-                (λ less over. no_stray (given ++ (aside ++ waiting)) (subst AreOfLock
+                (λ less over. no_stray (given ++ (aside ++ waiting)) (subst AreOfLanes
                 (stray_whole (given ++ (aside ++ waiting)) (length (given ++ (aside ++ waiting)) + 1) (omega arith))
                 over))
             with_stray (verdict.Undecided j cause.TooFar) tells ends = ends (stray ∷ [])

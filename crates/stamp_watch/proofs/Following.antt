@@ -1,12 +1,10 @@
 -- From an order of the calls that are ahead a way along the events.
-use Rattle.std.proofs.Common.{◌≡◌, ◌≢◌, ◌⊎◌, ℕ, ◌+◌, ◌<◌, Bool, true, List, [], ◌∷◌, length, get_or, refl, sym, ◌∙◌}
+use Rattle.std.proofs.Common.{◌≡◌, ◌≢◌, ◌⊎◌, ℕ, ◌+◌, ◌<◌, List, [], ◌∷◌, length, get_or, refl, sym, ◌∙◌}
 use Rattle.std.proofs.Common.{ap, subst, inl, inr, arith, Some}
-use Rattle.std.specs.Prelude.{slice_get}
+use Rattle.std.specs.Prelude.{slice_get, is_some, IsSome}
 use Rattle.std.specs.List.{Contains}
 use Rattle.std.proofs.lemmas.Bool.{cases_eq, false≢true}
 use Rattle.std.proofs.lemmas.List.Elements.{All-head, All-tail, All-map, All-contains}
-use Rattle.stamp_core.specs.LockEvent.{LockEvent}
-use Rattle.stamp_core.specs.Limits.{Bounds}
 use Rattle.stamp_core.specs.declared.call.Call.{Call}
 use Rattle.stamp_core.specs.declared.reply.Reply.{Reply}
 use Rattle.stamp_explain.specs.declared.observed.Observation.{Observation}
@@ -15,50 +13,51 @@ use Rattle.stamp_explain.specs.Explained.{Effect, IsEffectOf, AreOfTwoEntries, R
 use Rattle.stamp_explain.proofs.Lists.{none_in_empty, contains_cases, pairs_head, pairs_tail}
 use Rattle.stamp_runs.specs.declared.event.Event.{Event}
 use Rattle.stamp_runs.specs.declared.event.Event.TheVariants.{Begins, Returns, Withdraws}
-use Rattle.stamp_runs.specs.Object.{LockStep}
+use Rattle.stamp_runs.specs.Object.{Object}
+use Rattle.stamp_runs.specs.Own.{AreInFormFrom, open_then}
 use Rattle.stamp_runs.specs.Run.{Happens, Lanes, Phase, Sets, Survives}
 use Rattle.stamp_runs.specs.Run.Phase.{Idle, Asks, Gets}
 use Rattle.stamp_runs.proofs.Lanes.{asks_or_gets, one_reply, set_of, sets_of}
+use Rattle.stamp_runs.proofs.OwnEvents.{AreOpenIn, open_happens, open_takes}
+use Rattle.stamp_runs.proofs.Owning.{Calls}
 use Rattle.stamp_watch.specs.AsObserved.{Ending, ending_of}
-use Rattle.stamp_watch.specs.Form.{is_busy_then, AreInFormFrom}
 use Rattle.stamp_watch.proofs.Numbered.{IsEntryOf, IsReplyOf, entry_tells, entry_replies, one_entry, first_from}
 use Rattle.stamp_watch.proofs.Numbered.{return_ends, withdrawal_ends}
-use Rattle.stamp_watch.proofs.Form.{has_call, busy_happens, busy_takes, free_idle}
 use Rattle.stamp_watch.proofs.Ways.{at_end, comes_next, takes_effect}
 use Rattle.stamp_watch.proofs.Remaining.{IsAhead, begun_at, takes_there, takes_back, takes_apart, HaveBegun}
 use Rattle.stamp_watch.proofs.Remaining.{have_begun_still, HaveGot, MovesOn, begun_then, happens_moves}
 use Rattle.stamp_watch.proofs.Remaining.IsAhead.{of_open, of_later}
 use Rattle.stamp_watch.proofs.Planning.{entries_of, IsLate, IsPlan, same_plan}
 
--- where the events go on: which lanes are busy, when their calls began, and what those in effect return
-pub record Stands (busy : ℕ → Bool) (lanes : Lanes) (begun : ℕ → ℕ) (n : ℕ) (events : List Event) : Type 0 where
-  pub has : (lane : ℕ) → busy lane ≡ has_call (lanes lane)
+-- where the events go on: which calls are open, when they began, and what those in effect return
+pub record Stands (calls : Calls) (lanes : Lanes) (begun : ℕ → ℕ) (n : ℕ) (events : List Event) : Type 0 where
+  pub has : AreOpenIn calls lanes
   pub low : HaveBegun lanes begun n
   pub gets : HaveGot lanes n events
 
-abbrev pub PlanAt : Bounds → List Observation → Lanes → (ℕ → ℕ) → ℕ → List Event → List LockEvent → List Effect →
+abbrev pub PlanAt : {S : Type 0} → Object S → List Observation → Lanes → (ℕ → ℕ) → ℕ → List Event → S → List Effect →
     Type 0
-PlanAt limits entries lanes begun n events s order =
-    IsPlan limits entries (IsAhead lanes begun n events) (n + length events) s order
+PlanAt O entries lanes begun n events s order =
+    IsPlan O entries (IsAhead lanes begun n events) (n + length events) s order
 
 -- the rest of the events can be gone along from each such place
-abbrev pub GoesAlong : Bounds → List Observation → (ℕ → Bool) → (ℕ → ℕ) → ℕ → List Event → Type 0
-GoesAlong limits entries busy begun n events = (s : List LockEvent) (lanes : Lanes) (order : List Effect) →
-    Stands busy lanes begun n events → PlanAt limits entries lanes begun n events s order →
-    Survives (LockStep limits) events s lanes
+abbrev pub GoesAlong : {S : Type 0} → Object S → List Observation → Calls → (ℕ → ℕ) → ℕ → List Event → Type 0
+GoesAlong {S} O entries calls begun n events = (s : S) (lanes : Lanes) (order : List Effect) →
+    Stands calls lanes begun n events → PlanAt O entries lanes begun n events s order →
+    Survives O events s lanes
 
 -- and so past one event
-goes_past : (limits : Bounds) (entries : List Observation) (busy : ℕ → Bool) (begun : ℕ → ℕ) (n : ℕ) (event : Event)
-    (events : List Event) → GoesAlong limits entries (λ (other : ℕ). is_busy_then other (busy other) event)
-    (begun_then begun n event) (n + 1) events → (s : List LockEvent) (lanes after : Lanes) (order : List Effect) →
-    Happens event lanes after → Stands busy lanes begun n (event ∷ events) →
-    PlanAt limits entries lanes begun n (event ∷ events) s order → Survives (LockStep limits) (event ∷ events) s lanes
-goes_past limits entries busy begun n event events go s lanes after order happens stands plan =
+goes_past : {S : Type 0} (O : Object S) (entries : List Observation) (calls : Calls) (begun : ℕ → ℕ) (n : ℕ)
+    (event : Event) (events : List Event) → GoesAlong O entries (open_then calls event) (begun_then begun n event)
+    (n + 1) events → (s : S) (lanes after : Lanes) (order : List Effect) →
+    Happens event lanes after → Stands calls lanes begun n (event ∷ events) →
+    PlanAt O entries lanes begun n (event ∷ events) s order → Survives O (event ∷ events) s lanes
+goes_past O entries calls begun n event events go s lanes after order happens stands plan =
     comes_next event happens (go s after order (record {
-      has = λ other. busy_happens lanes after other event (busy other) happens (stands.has other);
+      has = open_happens lanes after event happens stands.has;
       low = moves.low stands.low;
       gets = moves.gets_there stands.gets;
-    }) (same_plan limits entries (IsAhead lanes begun n (event ∷ events))
+    }) (same_plan O entries (IsAhead lanes begun n (event ∷ events))
     (IsAhead after (begun_then begun n event) (n + 1) events) (n + length (event ∷ events)) (n + 1 + length events) s
     order (omega arith) moves.there moves.back plan))
   where
@@ -77,16 +76,16 @@ record IsOpenCall (lanes : Lanes) (begun : ℕ → ℕ) (n : ℕ) (events : List
     is : IsEntryOf lane call (begun lane) (ending_of lane n events) x.entry
 
 -- a return comes next
-module _ (limits : Bounds) (entries : List Observation) (single : AreSingle entries) (busy : ℕ → Bool)
-    (begun : ℕ → ℕ) (n : ℕ) (lane : ℕ) (reply : Reply) (events : List Event) (may : busy lane ≡ true)
-    (go : GoesAlong limits entries (λ (other : ℕ). is_busy_then other (busy other) (Returns lane reply)) begun (n + 1)
+module _ {S : Type 0} (O : Object S) (entries : List Observation) (single : AreSingle entries) (calls : Calls)
+    (begun : ℕ → ℕ) (n : ℕ) (lane : ℕ) (reply : Reply) (events : List Event) (may : IsSome (calls lane))
+    (go : GoesAlong O entries (open_then calls (Returns lane reply)) begun (n + 1)
     events)
   where
-    now_returns : (gotten : Reply) (s : List LockEvent) (lanes : Lanes) (order : List Effect) →
-        lanes lane ≡ Gets gotten → Stands busy lanes begun n (Returns lane reply ∷ events) →
-        PlanAt limits entries lanes begun n (Returns lane reply ∷ events) s order →
-        Survives (LockStep limits) (Returns lane reply ∷ events) s lanes
-    now_returns gotten s lanes order gets stands plan = goes_past limits entries busy begun n (Returns lane reply)
+    now_returns : (gotten : Reply) (s : S) (lanes : Lanes) (order : List Effect) →
+        lanes lane ≡ Gets gotten → Stands calls lanes begun n (Returns lane reply ∷ events) →
+        PlanAt O entries lanes begun n (Returns lane reply ∷ events) s order →
+        Survives O (Returns lane reply ∷ events) s lanes
+    now_returns gotten s lanes order gets stands plan = goes_past O entries calls begun n (Returns lane reply)
         events
         go s lanes (set_of lanes lane Idle) order (is, sets_of lanes lane Idle) stands plan
       where
@@ -110,15 +109,15 @@ module _ (limits : Bounds) (entries : List Observation) (single : AreSingle entr
         (λ (x : Ending). IsEntryOf lane call (begun lane) x (awaited call))
         (sym (return_ends lane lane n reply events refl)) refl)
 
-    none_left : (call : Call) (s : List LockEvent) (lanes : Lanes) → lanes lane ≡ Asks call →
-        PlanAt limits entries lanes begun n (Returns lane reply ∷ events) s [] → ⊥
+    none_left : (call : Call) (s : S) (lanes : Lanes) → lanes lane ≡ Asks call →
+        PlanAt O entries lanes begun n (Returns lane reply ∷ events) s [] → ⊥
     unfolding awaited
     none_left call s lanes asks plan = none_in_empty (awaited call)
         (plan.whole (awaited call) (is_awaited call lanes asks) (record { last = n; reply = reply }, refl))
 
-    first_open : (call : Call) (s : List LockEvent) (lanes : Lanes) (x : Effect) (order : List Effect) →
-        lanes lane ≡ Asks call → Stands busy lanes begun n (Returns lane reply ∷ events) →
-        PlanAt limits entries lanes begun n (Returns lane reply ∷ events) s (x ∷ order) →
+    first_open : (call : Call) (s : S) (lanes : Lanes) (x : Effect) (order : List Effect) →
+        lanes lane ≡ Asks call → Stands calls lanes begun n (Returns lane reply ∷ events) →
+        PlanAt O entries lanes begun n (Returns lane reply ∷ events) s (x ∷ order) →
         IsOpenCall lanes begun n (Returns lane reply ∷ events) x
     unfolding awaited
     first_open call s lanes x order asks stands plan = by (All-head
@@ -145,9 +144,9 @@ module _ (limits : Bounds) (entries : List Observation) (single : AreSingle entr
         by (inr late) = let from = late.begins in absurd (no_later (omega arith))
 
     -- and takes effect
-    module _ (s : List LockEvent) (lanes : Lanes) (x : Effect) (order : List Effect)
-        (stands : Stands busy lanes begun n (Returns lane reply ∷ events))
-        (plan : PlanAt limits entries lanes begun n (Returns lane reply ∷ events) s (x ∷ order))
+    module _ (s : S) (lanes : Lanes) (x : Effect) (order : List Effect)
+        (stands : Stands calls lanes begun n (Returns lane reply ∷ events))
+        (plan : PlanAt O entries lanes begun n (Returns lane reply ∷ events) s (x ∷ order))
         (head : IsOpenCall lanes begun n (Returns lane reply ∷ events) x)
       where
         after : Lanes
@@ -157,17 +156,15 @@ module _ (limits : Bounds) (entries : List Observation) (single : AreSingle entr
         unfolding after
         sets = sets_of lanes head.lane (Gets x.reply)
 
-        step : LockStep limits s head.call x.reply plan.runs.0
+        step : O s head.call x.reply plan.runs.0
         step =
-            let goes = plan.runs.1.0 in
-            subst (λ (c : Call). LockStep limits s c x.reply plan.runs.0)
+            subst (λ (c : Call). O s c x.reply plan.runs.0)
             (entry_tells head.lane head.call (begun head.lane) (ending_of head.lane n (Returns lane reply ∷ events))
-            x.entry head.is).its_call (record { replies = goes.replies; appends = goes.appends })
+            x.entry head.is).its_call plan.runs.1.0
 
-        then_stands : Stands busy after begun n (Returns lane reply ∷ events)
+        then_stands : Stands calls after begun n (Returns lane reply ∷ events)
         then_stands = record {
-          has = λ other. busy_takes lanes after head.lane other head.call x.reply (busy other) head.asks sets
-              (stands.has other);
+          has = open_takes head.asks sets stands.has;
           low = have_begun_still lanes after begun head.lane n n (omega arith)
               (λ c asks. asks_or_gets asks sets.here) sets.others stands.low;
           gets = λ other r is. got other r is (cases_eq other head.lane);
@@ -203,7 +200,7 @@ module _ (limits : Bounds) (entries : List Observation) (single : AreSingle entr
                 (ending_of head.lane n (Returns lane reply ∷ events)) x.entry y.entry head.is its)
                 (All-head (IsEffectOf entries) x order plan.effects).is_entry) effect.is_entry))
 
-        then_plan : PlanAt limits entries after begun n (Returns lane reply ∷ events) plan.runs.0 order
+        then_plan : PlanAt O entries after begun n (Returns lane reply ∷ events) plan.runs.0 order
         then_plan = record {
           effects = All-tail (IsEffectOf entries) x order plan.effects;
           each = λ k d lt. still (get_or order k d) (All-tail (IsEffectOf entries) x order plan.effects k d lt)
@@ -226,14 +223,14 @@ module _ (limits : Bounds) (entries : List Observation) (single : AreSingle entr
                 (ending_of head.lane n (Returns lane reply ∷ events)) o) same head.is) is)
 
     -- open calls take effect, until the one that returns is in effect
-    pub awaits : (order : List Effect) (s : List LockEvent) (lanes : Lanes) →
-        Stands busy lanes begun n (Returns lane reply ∷ events) →
-        PlanAt limits entries lanes begun n (Returns lane reply ∷ events) s order →
-        Survives (LockStep limits) (Returns lane reply ∷ events) s lanes
+    pub awaits : (order : List Effect) (s : S) (lanes : Lanes) →
+        Stands calls lanes begun n (Returns lane reply ∷ events) →
+        PlanAt O entries lanes begun n (Returns lane reply ∷ events) s order →
+        Survives O (Returns lane reply ∷ events) s lanes
     awaits [] s lanes stands plan = by (lanes lane) refl
       where
-        by : (p : Phase) → lanes lane ≡ p → Survives (LockStep limits) (Returns lane reply ∷ events) s lanes
-        by Idle is = absurd (false≢true (sym (ap has_call is) ∙ sym (stands.has lane) ∙ may))
+        by : (p : Phase) → lanes lane ≡ p → Survives O (Returns lane reply ∷ events) s lanes
+        by Idle is = absurd (false≢true (sym (ap is_some ((stands.has lane).1 is)) ∙ may))
         by (Gets gotten) is = now_returns gotten s lanes [] is stands plan
         by (Asks call) is = absurd (none_left call s lanes is plan)
     awaits (x ∷ order) s lanes stands plan = by (lanes lane) refl (λ head. takes_effect head.lane head.call x.reply
@@ -242,39 +239,40 @@ module _ (limits : Bounds) (entries : List Observation) (single : AreSingle entr
         (then_stands s lanes x order stands plan head) (then_plan s lanes x order stands plan head)))
       where
         by : (p : Phase) → lanes lane ≡ p → (IsOpenCall lanes begun n (Returns lane reply ∷ events) x →
-            Survives (LockStep limits) (Returns lane reply ∷ events) s lanes) →
-            Survives (LockStep limits) (Returns lane reply ∷ events) s lanes
-        by Idle is more = absurd (false≢true (sym (ap has_call is) ∙ sym (stands.has lane) ∙ may))
+            Survives O (Returns lane reply ∷ events) s lanes) →
+            Survives O (Returns lane reply ∷ events) s lanes
+        by Idle is more = absurd (false≢true (sym (ap is_some ((stands.has lane).1 is)) ∙ may))
         by (Gets gotten) is more = now_returns gotten s lanes (x ∷ order) is stands plan
         by (Asks call) is more = more (first_open call s lanes x order is stands plan)
 
 -- a withdrawal comes next: the call is not in effect
-withdrawn_asks : (busy : ℕ → Bool) (lanes : Lanes) (begun : ℕ → ℕ) (n lane : ℕ) (events : List Event) →
-    busy lane ≡ true → Stands busy lanes begun n (Withdraws lane ∷ events) → (call : Call) × (lanes lane ≡ Asks call)
-withdrawn_asks busy lanes begun n lane events may stands = by (lanes lane) refl
+withdrawn_asks : (calls : Calls) (lanes : Lanes) (begun : ℕ → ℕ) (n lane : ℕ) (events : List Event) →
+    IsSome (calls lane) → Stands calls lanes begun n (Withdraws lane ∷ events) →
+    (call : Call) × (lanes lane ≡ Asks call)
+withdrawn_asks calls lanes begun n lane events may stands = by (lanes lane) refl
   where
     by : (p : Phase) → lanes lane ≡ p → (call : Call) × (lanes lane ≡ Asks call)
-    by Idle is = absurd (false≢true (sym (ap has_call is) ∙ sym (stands.has lane) ∙ may))
+    by Idle is = absurd (false≢true (sym (ap is_some ((stands.has lane).1 is)) ∙ may))
     by (Gets gotten) is = absurd (subst (λ (x : Ending). IsReplyOf gotten x) (withdrawal_ends lane lane n events refl)
         (stands.gets lane gotten is))
     by (Asks call) is = (call, is)
 
 -- each order has a way
-pub follows : (limits : Bounds) (entries : List Observation) → AreSingle entries → (events : List Event)
-    (busy : ℕ → Bool) (begun : ℕ → ℕ) (n : ℕ) → AreInFormFrom busy events →
-    GoesAlong limits entries busy begun n events
-follows limits entries single [] busy begun n form s lanes order stands plan = at_end
-follows limits entries single (Begins lane call ∷ events) busy begun n form s lanes order stands plan =
-    goes_past limits entries busy begun n (Begins lane call) events (follows limits entries single events
-    (λ (other : ℕ). is_busy_then other (busy other) (Begins lane call)) (begun_at begun lane n) (n + 1) form.1) s lanes
+pub follows : {S : Type 0} (O : Object S) (entries : List Observation) → AreSingle entries → (events : List Event)
+    (calls : Calls) (begun : ℕ → ℕ) (n : ℕ) → AreInFormFrom calls events →
+    GoesAlong O entries calls begun n events
+follows O entries single [] calls begun n form s lanes order stands plan = at_end
+follows O entries single (Begins lane call ∷ events) calls begun n form s lanes order stands plan =
+    goes_past O entries calls begun n (Begins lane call) events (follows O entries single events
+    (open_then calls (Begins lane call)) (begun_at begun lane n) (n + 1) form.1) s lanes
     (set_of lanes lane (Asks call)) order
-    (free_idle (lanes lane) (sym (stands.has lane) ∙ form.0.0), sets_of lanes lane (Asks call)) stands plan
-follows limits entries single (Returns lane reply ∷ events) busy begun n form s lanes order stands plan =
-    awaits limits entries single busy begun n lane reply events form.0 (follows limits entries single events
-    (λ (other : ℕ). is_busy_then other (busy other) (Returns lane reply)) begun (n + 1) form.1) order s lanes stands
+    ((stands.has lane).0 form.0, sets_of lanes lane (Asks call)) stands plan
+follows O entries single (Returns lane reply ∷ events) calls begun n form s lanes order stands plan =
+    awaits O entries single calls begun n lane reply events form.0 (follows O entries single events
+    (open_then calls (Returns lane reply)) begun (n + 1) form.1) order s lanes stands
     plan
-follows limits entries single (Withdraws lane ∷ events) busy begun n form s lanes order stands plan =
-    let its = withdrawn_asks busy lanes begun n lane events form.0 stands in
-    goes_past limits entries busy begun n (Withdraws lane) events (follows limits entries single events
-    (λ (other : ℕ). is_busy_then other (busy other) (Withdraws lane)) begun (n + 1) form.1) s lanes
+follows O entries single (Withdraws lane ∷ events) calls begun n form s lanes order stands plan =
+    let its = withdrawn_asks calls lanes begun n lane events form.0 stands in
+    goes_past O entries calls begun n (Withdraws lane) events (follows O entries single events
+    (open_then calls (Withdraws lane)) begun (n + 1) form.1) s lanes
     (set_of lanes lane Idle) order (its.0, its.1, sets_of lanes lane Idle) stands plan

@@ -10,13 +10,13 @@ use Rattle.stamp_watch.specs.declared.online.Judge.{Judge}
 use Rattle.stamp_watch.specs.declared.verdict.Verdict.{Verdict}
 use Rattle.stamp_sets.specs.declared.watch.Watch.{Watch}
 use Rattle.stamp_watch.specs.Judge.{HasRoomForOne, IsJudge, IsJudgeOfSome, IsUnderWay}
-use Rattle.stamp_watch.specs.Verdict.{AreOfLock}
+use Rattle.stamp_watch.specs.Verdict.{AreOfLanes}
 use Rattle.stamp_watch.specs.Judging.{AreBusyLanes, IsFound}
 use Rattle.stamp_watch.specs.inner.Judging.{MayComeIn, SetsBusy}
 use Rattle.stamp_watch.specs.Course.{HasRoom, IsCourse, IsNear, IsRest, IsRunOn, IsSmall, KeepsEndOf}
 use Rattle.stamp_watch.specs.SoFar.{BeginWithOpenCall}
 use Rattle.stamp_watch.specs.inner.Course.{HasGoneOn, IsOneLonger, IsOnCourse, broken_off}
-use Rattle.stamp_watch.proofs.Forming.{busy_lanes_then, form_first, of_lock_not, of_lock_on}
+use Rattle.stamp_watch.proofs.Forming.{busy_lanes_then, form_first, of_lanes_not, of_lanes_on}
 use Rattle.stamp_watch.proofs.Running.{broken_found, found_later}
 use Rattle.stamp_watch.proofs.SameRuns.{room_still}
 
@@ -120,15 +120,15 @@ module _ (limits : Bounds) (most ahead : ℕ) (run : List Event) (e : Event) (ol
     under_way : IsUnderWay limits ahead run old
     under_way = way_of limits most ahead run old is none
 
-    whole_before : AreOfLock run
-    whole_before = subst AreOfLock (sym under_way.course_of.on.run_is) under_way.course_of.on.whole
+    whole_before : AreOfLanes run
+    whole_before = subst AreOfLanes (sym under_way.course_of.on.run_is) under_way.course_of.on.whole
 
     -- the event may come there
     module _ (busy : ℕ) (may : MayComeIn old.busy e) (sets : SetsBusy old.busy e busy) (then_course : Course)
-        (added : (l : Bounds) (r : List Event) → IsCourse l r old.course → AreOfLock (r ++ e ∷ []) →
+        (added : (l : Bounds) (r : List Event) → IsCourse l r old.course → AreOfLanes (r ++ e ∷ []) →
         IsCourse l (r ++ e ∷ []) then_course) where
-      whole_then : AreOfLock (run ++ e ∷ [])
-      whole_then = of_lock_on run old.busy e under_way.lanes may whole_before
+      whole_then : AreOfLanes (run ++ e ∷ [])
+      whole_then = of_lanes_on run old.busy e under_way.lanes may whole_before
 
       pub then_of : IsCourse limits (run ++ e ∷ []) then_course
       then_of = added limits run under_way.course_of whole_then
@@ -136,7 +136,7 @@ module _ (limits : Bounds) (most ahead : ℕ) (run : List Event) (e : Event) (ol
       module _ (new_course : Course) where
         pub found_then : (found : Option Verdict) →
             HasGoneOn old.most old.ahead then_course new_course found →
-            MatchOption found (AreOfLock (run ++ e ∷ []))
+            MatchOption found (AreOfLanes (run ++ e ∷ []))
             (λ (v : Verdict). IsFound limits (run ++ e ∷ []) most (Some ahead) v)
         found_then None gone = whole_then
         found_then (Some v) gone = found_as v (gone limits (run ++ e ∷ []) then_of)
@@ -176,7 +176,7 @@ module _ (limits : Bounds) (most ahead : ℕ) (run : List Event) (e : Event) (ol
         IsFound limits (run ++ e ∷ []) most (Some ahead) (broken_off rest number)
     found_broken number rest at not_there ends = broken_found limits run most (Some ahead) number e
         (at ∙ run_long limits run old.course.first old.course.seen old.course.events.items old.course.base
-        old.course.watch under_way.course_of.on) (of_lock_not run old.busy e under_way.lanes not_there) rest
+        old.course.watch under_way.course_of.on) (of_lanes_not run old.busy e under_way.lanes not_there) rest
         (subst (λ (m : ℕ). IsRest limits run m (Some ahead) rest) is.most_is
         (ends (Some ahead) limits run under_way.course_of))
 

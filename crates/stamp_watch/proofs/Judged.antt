@@ -8,21 +8,21 @@ use Rattle.std.proofs.lemmas.List.{length-take-le, length-append}
 use Rattle.std.proofs.Math.Seq.{take-append-add}
 use Rattle.stamp_core.specs.Limits.{Bounds}
 use Rattle.stamp_runs.specs.declared.event.Event.{Event}
-use Rattle.stamp_runs.specs.LockRun.{AreExplained}
+use Rattle.stamp_runs.specs.BothRun.{AreExplained}
 use Rattle.stamp_sets.specs.declared.progress.Progress.{Progress}
 use Rattle.stamp_sets.specs.declared.progress.Progress.TheVariants as progress
 use Rattle.stamp_watch.specs.declared.verdict.Verdict.{Verdict}
 use Rattle.stamp_watch.specs.declared.verdict.Verdict.TheVariants.{Explained, Stuck, StuckWithin, Undecided, Broken}
 use Rattle.stamp_watch.specs.declared.verdict.Why.TheVariants as cause
 use Rattle.stamp_sets.specs.declared.watch.Watch.{Watch}
-use Rattle.stamp_watch.specs.Verdict.{AreOfLock, AreTooMany, IsInFormUpTo, IsVerdict}
+use Rattle.stamp_watch.specs.Verdict.{AreOfLanes, AreTooMany, IsInFormUpTo, IsVerdict}
 use Rattle.stamp_sets.specs.Watch.{IsCopy, IsUntold, IsWatching}
 use Rattle.stamp_watch.specs.Judging.{IsJudging, IsFound}
 use Rattle.stamp_watch.specs.inner.Judging.{IsStep, IsBetween, IsOutcome, IsBase, IsStuckBehind}
 use Rattle.stamp_watch.specs.declared.judge.Outcome.{Outcome}
 use Rattle.stamp_watch.specs.declared.judge.Outcome.TheVariants.{Unexplained, TooMany}
 use Rattle.stamp_watch.specs.declared.judge.Outcome.TheVariants as judged
-use Rattle.stamp_watch.proofs.Forming.{of_lock_up_to}
+use Rattle.stamp_watch.proofs.Forming.{of_lanes_up_to}
 use Rattle.stamp_watch.proofs.Judging.{judging_copied, judging_first}
 use Rattle.stamp_watch.proofs.Reading.{take_read, drop_read, around}
 
@@ -132,11 +132,11 @@ module _ (limits : Bounds) (events : List Event) where
     stuck = stuck;
   }
 
-  module _ (most : ℕ) (ahead : Option ℕ) (whole : AreOfLock events) where
+  module _ (most : ℕ) (ahead : Option ℕ) (whole : AreOfLanes events) where
     pub found_stuck : (low high : ℕ) → high ≤ low + 1 → IsBetween limits events low high →
         IsFound limits events most ahead (Stuck low)
     found_stuck low high near between more = (
-      subst AreOfLock (sym cut) (of_lock_up_to (low + 1) events whole),
+      subst AreOfLanes (sym cut) (of_lanes_up_to (low + 1) events whole),
       record {
         explained = subst (AreExplained limits) (sym (take-append-le low events more (omega (arith, apart, within))))
             between.explained;
@@ -164,8 +164,8 @@ module _ (limits : Bounds) (events : List Event) where
     found_within low high cut place after less half before between many more = record {
       there = let long : length (events ++ more) ≡ length events + length more = length-append events more in
           omega (arith, within, long);
-      whole = subst AreOfLock (sym (take-append-le high events more between.within))
-          (of_lock_up_to high events whole);
+      whole = subst AreOfLanes (sym (take-append-le high events more between.within))
+          (of_lanes_up_to high events whole);
       explained = subst (AreExplained limits) (sym (take-append-le low events more (omega (arith, apart, within))))
           between.explained;
       stuck = λ explained. between.stuck
@@ -215,8 +215,8 @@ module _ (n k : ℕ) (events : List Event) (base : Watch) where
 
   module _ (low high : ℕ) (searching : IsSearching n k low high events base) where
     base_whole : (limits : Bounds) (past : List Event) → IsBase limits n k past events base →
-        AreOfLock (past ++ events)
-    base_whole limits past from = subst (λ (xs : List Event). AreOfLock (past ++ xs))
+        AreOfLanes (past ++ events)
+    base_whole limits past from = subst (λ (xs : List Event). AreOfLanes (past ++ xs))
         (take_all (length events) events (omega arith)) (from.judging (length events)
         (let after : k ≤ low = searching.after in let apart : low < high = searching.apart in
         let within : high ≤ length events = searching.within in omega (arith, after, apart, within))
@@ -307,8 +307,8 @@ pub undecided_at : (limits : Bounds) (events : List Event) (most many k : ℕ) (
 undecided_at limits events most many k ahead form outcome = (
   record {
     there = let within : many ≤ length events = form.within in omega (arith, below, within);
-    whole = subst AreOfLock (take-take (k + 1) many events (omega (arith, below)))
-        (of_lock_up_to (k + 1) (take many events) form.whole);
+    whole = subst AreOfLanes (take-take (k + 1) many events (omega (arith, below)))
+        (of_lanes_up_to (k + 1) (take many events) form.whole);
   },
   subst (AreExplained limits) cut outcome.1,
   record {
@@ -343,7 +343,7 @@ pub explained_whole : (limits : Bounds) (events : List Event) (most many : ℕ) 
     many ≡ length events →
     IsInFormUpTo events many → AreExplained limits (take many events) → IsVerdict limits events most ahead Explained
 explained_whole limits events most many ahead all form explained =
-    (subst AreOfLock same form.whole, subst (AreExplained limits) same explained)
+    (subst AreOfLanes same form.whole, subst (AreExplained limits) same explained)
   where
     same : take many events ≡ events
     same = take_all many events (omega (arith, all))
@@ -356,14 +356,14 @@ found_in_whole limits events most many ahead verdict found =
 
 -- any of the events can be judged from the opening
 pub base_first : (limits : Bounds) (k : ℕ) (events : List Event) (watch : Watch) → IsWatching [] watch →
-    IsUntold watch limits → AreOfLock events → IsBase limits 0 k [] events watch
+    IsUntold watch limits → AreOfLanes events → IsBase limits 0 k [] events watch
 base_first limits k events watch watching untold whole = record {
   place = refl;
-  judging = λ m more within. judging_first limits (take m events) watch watching untold (of_lock_up_to m events whole);
+  judging = λ m more within. judging_first limits (take m events) watch watching untold (of_lanes_up_to m events whole);
 }
 
 pub judging_from_first : (limits : Bounds) (events : List Event) (base start : Watch) → IsWatching [] base →
-    IsUntold base limits → IsCopy base start → AreOfLock events → IsJudging limits 0 [] events start
+    IsUntold base limits → IsCopy base start → AreOfLanes events → IsJudging limits 0 [] events start
 judging_from_first limits events base start watching untold same whole =
     judging_copied limits 0 [] events base start same (judging_first limits events base watching untold whole)
 

@@ -1,15 +1,12 @@
 -- What comes as was told, where all that comes is known.
-use Rattle.std.proofs.Common.{ℕ, ◌≡◌, ◌≢◌, ◌⊎◌, ◌+◌, ◌<◌, ◌≤◌, ◌==◌, Bool, true, false, List, [], ◌∷◌, ◌++◌}
-use Rattle.std.proofs.Common.{length, Option, Some, None, refl, sym, ◌∙◌, ap, subst, inl, inr, arith, append_assoc}
-use Rattle.std.proofs.Common.{eq-eqb, ne_eqb}
-use Rattle.std.specs.Prelude.{slice_set, not, ◌&&◌, ◌||◌}
-use Rattle.std.specs.Option.{is_some}
+use Rattle.std.proofs.Common.{ℕ, ◌≡◌, ◌≢◌, ◌⊎◌, ◌+◌, ◌<◌, ◌≤◌, true, false, List, [], ◌∷◌, ◌++◌}
+use Rattle.std.proofs.Common.{Option, Some, None, refl, sym, ◌∙◌, ap, subst, inl, inr, arith, append_assoc}
+use Rattle.std.specs.Prelude.{is_some, option_map}
+use Rattle.std.specs.Option.{option_or}
 use Rattle.std.proofs.lemmas.Bool.{cases_eq, false≢true}
 use Rattle.std.proofs.lemmas.List.Elements.{All-nil}
 use Rattle.std.proofs.lemmas.Option.{none-some, same_Some}
 use Rattle.stamp_core.specs.Limits.{Bounds}
-use Rattle.stamp_core.specs.LockDecision.{reply_as}
-use Rattle.stamp_core.specs.declared.lock_decision.LockReply.{LockReply}
 use Rattle.stamp_core.specs.declared.call.Call.{Call}
 use Rattle.stamp_core.specs.declared.reply.Reply.{Reply}
 use Rattle.stamp_explain.specs.declared.observed.Returned.{Returned}
@@ -18,49 +15,44 @@ use Rattle.stamp_runs.specs.declared.event.Event.TheVariants as event
 use Rattle.stamp_runs.specs.Run.{EndsBy, IsEndOf, ReturnsSooner}
 use Rattle.stamp_runs.specs.Run.EndsBy.{ends_next}
 use Rattle.stamp_runs.specs.Run.ReturnsSooner.{sooner_next, sooner_later}
-use Rattle.stamp_runs.specs.LockRun.{AreExplained}
+use Rattle.stamp_runs.specs.BothRun.{AreExplained}
 use Rattle.stamp_sets.specs.declared.ending.Ending.{Ending}
-use Rattle.stamp_sets.specs.declared.ending.SmallEnding.{SmallEnding}
-use Rattle.stamp_sets.specs.declared.ending.SmallEnding.TheVariants.{Returns, Withdraws, Never}
+use Rattle.stamp_sets.specs.declared.ending.Ending.TheVariants.{Returns, Withdraws, Never}
 use Rattle.stamp_sets.specs.declared.small_call.SmallReply.{SmallReply}
-use Rattle.stamp_sets.specs.declared.small_call.SmallReply.TheVariants.{OfLock, Content}
-use Rattle.stamp_sets.specs.Judged.{reply_in}
+use Rattle.stamp_sets.specs.SmallCall.{call_of, reply_of}
 use Rattle.stamp_sets.specs.declared.open_call.OpenCall.{OpenCall}
 use Rattle.stamp_sets.specs.declared.progress.Progress.{Progress}
 use Rattle.stamp_sets.specs.declared.progress.Progress.TheVariants.{Going, Dead, TooMany, Refused}
 use Rattle.stamp_sets.specs.declared.watch.Watch.{Watch}
 use Rattle.stamp_watch.specs.AsObserved.{ending_of}
 use Rattle.stamp_watch.specs.AsObserved.Ending.{StaysOpen, EndsReturned, EndsWithdrawn}
-use Rattle.stamp_sets.specs.Told.{open_at, EndsSo, ComesAsTold}
+use Rattle.stamp_sets.specs.Told.{EndsSo, ComesAsTold, open_at}
 use Rattle.stamp_watch.specs.Foretold.{told_as}
-use Rattle.stamp_watch.specs.inner.Foretold.{ends_as}
-use Rattle.stamp_watch.specs.Form.{is_busy_then, is_busy_after, MayCome}
-use Rattle.stamp_watch.specs.Verdict.{AreOfLock, is_lock_reply}
-use Rattle.stamp_sets.specs.Watch.{IsCopy, IsWatching, IsUntold, IsInForm, IsProgress, IsTaken, BeginsTold}
-use Rattle.stamp_sets.specs.Watch.{ReturnsTold, WithdrawsTold}
+use Rattle.stamp_watch.specs.Form.{is_busy_after}
+use Rattle.stamp_watch.specs.Verdict.{AreOfLanes}
+use Rattle.stamp_sets.specs.Watch.{IsCopy, IsWatching, IsUntold, MayComeAsTold, IsProgress, IsTaken, BeginsTold}
+use Rattle.stamp_sets.specs.Watch.{ReturnsTold, SetsOpen, WithdrawsTold, open_of}
 use Rattle.stamp_watch.specs.Judging.{IsFollowed, IsJudging}
 use Rattle.stamp_watch.specs.inner.Judging.{IsEndTold, IsStep}
-use Rattle.stamp_watch.proofs.Configurations.{more_are_possible, watching_copied}
-use Rattle.stamp_watch.proofs.Form.{busy_after_one}
-use Rattle.stamp_watch.proofs.Forming.{next_comes, next_of_lock}
+use Rattle.stamp_watch.proofs.Forming.{next_comes, next_of_lane}
 use Rattle.stamp_sets.proofs.Telling.{ends_past}
 use Rattle.stamp_watch.proofs.Numbered.{end_or_not, ended_by, ending_last, ending_spares, one_return, open_or_ended}
 use Rattle.stamp_watch.proofs.Numbered.{return_ends, withdrawal_ends, withdrawn_or_ended}
 use Rattle.stamp_watch.proofs.Ways.{at_end}
-use Rattle.stamp_sets.proofs.Tables.{open_at_set_here, open_at_set_other}
+use Rattle.stamp_sets.proofs.Pairing.{watching_copied, watching_lanes}
 
 withdrawn_or_open : EndsWithdrawn ≡ StaysOpen → ⊥
 withdrawn_or_open same = cc
 
 -- the end that an entry tells
-record IsReturnAt (ends : SmallEnding) (r : Returned) : Type 0 where
+record IsReturnAt (ends : Ending) (r : Returned) : Type 0 where
   pub told : SmallReply
   pub place : ℕ
   pub is : ends ≡ Returns told place
-  pub same : reply_in [] told ≡ r.reply
+  pub same : reply_of told ≡ r.reply
   pub here : place ≡ r.last
 
-returns_at : (ends : SmallEnding) (r : Returned) → told_as ends ≡ EndsReturned r → IsReturnAt ends r
+returns_at : (ends : Ending) (r : Returned) → told_as ends ≡ EndsReturned r → IsReturnAt ends r
 returns_at (Returns told place) r is = record {
   told = told;
   place = place;
@@ -71,51 +63,40 @@ returns_at (Returns told place) r is = record {
 returns_at Withdraws r is = absurd (withdrawn_or_ended is)
 returns_at Never r is = absurd (open_or_ended is)
 
-withdraws_so : (ends : SmallEnding) → told_as ends ≡ EndsWithdrawn → ends ≡ Withdraws
+withdraws_so : (ends : Ending) → told_as ends ≡ EndsWithdrawn → ends ≡ Withdraws
 withdraws_so (Returns told place) is = absurd (withdrawn_or_ended (sym is))
 withdraws_so Withdraws is = refl
 withdraws_so Never is = absurd (withdrawn_or_open (sym is))
 
--- a reply of the lock that was told
-record IsOwnReply (told : SmallReply) (reply : Reply) : Type 0 where
-  pub own : LockReply
-  pub is : told ≡ OfLock own
-  pub same : reply_as own ≡ reply
-
-own_reply : (told : SmallReply) (reply : Reply) → reply_in [] told ≡ reply → is_lock_reply reply ≡ true →
-    IsOwnReply told reply
-own_reply (OfLock own) reply is lock = record { own = own; is = refl; same = is }
-own_reply (Content number) reply is lock = absurd (false≢true (ap is_lock_reply is ∙ lock))
-
-ends_at : (lane n : ℕ) (event : Event) (events : List Event) (ends : SmallEnding) → IsEndOf lane event →
-    told_as ends ≡ ending_of lane n (event ∷ events) → EndsSo (reply_in []) lane ends (event ∷ events)
+ends_at : (lane n : ℕ) (event : Event) (events : List Event) (ends : Ending) → IsEndOf lane event →
+    told_as ends ≡ ending_of lane n (event ∷ events) → EndsSo lane ends (event ∷ events)
 ends_at lane n (event.Begins other call) events ends none is = absurd none
 ends_at lane n (event.Returns other reply) events ends same is = by (returns_at ends
     (record { last = n; reply = reply }) (is ∙ return_ends lane other n reply events same))
   where
     by : IsReturnAt ends (record { last = n; reply = reply }) →
-        EndsSo (reply_in []) lane ends (event.Returns other reply ∷ events)
-    by at = subst (λ (e : SmallEnding). EndsSo (reply_in []) lane e (event.Returns other reply ∷ events)) (sym at.is)
-        (subst (λ (e : Event). EndsBy lane (event.Returns lane (reply_in [] at.told)) (e ∷ events))
+        EndsSo lane ends (event.Returns other reply ∷ events)
+    by at = subst (λ (e : Ending). EndsSo lane e (event.Returns other reply ∷ events)) (sym at.is)
+        (subst (λ (e : Event). EndsBy lane (event.Returns lane (reply_of at.told)) (e ∷ events))
         (ap (event.Returns lane) at.same ∙ ap (λ (v : ℕ). event.Returns v reply) (sym same)) ends_next)
 ends_at lane n (event.Withdraws other) events ends same is =
-    subst (λ (e : SmallEnding). EndsSo (reply_in []) lane e (event.Withdraws other ∷ events))
+    subst (λ (e : Ending). EndsSo lane e (event.Withdraws other ∷ events))
     (sym (withdraws_so ends (is ∙ withdrawal_ends lane other n events same)))
     (subst (λ (e : Event). EndsBy lane (event.Withdraws lane) (e ∷ events)) (ap event.Withdraws (sym same)) ends_next)
 
 -- a call ends as its entry tells
-pub ends_so : (lane n : ℕ) (events : List Event) (ends : SmallEnding) → told_as ends ≡ ending_of lane n events →
-    EndsSo (reply_in []) lane ends events
+pub ends_so : (lane n : ℕ) (events : List Event) (ends : Ending) → told_as ends ≡ ending_of lane n events →
+    EndsSo lane ends events
 ends_so lane n [] (Returns told place) is = absurd (open_or_ended (sym is))
 ends_so lane n [] Withdraws is = absurd (withdrawn_or_open is)
 ends_so lane n [] Never is = All-nil (λ (e : Event). ¬ IsEndOf lane e)
 ends_so lane n (event ∷ events) ends is =
     by (λ later. ends_so lane (n + 1) events ends later) (end_or_not lane event)
   where
-    by : (told_as ends ≡ ending_of lane (n + 1) events → EndsSo (reply_in []) lane ends events) →
-        IsEndOf lane event ⊎ (¬ IsEndOf lane event) → EndsSo (reply_in []) lane ends (event ∷ events)
+    by : (told_as ends ≡ ending_of lane (n + 1) events → EndsSo lane ends events) →
+        IsEndOf lane event ⊎ (¬ IsEndOf lane event) → EndsSo lane ends (event ∷ events)
     by later (inl end) = ends_at lane n event events ends end is
-    by later (inr not) = ends_past (reply_in []) lane ends event events not
+    by later (inr not) = ends_past lane ends event events not
         (later (is ∙ ending_spares lane n event events not))
 
 -- calls return in the order of their places
@@ -139,24 +120,24 @@ sooner_so lane than n (x ∷ events) a b is also less =
         absurd (omega (arith, ending_last lane (n + 1) events a past.1, here.1, less))
     by later (inr past) (inr beyond) = sooner_later x past.0 beyond.0 (later past.1 beyond.1)
 
-told_return : (ends : SmallEnding) (told : SmallReply) (place lane n : ℕ) (events : List Event) →
+told_return : (ends : Ending) (told : SmallReply) (place lane n : ℕ) (events : List Event) →
     ends ≡ Returns told place → told_as ends ≡ ending_of lane n events →
-    ending_of lane n events ≡ EndsReturned (record { last = place; reply = reply_in [] told })
+    ending_of lane n events ≡ EndsReturned (record { last = place; reply = reply_of told })
 told_return ends told place lane n events returns is = sym is ∙ ap told_as returns
 
 -- what comes is as it was told
 pub comes : (n : ℕ) (past future : List Event) (watch : Watch) → IsFollowed n past future watch →
-    ComesAsTold (reply_in []) watch.table.items watch.last future
+    ComesAsTold (open_of watch) watch.last future
 comes n past future watch f = record {
   ends = λ lane begun is. ends_so lane n future begun.ends (f.told lane begun is);
   sooner = λ lane than first other is also before. sooner_so lane than n future
-      (record { last = before.place; reply = reply_in [] before.reply })
-      (record { last = before.later; reply = reply_in [] before.answer })
+      (record { last = before.place; reply = reply_of before.reply })
+      (record { last = before.later; reply = reply_of before.answer })
       (told_return first.ends before.reply before.place lane n future before.first_is (f.told lane first is))
       (told_return other.ends before.answer before.later than n future before.other_is (f.told than other also))
       before.sooner;
   due = λ lane begun told place is ends.
-      let low : n ≤ place = ending_last lane n future (record { last = place; reply = reply_in [] told })
+      let low : n ≤ place = ending_last lane n future (record { last = place; reply = reply_of told })
       (told_return begun.ends told place lane n future ends (f.told lane begun is)) in
       let last : watch.last ≤ n = f.last in omega (arith, low, last);
 }
@@ -174,44 +155,46 @@ none_open : (slot : Option OpenCall) → is_some slot ≡ false → slot ≡ Non
 none_open None is = refl
 none_open (Some begun) is = absurd (false≢true (sym is))
 
+-- a watch has a call open in the lanes where the run has
+same_some : (slot : Option OpenCall) → is_some slot ≡ is_some (option_map (λ (b : OpenCall). call_of b.asks) slot)
+same_some None = refl
+same_some (Some begun) = refl
+
+pub agrees : (past : List Event) (watch : Watch) → IsWatching past watch → (lane : ℕ) →
+    is_some (open_of watch lane) ≡ is_busy_after past lane
+agrees past watch is lane = same_some (open_of watch lane) ∙ ap is_some (watching_lanes past watch is lane)
+
 -- the next event may come
-pub in_form : (n : ℕ) (past : List Event) (e : Event) (ahead : List Event) (old : Watch) →
-    IsFollowed n past (e ∷ ahead) old → IsInForm old e
-in_form n past (event.Begins lane call) ahead old f =
-    let may : MayCome (is_busy_after past) (event.Begins lane call) =
-    next_comes past (event.Begins lane call) ahead f.whole in (
-      next_of_lock past (event.Begins lane call) ahead f.whole,
-      none_open (open_at old.table.items lane) (f.agrees lane ∙ may.0),
-      may.1,
-    )
-in_form n past (event.Returns lane reply) ahead old f = by (some_open (open_at old.table.items lane)
-    (f.agrees lane ∙ next_comes past (event.Returns lane reply) ahead f.whole))
+pub may_come : (n : ℕ) (past : List Event) (e : Event) (ahead : List Event) (old : Watch) → IsWatching past old →
+    IsFollowed n past (e ∷ ahead) old → MayComeAsTold old e
+may_come n past (event.Begins lane call) ahead old is f = (
+  (next_of_lane past (event.Begins lane call) ahead f.whole).0,
+  none_open (open_of old lane)
+      (agrees past old is lane ∙ ap is_some (next_comes past (event.Begins lane call) ahead f.whole)),
+)
+may_come n past (event.Returns lane reply) ahead old is f = by (some_open (open_of old lane)
+    (agrees past old is lane ∙ next_comes past (event.Returns lane reply) ahead f.whole))
   where
-    told : (o : OpenCall) → open_at old.table.items lane ≡ Some o →
+    told : (o : OpenCall) → open_of old lane ≡ Some o →
         IsReturnAt o.ends (record { last = n; reply = reply })
-    told o is = returns_at o.ends (record { last = n; reply = reply })
-        (f.told lane o is ∙ return_ends lane lane n reply ahead refl)
+    told o opened = returns_at o.ends (record { last = n; reply = reply })
+        (f.told lane o opened ∙ return_ends lane lane n reply ahead refl)
 
-    own : (o : OpenCall) (is : open_at old.table.items lane ≡ Some o) → IsOwnReply (told o is).told reply
-    own o is = own_reply (told o is).told reply (told o is).same
-        (next_of_lock past (event.Returns lane reply) ahead f.whole).1
-
-    by : IsOpen (open_at old.table.items lane) → IsInForm old (event.Returns lane reply)
+    by : IsOpen (open_of old lane) → MayComeAsTold old (event.Returns lane reply)
     by one = record {
       begun = one.begun;
-      told = (own one.begun one.is).own;
+      told = (told one.begun one.is).told;
       place = (told one.begun one.is).place;
       is_open = one.is;
-      ends = (told one.begun one.is).is ∙
-          ap (λ (r : SmallReply). Returns r (told one.begun one.is).place) (own one.begun one.is).is;
-      same = (own one.begun one.is).same;
+      ends = (told one.begun one.is).is;
+      same = (told one.begun one.is).same;
       due = let at : (told one.begun one.is).place ≡ n = (told one.begun one.is).here in
           let last : old.last ≤ n = f.last in omega (arith, at, last);
     }
-in_form n past (event.Withdraws lane) ahead old f = by (some_open (open_at old.table.items lane)
-    (f.agrees lane ∙ next_comes past (event.Withdraws lane) ahead f.whole))
+may_come n past (event.Withdraws lane) ahead old is f = by (some_open (open_of old lane)
+    (agrees past old is lane ∙ next_comes past (event.Withdraws lane) ahead f.whole))
   where
-    by : IsOpen (open_at old.table.items lane) → IsInForm old (event.Withdraws lane)
+    by : IsOpen (open_of old lane) → MayComeAsTold old (event.Withdraws lane)
     by one = record {
       begun = one.begun;
       is_open = one.is;
@@ -220,112 +203,70 @@ in_form n past (event.Withdraws lane) ahead old f = by (some_open (open_at old.t
     }
 
 -- one lane is put, and the others are as they were
-module _ (old new : List (Option OpenCall)) (lane : ℕ) (slot : Option OpenCall) (put : new ≡ slice_set old lane slot)
-    (within : lane < length old) where
-  put_here : (u : ℕ) → u ≡ lane → open_at new u ≡ slot
-  put_here u same = ap (λ (v : ℕ). open_at new v) same ∙ ap (λ (t : List (Option OpenCall)). open_at t lane) put ∙
-      open_at_set_here old lane slot within
-
-  put_other : (u : ℕ) → u ≢ lane → open_at new u ≡ open_at old u
-  put_other u apart = ap (λ (t : List (Option OpenCall)). open_at t u) put ∙ open_at_set_other old lane u slot apart
+module _ (old new : ℕ → Option OpenCall) (lane : ℕ) (slot : Option OpenCall) (put : SetsOpen old new lane slot) where
+  put_here : (u : ℕ) → u ≡ lane → new u ≡ slot
+  put_here u same = ap new same ∙ put.here
 
 -- the run once one event more is past
-whole_on : (past : List Event) (e : Event) (ahead : List Event) → AreOfLock (past ++ e ∷ ahead) →
-    AreOfLock (past ++ e ∷ [] ++ ahead)
-whole_on past e ahead whole = subst AreOfLock (sym (append_assoc past (e ∷ []) ahead)) whole
+whole_on : (past : List Event) (e : Event) (ahead : List Event) → AreOfLanes (past ++ e ∷ ahead) →
+    AreOfLanes (past ++ e ∷ [] ++ ahead)
+whole_on past e ahead whole = subst AreOfLanes (sym (append_assoc past (e ∷ []) ahead)) whole
 
 pub followed_begins : (n : ℕ) (past ahead : List Event) (lane : ℕ) (call : Call) (ends : Ending) (old new : Watch) →
-    length old.table.items ≡ 64 → ends_as ends ≡ ending_of lane (n + 1) ahead → BeginsTold old new lane call ends →
+    told_as ends ≡ ending_of lane (n + 1) ahead → BeginsTold old new lane call ends →
     IsFollowed n past (event.Begins lane call ∷ ahead) old →
     IsFollowed (n + 1) (past ++ event.Begins lane call ∷ []) ahead new
-followed_begins n past ahead lane call ends old new long is told f = record {
+followed_begins n past ahead lane call ends old new is told f = record {
   whole = whole_on past (event.Begins lane call) ahead f.whole;
-  agrees = λ u. agrees u (cases_eq u lane) ∙ sym (busy_after_one u false past (event.Begins lane call));
   told = λ u o opened. ends_there u o opened (cases_eq u lane);
   last = let same : new.last ≡ old.last = told.last in let last : old.last ≤ n = f.last in omega (arith, same, last);
 }
   where
-    within : lane < length old.table.items
-    within = let below : lane < 64 = next_of_lock past (event.Begins lane call) ahead f.whole in
-        omega (arith, below, long)
-
-    agrees : (u : ℕ) → (u ≡ lane) ⊎ (u ≢ lane) →
-        is_some (open_at new.table.items u) ≡ is_busy_then u (is_busy_after past u) (event.Begins lane call)
-    agrees u (inl same) = ap is_some (put_here old.table.items new.table.items lane (Some told.begun) told.table within
-        u same) ∙ sym (ap (λ (b : Bool). b || is_busy_after past u) (eq-eqb lane u (sym same)))
-    agrees u (inr apart) = ap is_some (put_other old.table.items new.table.items lane (Some told.begun) told.table
-        within u apart) ∙ f.agrees u ∙
-        sym (ap (λ (b : Bool). b || is_busy_after past u) (ne_eqb lane u (λ e. apart (sym e))))
-
-    ends_there : (u : ℕ) (o : OpenCall) → open_at new.table.items u ≡ Some o → (u ≡ lane) ⊎ (u ≢ lane) →
+    ends_there : (u : ℕ) (o : OpenCall) → open_of new u ≡ Some o → (u ≡ lane) ⊎ (u ≢ lane) →
         told_as o.ends ≡ ending_of u (n + 1) ahead
     ends_there u o opened (inl same) =
         ap (λ (x : OpenCall). told_as x.ends) (same_Some o told.begun (sym opened ∙
-        put_here old.table.items new.table.items lane (Some told.begun) told.table within u same)) ∙
+        put_here (open_of old) (open_of new) lane (Some told.begun) told.opens u same)) ∙
         ap told_as told.told ∙ is ∙ ap (λ (v : ℕ). ending_of v (n + 1) ahead) (sym same)
-    ends_there u o opened (inr apart) = f.told u o (sym (put_other old.table.items new.table.items lane
-        (Some told.begun) told.table within u apart) ∙ opened)
+    ends_there u o opened (inr apart) = f.told u o (sym (told.opens.others u apart) ∙ opened)
 
 -- a call ends
 module _ (n : ℕ) (past ahead : List Event) (lane : ℕ) (e : Event) (old new : Watch)
-    (long : length old.table.items ≡ 64) (put : new.table.items ≡ slice_set old.table.items lane None)
-    (below : lane < 64)
-    (frees : (u : ℕ) (busy : Bool) → is_busy_then u busy e ≡ (not (lane == u) && busy))
+    (opens : SetsOpen (open_of old) (open_of new) lane None)
     (spares : (u : ℕ) → u ≢ lane → ending_of u n (e ∷ ahead) ≡ ending_of u (n + 1) ahead)
     (f : IsFollowed n past (e ∷ ahead) old) where
-  within_ended : lane < length old.table.items
-  within_ended = omega (arith, below, long)
-
-  agrees_ended : (u : ℕ) → (u ≡ lane) ⊎ (u ≢ lane) →
-      is_some (open_at new.table.items u) ≡ is_busy_then u (is_busy_after past u) e
-  agrees_ended u (inl same) =
-      ap is_some (put_here old.table.items new.table.items lane None put within_ended u same) ∙
-      sym (frees u (is_busy_after past u) ∙
-      ap (λ (b : Bool). not b && is_busy_after past u) (eq-eqb lane u (sym same)))
-  agrees_ended u (inr apart) =
-      ap is_some (put_other old.table.items new.table.items lane None put within_ended u apart) ∙ f.agrees u ∙
-      sym (frees u (is_busy_after past u) ∙
-      ap (λ (b : Bool). not b && is_busy_after past u) (ne_eqb lane u (λ e. apart (sym e))))
-
-  told_ended : (u : ℕ) (o : OpenCall) → open_at new.table.items u ≡ Some o → (u ≡ lane) ⊎ (u ≢ lane) →
+  told_ended : (u : ℕ) (o : OpenCall) → open_of new u ≡ Some o → (u ≡ lane) ⊎ (u ≢ lane) →
       told_as o.ends ≡ ending_of u (n + 1) ahead
-  told_ended u o opened (inl same) = absurd (none-some o
-      (sym (put_here old.table.items new.table.items lane None put within_ended u same) ∙ opened))
-  told_ended u o opened (inr apart) =
-      f.told u o (sym (put_other old.table.items new.table.items lane None put within_ended u apart) ∙ opened) ∙
-      spares u apart
+  told_ended u o opened (inl same) =
+      absurd (none-some o (sym (put_here (open_of old) (open_of new) lane None opens u same) ∙ opened))
+  told_ended u o opened (inr apart) = f.told u o (sym (opens.others u apart) ∙ opened) ∙ spares u apart
 
   followed_ended : new.last ≤ n + 1 → IsFollowed (n + 1) (past ++ e ∷ []) ahead new
   followed_ended low = record {
     whole = whole_on past e ahead f.whole;
-    agrees = λ u. agrees_ended u (cases_eq u lane) ∙ sym (busy_after_one u false past e);
     told = λ u o opened. told_ended u o opened (cases_eq u lane);
     last = low;
   }
 
 pub followed_returns : (n : ℕ) (past ahead : List Event) (lane : ℕ) (reply : Reply) (old new : Watch) →
-    length old.table.items ≡ 64 → ReturnsTold old new lane reply →
-    IsFollowed n past (event.Returns lane reply ∷ ahead) old →
+    ReturnsTold old new lane reply → IsFollowed n past (event.Returns lane reply ∷ ahead) old →
     IsFollowed (n + 1) (past ++ event.Returns lane reply ∷ []) ahead new
-followed_returns n past ahead lane reply old new long told f =
-    followed_ended n past ahead lane (event.Returns lane reply) old new long told.table
-    (next_of_lock past (event.Returns lane reply) ahead f.whole).0 (λ u busy. refl)
+followed_returns n past ahead lane reply old new told f =
+    followed_ended n past ahead lane (event.Returns lane reply) old new told.opens
     (λ u apart. ending_spares u n (event.Returns lane reply) ahead (λ e. apart (sym e))) f
     (let same : new.last ≡ told.was.place = told.last in omega (arith, same, at))
   where
     at : told.was.place ≡ n
     at = ap (λ (q : Returned). q.last) (one_return
-        (sym (told_return told.was.begun.ends (OfLock told.was.told) told.was.place lane
+        (sym (told_return told.was.begun.ends told.was.told told.was.place lane
         n (event.Returns lane reply ∷ ahead) told.was.ends (f.told lane told.was.begun told.was.is_open)) ∙
         return_ends lane lane n reply ahead refl))
 
 pub followed_withdraws : (n : ℕ) (past ahead : List Event) (lane : ℕ) (old new : Watch) →
-    length old.table.items ≡ 64 → WithdrawsTold old new lane →
-    IsFollowed n past (event.Withdraws lane ∷ ahead) old →
+    WithdrawsTold old new lane → IsFollowed n past (event.Withdraws lane ∷ ahead) old →
     IsFollowed (n + 1) (past ++ event.Withdraws lane ∷ []) ahead new
-followed_withdraws n past ahead lane old new long told f =
-    followed_ended n past ahead lane (event.Withdraws lane) old new long told.table
-    (next_of_lock past (event.Withdraws lane) ahead f.whole) (λ u busy. refl)
+followed_withdraws n past ahead lane old new told f =
+    followed_ended n past ahead lane (event.Withdraws lane) old new told.opens
     (λ u apart. ending_spares u n (event.Withdraws lane) ahead (λ e. apart (sym e))) f
     (let same : new.last ≡ old.last = told.last in let last : old.last ≤ n = f.last in omega (arith, same, last))
 
@@ -349,30 +290,24 @@ stepped limits n past e ahead most old new TooMany is same follows judging = rec
   limits_are = judging.limits_are;
   watching = judging.watching;
   told = judging.followed.told;
-  more = more_are_possible past most old is.0;
+  more = is.0;
 }
 stepped limits n past e ahead most old new Refused is same follows judging =
-    is.0 (in_form n past e ahead old judging.followed)
+    is.0 (may_come n past e ahead old judging.watching judging.followed)
 
 -- before any event
 pub judging_first : (limits : Bounds) (events : List Event) (watch : Watch) → IsWatching [] watch →
-    IsUntold watch limits → AreOfLock events → IsJudging limits 0 [] events watch
+    IsUntold watch limits → AreOfLanes events → IsJudging limits 0 [] events watch
 judging_first limits events watch watching untold whole = record {
   limits_are = untold.limits_are;
   watching = watching;
   explained = at_end;
   followed = record {
     whole = whole;
-    agrees = λ lane. ap is_some (untold.idle lane);
     told = λ lane o is. absurd (none-some o (sym (untold.idle lane) ∙ is));
     last = let none : watch.last ≡ 0 = untold.last in omega (arith, none);
   };
 }
-
--- the same by what the code reads
-table_long : {limits : Bounds} {n : ℕ} {past future : List Event} {watch : Watch} →
-    IsJudging limits n past future watch → length watch.table.items ≡ 64
-table_long judging = judging.watching.kept.lanes
 
 pub step_begins : (limits : Bounds) (n : ℕ) (past : List Event) (e : Event) (ahead : List Event) (most lane : ℕ)
     (call : Call) (ends : Ending) (old new : Watch) (progress : Progress) → e ≡ event.Begins lane call →
@@ -384,11 +319,11 @@ step_begins limits n past e ahead most lane call ends old new progress same is a
     (by (subst (λ (x : Event). IsEndTold x (n + 1) ahead ends) same is)
     (subst (λ (x : Event). IsJudging limits n past (x ∷ ahead) old) same judging))
   where
-    by : ends_as ends ≡ ending_of lane (n + 1) ahead → IsJudging limits n past (event.Begins lane call ∷ ahead) old →
+    by : told_as ends ≡ ending_of lane (n + 1) ahead → IsJudging limits n past (event.Begins lane call ∷ ahead) old →
         IsStep limits n past (event.Begins lane call) ahead most new progress
     by ends_so on = stepped limits n past (event.Begins lane call) ahead most old new progress answer
         (λ taken. (told taken).limits)
-        (λ taken. followed_begins n past ahead lane call ends old new (table_long on) ends_so (told taken) on.followed)
+        (λ taken. followed_begins n past ahead lane call ends old new ends_so (told taken) on.followed)
         on
 
 pub step_returns : (limits : Bounds) (n : ℕ) (past : List Event) (e : Event) (ahead : List Event) (most lane : ℕ)
@@ -404,7 +339,7 @@ step_returns limits n past e ahead most lane reply old new progress same answer 
         IsStep limits n past (event.Returns lane reply) ahead most new progress
     by on = stepped limits n past (event.Returns lane reply) ahead most old new progress answer
         (λ taken. (told taken).limits)
-        (λ taken. followed_returns n past ahead lane reply old new (table_long on) (told taken) on.followed) on
+        (λ taken. followed_returns n past ahead lane reply old new (told taken) on.followed) on
 
 pub step_withdraws : (limits : Bounds) (n : ℕ) (past : List Event) (e : Event) (ahead : List Event) (most lane : ℕ)
     (old new : Watch) (progress : Progress) → e ≡ event.Withdraws lane →
@@ -419,21 +354,24 @@ step_withdraws limits n past e ahead most lane old new progress same answer told
         IsStep limits n past (event.Withdraws lane) ahead most new progress
     by on = stepped limits n past (event.Withdraws lane) ahead most old new progress answer
         (λ taken. (told taken).limits)
-        (λ taken. followed_withdraws n past ahead lane old new (table_long on) (told taken) on.followed) on
+        (λ taken. followed_withdraws n past ahead lane old new (told taken) on.followed) on
 
 -- a copy judges as well
+open_of_copied : (watch copy : Watch) → IsCopy watch copy → (lane : ℕ) → open_of copy lane ≡ open_of watch lane
+open_of_copied watch copy same lane =
+    ap (λ (t : List (Option OpenCall)). option_or (open_at t lane) (open_at copy.record.table.items lane))
+    same.lock.table ∙ ap (λ (t : List (Option OpenCall)). option_or (open_at watch.lock.table.items lane)
+    (open_at t lane)) same.record.table
+
 pub judging_copied : (limits : Bounds) (n : ℕ) (past future : List Event) (watch copy : Watch) → IsCopy watch copy →
     IsJudging limits n past future watch → IsJudging limits n past future copy
 judging_copied limits n past future watch copy same judging = record {
   limits_are = same.limits ∙ judging.limits_are;
-  watching = watching_copied past watch copy same judging.watching;
+  watching = watching_copied past watch judging.watching copy same;
   explained = judging.explained;
   followed = record {
     whole = judging.followed.whole;
-    agrees = λ lane. ap (λ (t : List (Option OpenCall)). is_some (open_at t lane)) same.table ∙
-        judging.followed.agrees lane;
-    told = λ lane begun is. judging.followed.told lane begun
-        (sym (ap (λ (t : List (Option OpenCall)). open_at t lane) same.table) ∙ is);
+    told = λ lane begun is. judging.followed.told lane begun (sym (open_of_copied watch copy same lane) ∙ is);
     last = subst (λ (m : ℕ). m ≤ n) (sym same.last) judging.followed.last;
   };
 }

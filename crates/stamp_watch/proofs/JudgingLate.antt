@@ -17,13 +17,13 @@ use Rattle.stamp_watch.specs.Judging.{AreBusyLanes, IsFound}
 use Rattle.stamp_watch.specs.Late.{IsLate, IsLateVerdict, IsLateFound}
 use Rattle.stamp_watch.specs.LateJudge.{EndsInRunLate, IsLateJudge, IsLateJudgeOfSome, IsLateUnderWay, KeepsEndLate}
 use Rattle.stamp_watch.specs.PossibleLate.{KeepsLater}
-use Rattle.stamp_watch.specs.Verdict.{AreOfLock}
+use Rattle.stamp_watch.specs.Verdict.{AreOfLanes}
 use Rattle.stamp_watch.specs.inner.Course.{broken_off}
 use Rattle.stamp_watch.specs.inner.Delay.{IsFindingOf, IsLateBreak, IsLateRest, IsReady, IsReadyFor}
 use Rattle.stamp_watch.specs.inner.Judging.{MayComeIn, SetsBusy}
 use Rattle.stamp_watch.proofs.Closeness.{few_aside}
 use Rattle.stamp_watch.proofs.EndedLate.{more_in_run}
-use Rattle.stamp_watch.proofs.Forming.{busy_lanes_then, form_first, of_lock_not, of_lock_on}
+use Rattle.stamp_watch.proofs.Forming.{busy_lanes_then, form_first, of_lanes_not, of_lanes_on}
 use Rattle.stamp_watch.proofs.HandingOn.{passed_length}
 use Rattle.stamp_watch.proofs.PossibleLate.{keeps_beside, keeps_of}
 use Rattle.stamp_watch.proofs.Running.{broken_found, over_broken, over_here, rest_now}
@@ -146,8 +146,8 @@ module _ (limits : Bounds) (most ahead : ℕ) (run : List Event) (judge : LateJu
         let same : judge.delay.ahead ≡ ahead - 64 = late_way.delayed.ahead_is in omega (arith, few, same)
 
     module _ (e : Event) (busy : ℕ) (may : MayComeIn judge.busy e) (sets : SetsBusy judge.busy e busy) where
-      pub whole_then : AreOfLock (run ++ e ∷ [])
-      whole_then = of_lock_on run judge.busy e late_way.lanes may late_way.delayed.whole
+      pub whole_then : AreOfLanes (run ++ e ∷ [])
+      whole_then = of_lanes_on run judge.busy e late_way.lanes may late_way.delayed.whole
 
       pub ready_for : IsReadyFor e judge.delay
       unfolding ready_now
@@ -177,8 +177,8 @@ module _ (limits : Bounds) (most ahead : ℕ) (run : List Event) (judge : LateJu
           (keeps_of limits most ahead (run ++ e ∷ []) new.delay delayed) tells there some found
 
     -- an event may not come there
-    pub late_broken : (e : Event) → ¬ MayComeIn judge.busy e → ¬ AreOfLock (run ++ e ∷ [])
-    late_broken e not_there = of_lock_not run judge.busy e late_way.lanes not_there
+    pub late_broken : (e : Event) → ¬ MayComeIn judge.busy e → ¬ AreOfLanes (run ++ e ∷ [])
+    late_broken e not_there = of_lanes_not run judge.busy e late_way.lanes not_there
 
 -- so it is by the same delay
 pub finding_as : {a b : List Event} {s t f g : Option ℕ} (v : Verdict) (is : LateVerdict) → a ≡ b → s ≡ t → f ≡ g →

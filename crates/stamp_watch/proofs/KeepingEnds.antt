@@ -1,8 +1,8 @@
 -- A course keeps what tells of the event at which its run is stuck.
-use Rattle.std.proofs.Common.{◌≡◌, ◌≢◌, ◌⊎◌, ◌+◌, ◌-◌, ◌<◌, ◌≤◌, ℕ, Bool, true, false, List, [], ◌∷◌, ◌++◌, length}
+use Rattle.std.proofs.Common.{◌≡◌, ◌≢◌, ◌⊎◌, ◌+◌, ◌-◌, ◌<◌, ◌≤◌, ℕ, Bool, true, List, [], ◌∷◌, ◌++◌, length}
 use Rattle.std.proofs.Common.{Option, Some, None, get_or, refl, sym, ◌∙◌, ap, subst, inl, inr, arith, append_assoc}
 use Rattle.std.proofs.Common.{eq-eqb, ne_eqb}
-use Rattle.std.specs.Prelude.{drop, take, slice_get, option_and_then, option_map, if◌then◌else◌}
+use Rattle.std.specs.Prelude.{drop, take, slice_get, option_and_then, option_map, if◌then◌else◌, is_some, IsSome}
 use Rattle.std.specs.List.{fold}
 use Rattle.std.proofs.lemmas.Bool.{cases_eq, le-leb}
 use Rattle.std.proofs.lemmas.List.{length-append, length-take-le}
@@ -14,8 +14,8 @@ use Rattle.stamp_core.specs.declared.call.Call.{Call}
 use Rattle.stamp_core.specs.declared.reply.Reply.{Reply}
 use Rattle.stamp_runs.specs.declared.event.Event.{Event}
 use Rattle.stamp_runs.specs.declared.event.Event.TheVariants.{Begins, Returns, Withdraws}
-use Rattle.stamp_runs.specs.Run.{all_idle}
-use Rattle.stamp_runs.specs.LockRun.{AreExplained, AreStuckAt}
+use Rattle.stamp_runs.specs.Own.{MayCome, none_open, open_after, open_then}
+use Rattle.stamp_runs.specs.BothRun.{AreExplained, AreStuckAt, Both, start}
 use Rattle.stamp_watch.specs.AsObserved.Ending.{StaysOpen}
 use Rattle.stamp_watch.specs.AsObserved.{ending_of}
 use Rattle.stamp_watch.specs.Course.{IsCourse, IsStanding, KeepsEnd, KeepsEndOf}
@@ -23,12 +23,13 @@ use Rattle.stamp_watch.specs.declared.course.Course.{Course}
 use Rattle.stamp_watch.specs.declared.verdict.Verdict.{Verdict}
 use Rattle.stamp_watch.specs.declared.verdict.Verdict.TheVariants as verdict
 use Rattle.stamp_watch.specs.EndedCall.{begun_in, begun_then, end_in, ended, ended_at, ended_by, ended_from}
-use Rattle.stamp_watch.specs.Form.{MayCome, is_busy_after, is_busy_then}
+use Rattle.stamp_watch.specs.Form.{is_busy_after}
 use Rattle.stamp_watch.specs.Judging.{IsFound}
-use Rattle.stamp_watch.specs.Verdict.{AreOfLock}
+use Rattle.stamp_watch.specs.Verdict.{AreOfLanes}
 use Rattle.stamp_watch.specs.inner.Course.{broken_off}
 use Rattle.stamp_watch.specs.inner.Judging.{IsStuckAmong}
-use Rattle.stamp_watch.proofs.Form.{busy_other, begins_next, past_end}
+use Rattle.stamp_runs.proofs.Owning.{Calls}
+use Rattle.stamp_watch.proofs.Form.{begins_next, open_other, past_end}
 use Rattle.stamp_watch.proofs.EndedAt.{taken_by_end}
 use Rattle.stamp_watch.proofs.Forming.{next_comes}
 use Rattle.stamp_watch.proofs.Numbered.{ending_spares}
@@ -50,29 +51,29 @@ stays_begun lane call (Returns u r ∷ events) none = stays_begun lane call even
 stays_begun lane call (Withdraws u ∷ events) none = stays_begun lane call events none
 
 -- a call that is open behind events, none of which begins one in its lane, was open before, and stays so along them
-none_begun : (lane : ℕ) (busy : Bool) (n : ℕ) (events : List Event) → fold (is_busy_then lane) busy events ≡ true →
-    fold (begun_then lane) None events ≡ None → (busy ≡ true) × (ending_of lane n events ≡ StaysOpen)
-none_begun lane busy n [] open_still none = (open_still, refl)
-none_begun lane busy n (Begins u c ∷ events) open_still none = by (cases_eq u lane)
-    (none_begun lane (is_busy_then lane busy (Begins u c)) (n + 1) events open_still)
+none_begun : (lane : ℕ) (calls : Calls) (n : ℕ) (events : List Event) → IsSome (fold open_then calls events lane) →
+    fold (begun_then lane) None events ≡ None → IsSome (calls lane) × (ending_of lane n events ≡ StaysOpen)
+none_begun lane calls n [] open_still none = (open_still, refl)
+none_begun lane calls n (Begins u c ∷ events) open_still none = by (cases_eq u lane)
+    (none_begun lane (open_then calls (Begins u c)) (n + 1) events open_still)
   where
     by : (u ≡ lane) ⊎ (u ≢ lane) → (fold (begun_then lane) None events ≡ None →
-        (is_busy_then lane busy (Begins u c) ≡ true) × (ending_of lane (n + 1) events ≡ StaysOpen)) →
-        (busy ≡ true) × (ending_of lane n (Begins u c ∷ events) ≡ StaysOpen)
+        IsSome (open_then calls (Begins u c) lane) × (ending_of lane (n + 1) events ≡ StaysOpen)) →
+        IsSome (calls lane) × (ending_of lane n (Begins u c ∷ events) ≡ StaysOpen)
     by (inl same) later = absurd (stays_begun lane c events
         (ap (λ (b : Bool). fold (begun_then lane) (if b then Some c else None) events) (sym (eq-eqb u lane same)) ∙
         none))
     by (inr apart) later = let past = later (ap (λ (b : Bool). fold (begun_then lane) (if b then Some c else None)
         events)
         (sym (ne_eqb u lane apart)) ∙ none) in
-        (sym (busy_other lane busy (Begins u c) apart) ∙ past.0, past.1)
-none_begun lane busy n (Returns u r ∷ events) open_still none =
-    let past = none_begun lane (is_busy_then lane busy (Returns u r)) (n + 1) events open_still none in
-    let before = past_end u lane busy past.0 in
+        (sym (ap is_some (open_other lane calls (Begins u c) apart)) ∙ past.0, past.1)
+none_begun lane calls n (Returns u r ∷ events) open_still none =
+    let past = none_begun lane (open_then calls (Returns u r)) (n + 1) events open_still none in
+    let before = past_end u lane (calls lane) past.0 in
     (before.0, ending_spares lane n (Returns u r) events before.1 ∙ past.1)
-none_begun lane busy n (Withdraws u ∷ events) open_still none =
-    let past = none_begun lane (is_busy_then lane busy (Withdraws u)) (n + 1) events open_still none in
-    let before = past_end u lane busy past.0 in
+none_begun lane calls n (Withdraws u ∷ events) open_still none =
+    let past = none_begun lane (open_then calls (Withdraws u)) (n + 1) events open_still none in
+    let before = past_end u lane (calls lane) past.0 in
     (before.0, ending_spares lane n (Withdraws u) events before.1 ∙ past.1)
 
 module _ (limits : Bounds) (run : List Event) (course : Course) (is : IsCourse limits run course) (k : ℕ)
@@ -114,8 +115,8 @@ module _ (limits : Bounds) (run : List Event) (course : Course) (is : IsCourse l
           ap (take (length (front ++ e ∷ []))) (run_is ∙ sym (append_assoc front (e ∷ []) rest)) ∙
           take-append_seam (front ++ e ∷ []) rest
 
-      comes : MayCome (is_busy_after front) e
-      comes = next_comes front e rest (subst AreOfLock (ap (λ (xs : List Event). is.on.past ++ xs) here ∙
+      comes : MayCome (open_after front) e
+      comes = next_comes front e rest (subst AreOfLanes (ap (λ (xs : List Event). is.on.past ++ xs) here ∙
           sym (append_assoc is.on.past (take at events) (e ∷ rest))) is.on.whole)
 
   ended_by_end : (lane : ℕ) (reply : Option Reply) (earlier : List Event) →
@@ -132,12 +133,13 @@ module _ (limits : Bounds) (run : List Event) (course : Course) (is : IsCourse l
       standing = standing_up_to limits course.first course.seen at is.on.past events course.base is.on.whole
           (omega (arith, behind)) is.on.from_base
 
-      open_still : fold (is_busy_then lane) (is_busy_after is.on.past lane) (take at events) ≡ true
-      open_still = sym (fold-append (is_busy_then lane) false is.on.past (take at events)) ∙
-          taken_by_end (is_busy_after front) lane reply (comes (end_in lane reply) there here)
+      open_still : IsSome (fold open_then (open_after is.on.past) (take at events) lane)
+      open_still = sym (ap (λ (calls : Calls). is_some (calls lane))
+          (fold-append open_then none_open is.on.past (take at events))) ∙
+          taken_by_end (open_after front) lane reply (comes (end_in lane reply) there here)
 
       past : (is_busy_after is.on.past lane ≡ true) × (ending_of lane course.first (take at events) ≡ StaysOpen)
-      past = none_begun lane (is_busy_after is.on.past lane) course.first (take at events) open_still none
+      past = none_begun lane (open_after is.on.past) course.first (take at events) open_still none
   by_end lane reply there here (Some call) some = record {
     behind = behind;
     call = ended lane reply call;
@@ -149,8 +151,8 @@ module _ (limits : Bounds) (run : List Event) (course : Course) (is : IsCourse l
   by_event : (e : Event) → slice_get events at ≡ Some e → events ≡ take at events ++ e ∷ drop (at + 1) events →
       KeepsEnd course k
   by_event (Begins lane call) there here = absurd (stuck.stuck (subst (AreExplained limits)
-      (sym (with_it (Begins lane call) there here)) (begins_next limits lane call front [] all_idle false refl
-      (comes (Begins lane call) there here).0
+      (sym (with_it (Begins lane call) there here)) (begins_next (Both limits) start lane call front
+      (ap is_some (comes (Begins lane call) there here))
       (subst (AreExplained limits) (before (Begins lane call) there here) stuck.explained))))
   by_event (Returns lane reply) there here =
       by_end lane (Some reply) there here (begun_in lane (take at events)) refl

@@ -9,7 +9,7 @@ use Rattle.stamp_runs.specs.declared.event.Event.{Event}
 use Rattle.stamp_watch.specs.declared.course.Course.{Course}
 use Rattle.stamp_sets.specs.declared.watch.Watch.{Watch}
 use Rattle.stamp_watch.specs.Course.{HasRoom, IsCourse, IsStanding}
-use Rattle.stamp_watch.specs.Verdict.{AreOfLock}
+use Rattle.stamp_watch.specs.Verdict.{AreOfLanes}
 use Rattle.stamp_watch.specs.declared.online.Judge.{Judge}
 use Rattle.stamp_watch.specs.Possible.{IsKept, KeepsBase}
 
@@ -41,7 +41,7 @@ kept_same limits run old new same is = record {
   more = is.more;
   run_is = is.run_is ∙ ap (λ (es : Vec Event Global). is.past ++ (es.items ++ is.more)) (sym same.events);
   place = same.first ∙ is.place;
-  whole = subst (λ (es : Vec Event Global). AreOfLock (is.past ++ es.items)) (sym same.events) is.whole;
+  whole = subst (λ (es : Vec Event Global). AreOfLanes (is.past ++ es.items)) (sym same.events) is.whole;
   within = subst (λ (k : ℕ). k ≤ length new.events.items) (sym same.seen)
       (subst (λ (es : Vec Event Global). old.seen ≤ length es.items) (sym same.events) is.within);
   from_base = subst (λ (w : Watch). IsStanding limits new.first is.past (take new.seen new.events.items) w)

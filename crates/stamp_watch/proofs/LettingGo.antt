@@ -8,7 +8,7 @@ use Rattle.std.proofs.Math.Seq.{take-add, drop-append-add}
 use Rattle.stamp_core.specs.Limits.{Bounds}
 use Rattle.stamp_runs.specs.declared.event.Event.{Event}
 use Rattle.stamp_sets.specs.declared.watch.Watch.{Watch}
-use Rattle.stamp_watch.specs.Verdict.{AreOfLock}
+use Rattle.stamp_watch.specs.Verdict.{AreOfLanes}
 use Rattle.stamp_sets.specs.Watch.{IsCopy}
 use Rattle.stamp_watch.specs.Course.{IsLooked, IsRunOn, IsSpare, IsStanding}
 use Rattle.stamp_watch.proofs.Judged.{cut_behind, length_behind}
@@ -97,8 +97,8 @@ module _ (limits : Bounds) (run : List Event) (first seen : ℕ) (events : List 
     seam = append_assoc is.past (take place events) (drop place events) ∙
         ap (λ (xs : List Event). is.past ++ xs) (take-append-drop place events)
 
-    whole_there : AreOfLock ((is.past ++ take place events) ++ drop place events)
-    whole_there = subst AreOfLock (sym seam) is.whole
+    whole_there : AreOfLanes ((is.past ++ take place events) ++ drop place events)
+    whole_there = subst AreOfLanes (sym seam) is.whole
 
     long_there : first + place ≡ length (is.past ++ take place events)
     long_there =

@@ -11,9 +11,8 @@ use Rattle.stamp_runs.specs.declared.event.Event.TheVariants.{Begins, Returns, W
 use Rattle.stamp_runs.specs.Run.{IsEndOf, EndsNever}
 use Rattle.stamp_sets.specs.declared.ending.Ending.{Ending}
 use Rattle.stamp_sets.specs.declared.ending.Ending.TheVariants.{Never}
-use Rattle.stamp_sets.specs.declared.ending.SmallEnding.TheVariants as small
 use Rattle.stamp_watch.specs.AsObserved.{ending_of}
-use Rattle.stamp_watch.specs.inner.Foretold.{ends_as}
+use Rattle.stamp_watch.specs.Foretold.{told_as}
 use Rattle.stamp_watch.specs.Course.{LeavesOpen, IsLooked}
 use Rattle.stamp_watch.specs.inner.Judging.{IsEndTold}
 use Rattle.stamp_watch.specs.inner.Course.{IsUnknown}
@@ -51,7 +50,7 @@ leaves_none (Withdraws lane) = tt
 
 leaves_all : (e : Event) (n : ℕ) (ahead : List Event) (ends : Ending) → IsUnknown e ends →
     IsEndTold e n ahead ends → LeavesOpen e ahead
-leaves_all (Begins lane call) n ahead ends never told = ends_so lane n ahead small.Never (sym (ap ends_as never) ∙ told)
+leaves_all (Begins lane call) n ahead ends never told = ends_so lane n ahead Never (sym (ap told_as never) ∙ told)
 leaves_all (Returns lane reply) n ahead ends never told = tt
 leaves_all (Withdraws lane) n ahead ends never told = tt
 

@@ -1,35 +1,31 @@
 -- From a way along the events an order of the calls that are ahead.
-use Rattle.std.proofs.Common.{◌≡◌, ◌⊎◌, ℕ, ◌+◌, ◌<◌, ◌≤◌, Bool, true, false, List, [], ◌∷◌, length, get_or, refl, sym}
+use Rattle.std.proofs.Common.{◌≡◌, ◌⊎◌, ℕ, ◌+◌, ◌<◌, ◌≤◌, List, [], ◌∷◌, length, get_or, refl, sym}
 use Rattle.std.proofs.Common.{◌∙◌, ap, subst, inl, inr, arith, Option, Some, None}
 use Rattle.std.specs.Prelude.{map, MatchOption}
-use Rattle.std.specs.List.{All, AllPairs, Contains}
-use Rattle.std.proofs.lemmas.Bool.{false≢true}
+use Rattle.std.specs.List.{All, AllPairs, AllZip, Contains}
 use Rattle.std.proofs.lemmas.List.Elements.{All-nil, All-cons, All-weaker}
 use Rattle.std.proofs.lemmas.Option.{slice_get-get_or, none-some}
-use Rattle.stamp_core.specs.LockEvent.{LockEvent}
-use Rattle.stamp_core.specs.Limits.{Bounds}
-use Rattle.stamp_core.specs.Call.{is_lock_call}
-use Rattle.stamp_core.specs.Transition.{transition}
-use Rattle.stamp_core.specs.History.{Replies}
 use Rattle.stamp_core.specs.declared.call.Call.{Call}
-use Rattle.stamp_core.specs.declared.call.Call.TheVariants.{Get, Put, PutIf}
 use Rattle.stamp_core.specs.declared.reply.Reply.{Reply}
 use Rattle.stamp_explain.specs.declared.observed.Observation.{Observation}
 use Rattle.stamp_explain.specs.declared.observed.Returned.{Returned}
 use Rattle.stamp_explain.specs.Observed.{IsBefore, HasReturned}
 use Rattle.stamp_explain.specs.Explained.{Effect, IsEffectOf, history_of, AreOfTwoEntries, RespectsBefore}
-use Rattle.stamp_explain.specs.Search.{Runs, LockAlone}
+use Rattle.stamp_explain.specs.Search.{Runs}
 use Rattle.stamp_explain.proofs.Lists.{none_in_empty, contains_first, contains_rest, pairs_none, pairs_cons}
 use Rattle.stamp_explain.proofs.Completing.{same_entry}
 use Rattle.stamp_explain.proofs.Finding.{has_returned}
 use Rattle.stamp_runs.specs.declared.event.Event.{Event}
-use Rattle.stamp_runs.specs.Object.{LockStep}
-use Rattle.stamp_runs.specs.Run.{Lanes, Leads, Sets}
-use Rattle.stamp_runs.specs.Run.Leads.{leads_nowhere, by_effect, by_event}
+use Rattle.stamp_runs.specs.Object.{Object}
+use Rattle.stamp_runs.specs.Run.{Lanes, Sets}
 use Rattle.stamp_runs.specs.Run.Phase.{Asks, Gets}
+use Rattle.stamp_runs.specs.Trace.{LeadsBy, Taken, taken_at}
+use Rattle.stamp_runs.specs.Trace.LeadsBy.{led_nowhere, by_taken, by_next}
 use Rattle.stamp_runs.proofs.Lanes.{asks_or_gets}
 use Rattle.stamp_watch.specs.AsObserved.{ending_of}
-use Rattle.stamp_watch.proofs.Numbered.{IsEntryOf, HasEntry, entry_tells, entry_of_reply, entry_returned, one_entry}
+use Rattle.stamp_watch.specs.Ordered.{IsTakenAs}
+use Rattle.stamp_watch.proofs.Numbered.{AreOfEntry, IsEntryOf, HasEntry, entry_tells, entry_of_reply}
+use Rattle.stamp_watch.proofs.Numbered.{entry_returned, one_entry}
 use Rattle.stamp_watch.proofs.Numbered.{open_or_ended}
 use Rattle.stamp_watch.proofs.Remaining.{IsAhead, takes_there, takes_back, takes_apart, ahead_last}
 use Rattle.stamp_watch.proofs.Remaining.{HaveBegun}
@@ -44,22 +40,26 @@ pub record IsLate (end : ℕ) (e : Observation) : Type 0 where
   pub begins : end ≤ e.first
   pub open_still : e.returned ≡ None
 
+-- the object's answers
+abbrev pub AnswersOf : {S : Type 0} → Object S → S → Call × Reply → S → Type 0
+AnswersOf O s x t = O s x.0 x.1 t
+
 -- in this order the calls that are ahead may take effect from this state on
-pub record IsPlan (limits : Bounds) (entries : List Observation) (ahead : Observation → Type 0) (end : ℕ)
-    (s : List LockEvent) (order : List Effect) : Type 0 where
+pub record IsPlan {S : Type 0} (O : Object S) (entries : List Observation) (ahead : Observation → Type 0) (end : ℕ)
+    (s : S) (order : List Effect) : Type 0 where
   pub effects : All (IsEffectOf entries) order
   pub each : All (λ (x : Effect). ahead x.entry ⊎ IsLate end x.entry) order
   pub once : AllPairs AreOfTwoEntries order
   pub whole : (e : Observation) → ahead e → HasReturned e → Contains (entries_of order) e
   pub ordered : AllPairs RespectsBefore order
-  pub runs : Runs (LockAlone limits) s (history_of order)
+  pub runs : Runs (AnswersOf O) s (history_of order)
 
 -- a plan for the same calls, named otherwise
-pub same_plan : (limits : Bounds) (entries : List Observation) (old new : Observation → Type 0) (end then_end : ℕ)
-    (s : List LockEvent) (order : List Effect) → then_end ≤ end → ((e : Observation) → old e → new e) →
-    ((e : Observation) → new e → old e) → IsPlan limits entries old end s order →
-    IsPlan limits entries new then_end s order
-same_plan limits entries old new end then_end s order less there back plan = record {
+pub same_plan : {S : Type 0} (O : Object S) (entries : List Observation) (old new : Observation → Type 0)
+    (end then_end : ℕ) (s : S) (order : List Effect) → then_end ≤ end → ((e : Observation) → old e → new e) →
+    ((e : Observation) → new e → old e) → IsPlan O entries old end s order →
+    IsPlan O entries new then_end s order
+same_plan O entries old new end then_end s order less there back plan = record {
   effects = plan.effects;
   each = All-weaker (λ (x : Effect). old x.entry ⊎ IsLate end x.entry)
       (λ (x : Effect). new x.entry ⊎ IsLate then_end x.entry) (λ x is. by x.entry is) order plan.each;
@@ -74,46 +74,24 @@ same_plan limits entries old new end then_end s order less there back plan = rec
     by e (inr late) = let from = late.begins in
         inr (record { begins = omega arith; open_still = late.open_still })
 
--- the lock answers its own calls alone
-lock_replies : (limits : Bounds) (s : List LockEvent) (call : Call) (reply : Reply) →
-    Replies (transition limits s call) reply → is_lock_call call ≡ true
-lock_replies limits s call reply replies = by (is_lock_call call) refl
-  where
-    none : (x : Call) → is_lock_call x ≡ false → Replies (transition limits s x) reply → ⊥
-    none Get not_lock h = h
-    none (Put words) not_lock h = h
-    none (PutIf expected words) not_lock h = h
-    none _ not_lock h = absurd (false≢true (sym not_lock))
-
-    by : (b : Bool) → is_lock_call call ≡ b → is_lock_call call ≡ true
-    by true lock = lock
-    by false not_lock = absurd (none call not_lock replies)
-
-lock_alone : (limits : Bounds) (s next : List LockEvent) (call : Call) (reply : Reply) →
-    LockStep limits s call reply next → LockAlone limits s (call, reply) next
-lock_alone limits s next call reply step = record {
-  lock = lock_replies limits s call reply step.replies;
-  replies = step.replies;
-  appends = step.appends;
-}
-
 pub before_last : (a b : Observation) (r : Returned) → a.returned ≡ Some r → IsBefore a b → r.last < b.first
 before_last a b r back before =
     subst (λ (o : Option Returned). MatchOption o ⊥ (λ (q : Returned). q.last < b.first)) back before
 
--- an order for the calls that are ahead; and what calls in effect have got is what they return
-pub record IsPlanned (limits : Bounds) (entries : List Observation) (events : List Event) (n : ℕ)
-    (s : List LockEvent) (lanes : Lanes) (begun : ℕ → ℕ) : Type 0 where
+-- this order for the calls that are ahead; and what calls in effect have got is what they return
+pub record IsPlanned {S : Type 0} (O : Object S) (entries : List Observation) (events : List Event) (n : ℕ)
+    (s : S) (lanes : Lanes) (begun : ℕ → ℕ) (taken : List Taken) : Type 0 where
   pub order : List Effect
-  pub plan : IsPlan limits entries (IsAhead lanes begun n events) (n + length events) s order
+  pub as_taken : AllZip IsTakenAs taken order
+  pub plan : IsPlan O entries (IsAhead lanes begun n events) (n + length events) s order
   pub gets : HaveGot lanes n events
 
 -- one call more takes effect before others
-module _ (limits : Bounds) (entries : List Observation) (events : List Event) (n : ℕ) (s next : List LockEvent)
+module _ {S : Type 0} (O : Object S) (entries : List Observation) (events : List Event) (n : ℕ) (s next : S)
     (lanes after : Lanes) (begun : ℕ → ℕ) (lane : ℕ) (call : Call) (reply : Reply) (asks : lanes lane ≡ Asks call)
-    (low : begun lane < n) (step : LockStep limits s call reply next) (sets : Sets lanes after lane (Gets reply))
-    (inside : (e : Observation) → IsAhead lanes begun n events e → Contains entries e)
-    (later : IsPlanned limits entries events n next after begun)
+    (low : begun lane < n) (step : O s call reply next) (sets : Sets lanes after lane (Gets reply))
+    (inside : (e : Observation) → IsAhead lanes begun n events e → Contains entries e) (taken : List Taken)
+    (later : IsPlanned O entries events n next after begun taken)
   where
     its : HasEntry lane call (begun lane) (ending_of lane n events) reply
     its = entry_of_reply lane call (begun lane) (ending_of lane n events) reply (later.gets lane reply sets.here)
@@ -126,6 +104,9 @@ module _ (limits : Bounds) (entries : List Observation) (events : List Event) (n
 
     effect : Effect
     effect = record { index = place.0; entry = its.entry; reply = reply }
+
+    tells : AreOfEntry lane call (begun lane) its.entry
+    tells = entry_tells lane call (begun lane) (ending_of lane n events) its.entry its.is
 
     is_effect : IsEffectOf entries effect
     unfolding effect
@@ -147,7 +128,7 @@ module _ (limits : Bounds) (entries : List Observation) (events : List Event) (n
             (subst (λ (o : Observation). IsEntryOf lane call (begun lane) (ending_of lane n events) o) entry its.is)
             later_on
         by (inr late) =
-            let at = (entry_tells lane call (begun lane) (ending_of lane n events) its.entry its.is).its_first in
+            let at = tells.its_first in
             let same_first = ap (λ (o : Observation). o.first) entry in
             let from = late.begins in omega arith
 
@@ -158,15 +139,24 @@ module _ (limits : Bounds) (entries : List Observation) (events : List Event) (n
       where
         by : IsAhead after begun n events y.entry ⊎ IsLate (n + length events) y.entry → HasReturned y.entry → ⊥
         by (inl later_on) back =
-            let at = (entry_tells lane call (begun lane) (ending_of lane n events) its.entry its.is).its_first in
+            let at = tells.its_first in
             let last = ahead_last after begun n events y.entry back.0 later_on back.1 in
             let less = before_last y.entry its.entry back.0 back.1 before in omega arith
         by (inr late) back = none-some back.0 (sym late.open_still ∙ back.1)
 
-    pub takes_first : IsPlanned limits entries events n s lanes begun
+    pub takes_first : IsPlanned O entries events n s lanes begun (taken_at n (lane, reply) ∷ taken)
     unfolding effect
     takes_first = record {
       order = effect ∷ later.order;
+      as_taken = (
+        record {
+          lane = tells.its_lane;
+          reply = refl;
+          began = let at = tells.its_first in omega arith;
+          still_open = λ r back. ahead_last lanes begun n events its.entry r ahead back;
+        },
+        later.as_taken,
+      );
       plan = record {
         effects = All-cons (IsEffectOf entries) effect later.order is_effect later.plan.effects;
         each = All-cons (λ (x : Effect). IsAhead lanes begun n events x.entry ⊎ IsLate (n + length events) x.entry)
@@ -183,9 +173,8 @@ module _ (limits : Bounds) (entries : List Observation) (events : List Event) (n
         runs = (
           next,
           (
-            subst (λ (c : Call). LockAlone limits s (c, reply) next)
-                (sym (entry_tells lane call (begun lane) (ending_of lane n events) its.entry its.is).its_call)
-                (lock_alone limits s next call reply step),
+            subst (λ (c : Call). O s c reply next)
+                (sym tells.its_call) step,
             later.plan.runs,
           ),
         );
@@ -207,14 +196,15 @@ module _ (limits : Bounds) (entries : List Observation) (events : List Event) (n
             (one_entry lane call (begun lane) (ending_of lane n events) its.entry e its.is is)
 
 -- an event comes before them
-planned_past : (limits : Bounds) (entries : List Observation) (event : Event) (events : List Event) (n : ℕ)
-    (s : List LockEvent) (lanes after : Lanes) (begun then_begun : ℕ → ℕ) →
+planned_past : {S : Type 0} (O : Object S) (entries : List Observation) (event : Event) (events : List Event) (n : ℕ)
+    (s : S) (lanes after : Lanes) (begun then_begun : ℕ → ℕ) (taken : List Taken) →
     MovesOn lanes after begun then_begun n event events →
-    IsPlanned limits entries events (n + 1) s after then_begun →
-    IsPlanned limits entries (event ∷ events) n s lanes begun
-planned_past limits entries event events n s lanes after begun then_begun moves later = record {
+    IsPlanned O entries events (n + 1) s after then_begun taken →
+    IsPlanned O entries (event ∷ events) n s lanes begun taken
+planned_past O entries event events n s lanes after begun then_begun taken moves later = record {
   order = later.order;
-  plan = same_plan limits entries (IsAhead after then_begun (n + 1) events) (IsAhead lanes begun n (event ∷ events))
+  as_taken = later.as_taken;
+  plan = same_plan O entries (IsAhead after then_begun (n + 1) events) (IsAhead lanes begun n (event ∷ events))
       (n + 1 + length events) (n + length (event ∷ events)) s later.order (omega arith) moves.back moves.there
       later.plan;
   gets = moves.gets_back later.gets;
@@ -226,13 +216,14 @@ nothing_ahead lanes begun n e (of_open lane call asks is) back = open_or_ended
     (entry_returned lane call (begun lane) (ending_of lane n []) e back.0 is back.1)
 nothing_ahead lanes begun n e (of_later has) back = none_in_empty e has
 
--- each way along the events has such an order
-pub planned : (limits : Bounds) (entries : List Observation) (events : List Event) (n : ℕ) (s : List LockEvent)
-    (lanes : Lanes) (begun : ℕ → ℕ) {t : List LockEvent} {last : Lanes} → HaveBegun lanes begun n →
+-- the order of each way along the events is such a one
+pub planned : {S : Type 0} (O : Object S) (entries : List Observation) (events : List Event) (n : ℕ) (s : S)
+    (lanes : Lanes) (begun : ℕ → ℕ) {taken : List Taken} {t : S} {last : Lanes} → HaveBegun lanes begun n →
     ((e : Observation) → IsAhead lanes begun n events e → Contains entries e) →
-    Leads (LockStep limits) events s lanes t last → IsPlanned limits entries events n s lanes begun
-planned limits entries events n s lanes begun low inside leads_nowhere = record {
+    LeadsBy O n taken events s lanes t last → IsPlanned O entries events n s lanes begun taken
+planned O entries events n s lanes begun low inside led_nowhere = record {
   order = [];
+  as_taken = tt;
   plan = record {
     effects = All-nil (IsEffectOf entries);
     each = All-nil (λ (x : Effect). IsAhead lanes begun n [] x.entry ⊎ IsLate (n + length {A = Event} []) x.entry);
@@ -243,17 +234,17 @@ planned limits entries events n s lanes begun low inside leads_nowhere = record 
   };
   gets = λ lane reply is. tt;
 }
-planned limits entries events n s lanes begun low inside (by_effect {next = next} {after = after} lane call reply
-    asks step sets rest) = takes_first limits entries events n s next lanes after begun lane call reply asks
-    (low lane call asks) step sets inside
-    (planned limits entries events n next after begun
+planned O entries events n s lanes begun low inside (by_taken {order = taken} {next = next} {after = after} lane call
+    reply asks step sets rest) = takes_first O entries events n s next lanes after begun lane call reply asks
+    (low lane call asks) step sets inside taken
+    (planned O entries events n next after begun
     (have_begun_still lanes after begun lane n n (omega arith) (λ c asks_c. asks_or_gets asks_c sets.here) sets.others
     low)
     (λ e is. inside e (takes_back lanes after begun lane n reply events e sets is)) rest)
-planned limits entries events n s lanes begun low inside (by_event {events = more} {after =
-    after} event happens rest) =
+planned O entries events n s lanes begun low inside (by_next {order = taken} {events = more} {after = after} event
+    happens rest) =
     let moves : MovesOn lanes after begun (begun_then begun n event) n event more =
     happens_moves lanes after begun n event more happens in
-    planned_past limits entries event more n s lanes after begun (begun_then begun n event) moves
-    (planned limits entries more (n + 1) s after (begun_then begun n event) (moves.low low)
+    planned_past O entries event more n s lanes after begun (begun_then begun n event) taken moves
+    (planned O entries more (n + 1) s after (begun_then begun n event) (moves.low low)
     (λ e is. inside e (moves.back e is)) rest)

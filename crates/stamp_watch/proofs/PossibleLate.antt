@@ -7,12 +7,12 @@ use Rattle.std.proofs.lemmas.List.{length-append, length-drop, take-append-le, t
 use Rattle.std.proofs.lemmas.List.{get_or-take}
 use Rattle.std.proofs.lemmas.Option.{get_or_from_slice_get, slice_get_read, slice_get_within}
 use Rattle.stamp_core.specs.Limits.{Bounds}
-use Rattle.stamp_core.specs.LockDecision.{reply_as}
-use Rattle.stamp_core.specs.declared.lock_decision.LockReply.{LockReply}
 use Rattle.stamp_core.specs.declared.reply.Reply.{Reply}
 use Rattle.stamp_runs.specs.declared.event.Event.{Event}
 use Rattle.stamp_runs.specs.declared.event.Event.TheVariants.{Returns}
-use Rattle.stamp_runs.specs.LockRun.{AreExplained}
+use Rattle.stamp_runs.specs.BothRun.{AreExplained}
+use Rattle.stamp_sets.specs.SmallCall.{reply_of}
+use Rattle.stamp_sets.specs.declared.small_call.SmallReply.{SmallReply}
 use Rattle.stamp_watch.specs.declared.delay.Delay.{Delay}
 use Rattle.stamp_watch.specs.declared.late.LateJudge.{LateJudge}
 use Rattle.stamp_watch.specs.Delay.{IsDelayed, IsFirstIfAny}
@@ -163,7 +163,7 @@ module _ (limits : Bounds) (run given : List Event) (k : ℕ) (less : k < length
         (before_it run given k (sym same)) is.explained;
   }
 
-  among_then : (tried : List LockReply) (found : List Reply) → ArePossibleAmong limits given k tried found →
+  among_then : (tried : List SmallReply) (found : List Reply) → ArePossibleAmong limits given k tried found →
       ArePossibleAmong limits run k tried found
   among_then tried found is = record {
     each = λ reply. (
@@ -173,7 +173,7 @@ module _ (limits : Bounds) (run given : List Event) (k : ℕ) (less : k < length
     once = is.once;
   }
 
-  too_many_then : (most : ℕ) (tried : List LockReply) → AreTooManyWith limits given k most tried →
+  too_many_then : (most : ℕ) (tried : List SmallReply) → AreTooManyWith limits given k most tried →
       AreTooManyWith limits run k most tried
   too_many_then most tried is = (
     is.0,
@@ -185,7 +185,7 @@ module _ (limits : Bounds) (run given : List Event) (k : ℕ) (less : k < length
       place = is.2.place;
       past = is.2.past;
       future = is.2.future;
-      parts = is.2.parts ∙ ap (λ (xs : List Event). xs ++ Returns is.2.lane (reply_as is.0) ∷ [])
+      parts = is.2.parts ∙ ap (λ (xs : List Event). xs ++ Returns is.2.lane (reply_of is.0) ∷ [])
           (before_it given run k same);
       too_many = is.2.too_many;
     },
@@ -206,10 +206,10 @@ module _ (judge : LateJudge) (k at lane : ℕ) (here : IsReturnHere judge.delay.
 
 -- what is told where the event is kept, and no call before it was put aside
 pub told_later : (judge : LateJudge) (k at lane : ℕ) → IsReturnHere judge.delay.judge k at lane →
-    MatchOption judge.delay.first_late ⊤ (λ (n : ℕ). k < n) → (plain : Option (List LockReply))
+    MatchOption judge.delay.first_late ⊤ (λ (n : ℕ). k < n) → (plain : Option (List SmallReply))
     (told : Option (List Reply)) →
-    MatchOption plain (told ≡ None) (λ (tried : List LockReply). IsTold judge.delay.judge k tried told) →
-    MatchOption plain (told ≡ None) (λ (tried : List LockReply). IsToldLater judge k tried told)
+    MatchOption plain (told ≡ None) (λ (tried : List SmallReply). IsTold judge.delay.judge k tried told) →
+    MatchOption plain (told ≡ None) (λ (tried : List SmallReply). IsToldLater judge k tried told)
 told_later judge k at lane here before None told is = is
 told_later judge k at lane here before (Some tried) (Some found) is = λ limits run keeps.
     let same = same_here judge k at lane here before limits run keeps in
@@ -224,8 +224,8 @@ told_later judge k at lane here before (Some tried) None is = λ can limits run 
 abbrev pub nothing : Option (List Reply)
 nothing = None
 
-pub not_told : (judge : LateJudge) (k : ℕ) → ¬ CanTellLater judge k → (plain : Option (List LockReply)) →
-    MatchOption plain (nothing ≡ None) (λ (tried : List LockReply). IsToldLater judge k tried nothing)
+pub not_told : (judge : LateJudge) (k : ℕ) → ¬ CanTellLater judge k → (plain : Option (List SmallReply)) →
+    MatchOption plain (nothing ≡ None) (λ (tried : List SmallReply). IsToldLater judge k tried nothing)
 not_told judge k none None = refl
 not_told judge k none (Some tried) = λ can. absurd (none can)
 

@@ -1,9 +1,8 @@
 -- A run that is judged while it goes on.
-use Rattle.std.proofs.Common.{ℕ, ◌≡◌, ◌≢◌, ◌⊎◌, ◌+◌, ◌-◌, ◌<◌, ◌≤◌, Bool, true, false, List, [], ◌∷◌, ◌++◌, length}
+use Rattle.std.proofs.Common.{ℕ, ◌≡◌, ◌≢◌, ◌⊎◌, ◌+◌, ◌-◌, ◌<◌, ◌≤◌, true, List, [], ◌∷◌, ◌++◌, length}
 use Rattle.std.proofs.Common.{get_or, Option, Some, refl, sym, ◌∙◌, ap, subst, inl, inr, arith, append_assoc}
-use Rattle.std.proofs.Common.{append-nil, add_assoc, ne_eqb}
-use Rattle.std.specs.Prelude.{take, drop, not, ◌||◌}
-use Rattle.std.specs.Option.{is_some}
+use Rattle.std.proofs.Common.{append-nil, add_assoc}
+use Rattle.std.specs.Prelude.{take, drop, is_some, IsSome}
 use Rattle.std.proofs.lemmas.Bool.{cases_eq, false≢true}
 use Rattle.std.proofs.lemmas.List.{take-append-drop, take-append-le, take_rest, drop-append-le, length-append}
 use Rattle.std.proofs.lemmas.List.{length-drop, drop-drop}
@@ -11,7 +10,7 @@ use Rattle.std.proofs.Math.Seq.{take-add, take-append_seam}
 use Rattle.stamp_core.specs.Limits.{Bounds}
 use Rattle.stamp_runs.specs.declared.event.Event.{Event}
 use Rattle.stamp_runs.specs.declared.event.Event.TheVariants.{Begins, Returns, Withdraws}
-use Rattle.stamp_runs.specs.LockRun.{AreExplained}
+use Rattle.stamp_runs.specs.BothRun.{AreExplained}
 use Rattle.stamp_runs.specs.Run.{IsEndOf}
 use Rattle.stamp_sets.specs.declared.ending.Ending.{Ending}
 use Rattle.stamp_sets.specs.declared.ending.Ending.TheVariants as ending
@@ -19,12 +18,13 @@ use Rattle.stamp_sets.specs.declared.open_call.OpenCall.{OpenCall}
 use Rattle.stamp_sets.specs.declared.progress.Progress.{Progress}
 use Rattle.stamp_sets.specs.declared.progress.Progress.TheVariants as progress
 use Rattle.stamp_sets.specs.declared.watch.Watch.{Watch}
+use Rattle.stamp_runs.proofs.Owning.{in_other}
 use Rattle.stamp_watch.specs.AsObserved.{AreEnded, ending_of}
 use Rattle.stamp_watch.specs.AsObserved.Ending.{StaysOpen}
-use Rattle.stamp_sets.specs.Told.{open_at}
-use Rattle.stamp_watch.specs.inner.Foretold.{ends_as}
-use Rattle.stamp_watch.specs.Form.{is_busy_then, is_busy_after}
-use Rattle.stamp_watch.specs.Verdict.{AreOfLock, AreTooMany, IsFarEnough, IsVerdict, MayComeNext}
+use Rattle.stamp_runs.specs.Own.{open_after, open_then}
+use Rattle.stamp_watch.specs.Foretold.{told_as}
+use Rattle.stamp_watch.specs.Form.{is_busy_after}
+use Rattle.stamp_watch.specs.Verdict.{AreOfLanes, AreTooMany, IsFarEnough, IsVerdict, MayComeNext}
 use Rattle.stamp_watch.specs.Judging.{IsFound, IsJudging}
 use Rattle.stamp_watch.specs.inner.Judging.{IsBase, IsEndTold, IsOutcome, IsStep, IsStuckBehind, IsStuckFrom}
 use Rattle.stamp_watch.specs.Course.{IsOver, IsRest, IsRunOn, IsStanding}
@@ -34,13 +34,13 @@ use Rattle.stamp_watch.specs.declared.judge.Outcome.TheVariants as judged
 use Rattle.stamp_watch.specs.declared.verdict.Verdict.{Verdict}
 use Rattle.stamp_watch.specs.declared.verdict.Verdict.TheVariants as verdict
 use Rattle.stamp_watch.specs.declared.verdict.Why.TheVariants as cause
-use Rattle.stamp_watch.proofs.Form.{busy_after_one, past_end}
-use Rattle.stamp_watch.proofs.Forming.{form_first, of_lock_up_to}
+use Rattle.stamp_watch.proofs.Form.{past_end}
+use Rattle.stamp_watch.proofs.Forming.{busy_after_one, form_first, of_lanes_up_to}
 use Rattle.stamp_watch.proofs.Judged.{cut_behind, rest_behind, judging_here, judging_more, past_on, unexplained_here}
 use Rattle.stamp_watch.proofs.Judged.{length_behind, too_many_here}
-use Rattle.stamp_watch.proofs.Judging.{judging_first, judging_copied}
+use Rattle.stamp_watch.proofs.Judging.{agrees, judging_first, judging_copied}
 use Rattle.stamp_watch.proofs.Reading.{drop_read}
-use Rattle.stamp_sets.specs.Watch.{IsCopy, IsUntold, IsWatching}
+use Rattle.stamp_sets.specs.Watch.{IsCopy, IsUntold, IsWatching, open_of}
 use Rattle.stamp_watch.proofs.Numbered.{end_or_not, end_told, ending_spares, open_or_ended}
 
 -- how a call ends stays as it is when more events come
@@ -60,7 +60,7 @@ ending_stays lane n (event ∷ events) more ended = by (end_or_not lane event)
 
 -- so a watch goes on judging when more events come
 pub standing_more : (limits : Bounds) (n : ℕ) (past future more : List Event) (watch : Watch) →
-    AreOfLock (past ++ (future ++ more)) → IsStanding limits n past future watch →
+    AreOfLanes (past ++ (future ++ more)) → IsStanding limits n past future watch →
     IsStanding limits n past (future ++ more) watch
 standing_more limits n past future more watch whole is = record {
   judging = record {
@@ -69,7 +69,6 @@ standing_more limits n past future more watch whole is = record {
     explained = is.judging.explained;
     followed = record {
       whole = whole;
-      agrees = is.judging.followed.agrees;
       told = λ lane begun opened. is.judging.followed.told lane begun opened ∙
           sym (ending_stays lane n future more (is.ended.ends lane (busy lane begun opened)));
       last = is.judging.followed.last;
@@ -81,18 +80,18 @@ standing_more limits n past future more watch whole is = record {
   };
 }
   where
-    busy : (lane : ℕ) (begun : OpenCall) → open_at watch.table.items lane ≡ Some begun →
+    busy : (lane : ℕ) (begun : OpenCall) → open_of watch lane ≡ Some begun →
         is_busy_after past lane ≡ true
-    busy lane begun opened = sym (is.judging.followed.agrees lane) ∙ ap is_some opened
+    busy lane begun opened = sym (agrees past watch is.judging.watching lane) ∙ ap is_some opened
 
 -- behind others, from so many of these events to more of them
 pub standing_up_to : (limits : Bounds) (n k m : ℕ) (past events : List Event) (watch : Watch) →
-    AreOfLock (past ++ events) → k ≤ m → IsStanding limits n past (take k events) watch →
+    AreOfLanes (past ++ events) → k ≤ m → IsStanding limits n past (take k events) watch →
     IsStanding limits n past (take m events) watch
 standing_up_to limits n k m past events watch whole less is =
     subst (λ (future : List Event). IsStanding limits n past future watch) (sym parts)
     (standing_more limits n past (take k events) (take (m - k) (drop k events)) watch
-    (subst (λ (future : List Event). AreOfLock (past ++ future)) parts part) is)
+    (subst (λ (future : List Event). AreOfLanes (past ++ future)) parts part) is)
   where
     sum_is : k + (m - k) ≡ m
     sum_is = omega (arith, less)
@@ -100,22 +99,22 @@ standing_up_to limits n k m past events watch whole less is =
     parts : take m events ≡ take k events ++ take (m - k) (drop k events)
     parts = ap (λ (i : ℕ). take i events) (sym sum_is) ∙ take-add k (m - k) events
 
-    part : AreOfLock (past ++ take m events)
-    part = subst AreOfLock (cut_behind (length past) m past events refl)
-        (of_lock_up_to (length past + m) (past ++ events) whole)
+    part : AreOfLanes (past ++ take m events)
+    part = subst AreOfLanes (cut_behind (length past) m past events refl)
+        (of_lanes_up_to (length past + m) (past ++ events) whole)
 
 -- the end that is told of a call, where it is known
-told_ended : (ends : Ending) → ends ≢ ending.Never → ends_as ends ≢ StaysOpen
+told_ended : (ends : Ending) → ends ≢ ending.Never → told_as ends ≢ StaysOpen
 told_ended (ending.Returns told place) known open_still = open_or_ended (sym open_still)
 told_ended ending.Withdraws known open_still = cc
 told_ended ending.Never known open_still = absurd (known refl)
 
 ended_past : (n : ℕ) (past : List Event) (e : Event) (ahead : List Event) → AreEnded n past (e ∷ ahead) →
-    ((lane : ℕ) → is_busy_then lane (is_busy_after past lane) e ≡ true →
+    ((lane : ℕ) → IsSome (open_then (open_after past) e lane) →
     (is_busy_after past lane ≡ true) × (¬ IsEndOf lane e)) → AreEnded (n + 1) (past ++ e ∷ []) ahead
 ended_past n past e ahead old was = record {
   ends = λ lane busy open_still.
-      let before = was lane (sym (busy_after_one lane false past e) ∙ busy) in
+      let before = was lane (sym (busy_after_one past e lane) ∙ busy) in
       old.ends lane before.0 (ending_spares lane n e ahead before.1 ∙ open_still);
 }
 
@@ -124,19 +123,19 @@ pub ended_on : (n : ℕ) (past : List Event) (e : Event) (ahead : List Event) (e
     AreEnded n past (e ∷ ahead) → IsEndTold e (n + 1) ahead ends → IsKnown e ends →
     AreEnded (n + 1) (past ++ e ∷ []) ahead
 ended_on n past (Begins v call) ahead ends old told known = record {
-  ends = λ lane busy. by lane (sym (busy_after_one lane false past (Begins v call)) ∙ busy) (cases_eq v lane);
+  ends = λ lane busy. by lane (sym (busy_after_one past (Begins v call) lane) ∙ busy) (cases_eq v lane);
 }
   where
-    by : (lane : ℕ) → is_busy_then lane (is_busy_after past lane) (Begins v call) ≡ true → (v ≡ lane) ⊎ (v ≢ lane) →
+    by : (lane : ℕ) → IsSome (open_then (open_after past) (Begins v call) lane) → (v ≡ lane) ⊎ (v ≢ lane) →
         ending_of lane (n + 1) ahead ≢ StaysOpen
     by lane busy (inl same) open_still = told_ended ends known
         (told ∙ ap (λ (u : ℕ). ending_of u (n + 1) ahead) same ∙ open_still)
     by lane busy (inr apart) open_still = old.ends lane
-        (sym (ap (λ (b : Bool). b || is_busy_after past lane) (ne_eqb v lane apart)) ∙ busy) open_still
+        (sym (ap is_some (in_other (Some call) (open_after past lane) apart)) ∙ busy) open_still
 ended_on n past (Returns v reply) ahead ends old told known =
-    ended_past n past (Returns v reply) ahead old (λ lane busy. past_end v lane (is_busy_after past lane) busy)
+    ended_past n past (Returns v reply) ahead old (λ lane busy. past_end v lane (open_after past lane) busy)
 ended_on n past (Withdraws v) ahead ends old told known =
-    ended_past n past (Withdraws v) ahead old (λ lane busy. past_end v lane (is_busy_after past lane) busy)
+    ended_past n past (Withdraws v) ahead old (λ lane busy. past_end v lane (open_after past lane) busy)
 
 -- before any event
 pub run_first : (limits : Bounds) (events : List Event) (base watch : Watch) → events ≡ [] → IsWatching [] base →
@@ -152,7 +151,7 @@ run_first limits events base watch none watching untold copied =
       now = record { judging = judging_copied limits 0 [] [] base watch copied judging; ended = ended };
     })
   where
-    whole : AreOfLock []
+    whole : AreOfLanes []
     whole = form_first.0
 
     judging : IsJudging limits 0 [] [] base
@@ -163,14 +162,14 @@ run_first limits events base watch none watching untold copied =
 
 -- one event more
 pub run_added : (limits : Bounds) (run : List Event) (first seen : ℕ) (events then_events : List Event)
-    (base watch : Watch) (e : Event) → then_events ≡ events ++ e ∷ [] → AreOfLock (run ++ e ∷ []) →
+    (base watch : Watch) (e : Event) → then_events ≡ events ++ e ∷ [] → AreOfLanes (run ++ e ∷ []) →
     IsRunOn limits run first seen events base watch → IsRunOn limits (run ++ e ∷ []) first seen then_events base watch
 run_added limits run first seen events then_events base watch e added whole is =
     subst (λ (xs : List Event). IsRunOn limits (run ++ e ∷ []) first seen xs base watch) (sym added) (record {
       past = is.past;
       run_is = run_then;
       place = is.place;
-      whole = subst AreOfLock run_then whole;
+      whole = subst AreOfLanes run_then whole;
       within = let long : length (events ++ e ∷ []) ≡ length events + length (e ∷ []) =
           length-append events (e ∷ []) in
           let within : seen ≤ length events = is.within in omega (arith, long, within);
@@ -180,7 +179,7 @@ run_added limits run first seen events then_events base watch e added whole is =
           (subst (λ (xs : List Event). IsStanding limits (first + seen) (is.past ++ take seen events) xs watch)
           (sym (drop-append-le seen events (e ∷ []) is.within))
           (standing_more limits (first + seen) (is.past ++ take seen events) (drop seen events) (e ∷ []) watch
-          (subst AreOfLock (sym around) whole) is.now));
+          (subst AreOfLanes (sym around) whole) is.now));
     })
   where
     run_then : run ++ e ∷ [] ≡ is.past ++ (events ++ e ∷ [])
@@ -235,13 +234,13 @@ module _ (limits : Bounds) (run : List Event) (first seen : ℕ) (events : List 
       ap (take (first + k)) (append_assoc is.past events more) ∙ cut_behind first k is.past (events ++ more) is.place ∙
       ap (λ (xs : List Event). is.past ++ xs) (take-append-le k events more within)
 
-  part_of_lock : (k : ℕ) → AreOfLock (is.past ++ take k events)
-  part_of_lock k = subst AreOfLock (cut_behind (length is.past) k is.past events refl)
-      (of_lock_up_to (length is.past + k) (is.past ++ events) is.whole)
+  part_of_lanes : (k : ℕ) → AreOfLanes (is.past ++ take k events)
+  part_of_lanes k = subst AreOfLanes (cut_behind (length is.past) k is.past events refl)
+      (of_lanes_up_to (length is.past + k) (is.past ++ events) is.whole)
 
   -- so many of the events are in form
-  pub front_of_run : (k : ℕ) (later : List Event) → k ≤ length events → AreOfLock (take (first + k) (run ++ later))
-  front_of_run k later within = subst AreOfLock (sym (cut_run k later within)) (part_of_lock k)
+  pub front_of_run : (k : ℕ) (later : List Event) → k ≤ length events → AreOfLanes (take (first + k) (run ++ later))
+  front_of_run k later within = subst AreOfLanes (sym (cut_run k later within)) (part_of_lanes k)
 
   -- each of them may come there
   pub next_of_run : (k : ℕ) (later : List Event) → k < length events → MayComeNext (run ++ later) (first + k)
@@ -250,7 +249,7 @@ module _ (limits : Bounds) (run : List Event) (first seen : ℕ) (events : List 
         ap length is.run_is ∙ length_behind first is.past events is.place in
         let both : length (run ++ later) ≡ length run + length later = length-append run later in
         omega (arith, less, long, both);
-    whole = subst (λ (n : ℕ). AreOfLock (take n (run ++ later))) (sym (add_assoc first k 1))
+    whole = subst (λ (n : ℕ). AreOfLanes (take n (run ++ later))) (sym (add_assoc first k 1))
         (front_of_run (k + 1) later (omega (arith, less)));
   }
 
@@ -258,13 +257,13 @@ module _ (limits : Bounds) (run : List Event) (first seen : ℕ) (events : List 
   rest_run k later = ap (drop (first + k)) (take-append_seam run later ∙ is.run_is) ∙
       rest_behind first k is.past events is.place
 
-  run_of_lock : (later : List Event) → AreOfLock (take (length run) (run ++ later))
-  run_of_lock later = subst AreOfLock (sym (take-append_seam run later ∙ is.run_is)) is.whole
+  run_of_lanes : (later : List Event) → AreOfLanes (take (length run) (run ++ later))
+  run_of_lanes later = subst AreOfLanes (sym (take-append_seam run later ∙ is.run_is)) is.whole
 
   -- the whole run is known, and each call ends in it that was open behind what was seen
   ended_far : (later : List Event) → IsFarEnough (run ++ later) (first + seen) (length run)
   ended_far later = record {
-    whole = run_of_lock later;
+    whole = run_of_lanes later;
     far = inl (subst (λ (xs : List Event).
         AreEnded (first + seen) xs (drop (first + seen) (take (length run) (run ++ later))))
         (sym (cut_run seen later is.within))
@@ -273,7 +272,7 @@ module _ (limits : Bounds) (run : List Event) (first seen : ℕ) (events : List 
   }
 
   over_far : (k : ℕ) (later : List Event) → IsOver run later → IsFarEnough (run ++ later) k (length run)
-  over_far k later over = record { whole = run_of_lock later; far = inr over }
+  over_far k later over = record { whole = run_of_lanes later; far = inr over }
 
   run_undecided : (most k : ℕ) (ahead : Option ℕ) (later : List Event) → k < length events →
       IsFarEnough (run ++ later) (first + k) (length run) →
@@ -380,7 +379,7 @@ module _ (limits : Bounds) (run : List Event) (first seen : ℕ) (events : List 
         IsOutcome limits (first + seen) (is.past ++ take seen events) (drop seen events) most judged.Explained →
         IsRest limits run most ahead verdict.Explained
     rest_explained explained = (
-      subst AreOfLock (sym is.run_is) is.whole,
+      subst AreOfLanes (sym is.run_is) is.whole,
       subst (AreExplained limits) (seen_and_rest ∙ sym is.run_is) explained,
     )
 
@@ -453,7 +452,7 @@ rest_now limits run most ahead (verdict.Broken k) rest = found_now limits run mo
 
 -- an event that may not come there
 module _ (limits : Bounds) (run : List Event) (most : ℕ) (ahead : Option ℕ) (place : ℕ) (e : Event)
-    (at : place ≡ length run) (not_there : ¬ AreOfLock (run ++ e ∷ [])) where
+    (at : place ≡ length run) (not_there : ¬ AreOfLanes (run ++ e ∷ [])) where
   cut_before : (more : List Event) → take place (run ++ e ∷ [] ++ more) ≡ run
   cut_before more = ap (λ (n : ℕ). take n (run ++ e ∷ [] ++ more)) at ∙
       ap (take (length run)) (append_assoc run (e ∷ []) more) ∙ take-append_seam run (e ∷ more)
@@ -470,14 +469,14 @@ module _ (limits : Bounds) (run : List Event) (most : ℕ) (ahead : Option ℕ) 
       ap (take (place + 1)) (sym (append_assoc run (e ∷ []) more)) ∙ cut_behind_it more
 
   pub over_broken : (more : List Event) → IsOver run (e ∷ more)
-  over_broken more less whole = not_there (subst AreOfLock (it_follows more) whole)
+  over_broken more less whole = not_there (subst AreOfLanes (it_follows more) whole)
 
   pub broken_found : (v : Verdict) → IsRest limits run most ahead v →
       IsFound limits (run ++ e ∷ []) most ahead (broken_off v place)
   broken_found verdict.Explained rest more = (
     record {
-      whole = subst AreOfLock (sym (cut_before more)) rest.0;
-      broken = λ whole. not_there (subst AreOfLock (cut_behind_it more) whole);
+      whole = subst AreOfLanes (sym (cut_before more)) rest.0;
+      broken = λ whole. not_there (subst AreOfLanes (cut_behind_it more) whole);
     },
     subst (AreExplained limits) (sym (cut_before more)) rest.1,
   )

@@ -1,29 +1,29 @@
 -- A run up to one of its events, and the entries that it has then.
-use Rattle.std.proofs.Common.{◌≡◌, ◌⊎◌, ℕ, suc, zero, ◌+◌, ◌<◌, ◌≤◌, ◌==◌, Bool, true, false, List, [], ◌∷◌}
+use Rattle.std.proofs.Common.{◌≡◌, ◌⊎◌, ℕ, suc, zero, ◌+◌, ◌<◌, ◌≤◌, Bool, true, false, List, [], ◌∷◌}
 use Rattle.std.proofs.Common.{length, refl, sym, ◌∙◌, ap, subst, inl, inr, arith, eq-eqb, lt-ltb, le-ltb}
 use Rattle.std.proofs.Common.{Option, Some, None, length-take}
-use Rattle.std.specs.Prelude.{slice_get, map, take, drop, nat_lt, not, ◌||◌, if◌then◌else◌}
+use Rattle.std.specs.Prelude.{slice_get, map, take, drop, nat_lt, if◌then◌else◌, is_some, IsSome}
 use Rattle.std.specs.List.{Contains, fold}
 use Rattle.std.specs.Option.{option_map}
 use Rattle.std.proofs.lemmas.Option.{none-some, same_Some, slice_get-map}
-use Rattle.stamp_core.specs.Call.{is_lock_call}
 use Rattle.stamp_core.specs.declared.call.Call.{Call}
 use Rattle.stamp_explain.specs.declared.observed.Observation.{Observation}
 use Rattle.stamp_explain.specs.declared.observed.Returned.{Returned}
 use Rattle.stamp_explain.proofs.Lists.{none_in_empty, contains_cases, contains_first, contains_rest}
 use Rattle.stamp_runs.specs.declared.event.Event.{Event}
 use Rattle.stamp_runs.specs.declared.event.Event.TheVariants.{Begins, Returns, Withdraws}
+use Rattle.stamp_runs.specs.Own.{none_open, open_then}
 use Rattle.stamp_runs.specs.Run.{EndsBy, IsEndOf}
 use Rattle.stamp_runs.specs.Run.EndsBy.{ends_next, ends_later}
+use Rattle.stamp_runs.proofs.Owning.{Calls, in_lane}
 use Rattle.stamp_watch.specs.AsObserved.{Ending, ending_of, entries_from}
 use Rattle.stamp_watch.specs.AsObserved.Ending.{StaysOpen, EndsReturned, EndsWithdrawn}
-use Rattle.stamp_watch.specs.Form.{is_busy_then, AreInForm}
 use Rattle.stamp_watch.proofs.Numbered.{IsEntryOf, entry_tells, entry_returned, in_with_entry, with_entry_has}
 use Rattle.stamp_watch.proofs.Numbered.{end_or_not, ending_last, ending_spares, first_from, contains_at, own_firsts}
 use Rattle.stamp_watch.proofs.Numbered.{return_ends, withdrawn_or_ended}
 use Rattle.stamp_watch.proofs.Form.{still_open}
 use Rattle.stamp_watch.proofs.Planning.{IsLate}
-use Rattle.stamp_watch.proofs.AsObserved.{AreOfRun, locks_from}
+use Rattle.stamp_watch.proofs.AsObserved.{AreOfRun}
 
 abbrev pub returned_below : ℕ → Option Returned → Bool
 returned_below end None = false
@@ -37,13 +37,6 @@ same_first : (end : ℕ) (e : Observation) → (shortened end e).first ≡ e.fir
 same_first end e = by (returned_below end e.returned)
   where
     by : (b : Bool) → (if b then e else record e { returned = None }).first ≡ e.first
-    by true = refl
-    by false = refl
-
-same_call : (end : ℕ) (e : Observation) → (shortened end e).call ≡ e.call
-same_call end e = by (returned_below end e.returned)
-  where
-    by : (b : Bool) → (if b then e else record e { returned = None }).call ≡ e.call
     by true = refl
     by false = refl
 
@@ -122,14 +115,10 @@ withdrawn_by lane n (event ∷ events) ends = by (end_or_not lane event) (λ is.
         (sym (withdrawal_there lane n event events end ends)) ends_next
     by (inr not) more = ends_later event not (more (sym (ending_spares lane n event events not) ∙ ends))
 
--- a lane that is busy from then on is not withdrawn behind the first m events
-abbrev IsKept : ℕ → Bool → ℕ → List Event → Type 0
-IsKept lane busy m events = fold (is_busy_then lane) busy (take m events) ≡ true →
+-- a call that is open behind the first m events is not withdrawn behind them
+abbrev IsKept : ℕ → Calls → ℕ → List Event → Type 0
+IsKept lane calls m events = IsSome (fold open_then calls (take m events) lane) →
     ¬ EndsBy lane (Withdraws lane) (drop m events)
-
-still_kept : (lane m : ℕ) (a b : Bool) (events : List Event) → a ≡ b → IsKept lane a m events →
-    IsKept lane b m events
-still_kept lane m a b events same kept = subst (λ (c : Bool). IsKept lane c m events) same kept
 
 end_up_to : (lane n m end : ℕ) (event : Event) (events : List Event) → n < end → IsEndOf lane event →
     EndsUpTo end (ending_of lane n (event ∷ events)) (ending_of lane n (event ∷ take m events))
@@ -138,47 +127,45 @@ end_up_to lane n m end (Returns other reply) events less same =
     rw (eq-eqb other lane same) (ended {r = record { last = n; reply = reply }} less)
 end_up_to lane n m end (Withdraws other) events less same = rw (eq-eqb other lane same) withdrawn
 
-ends_up_to : (lane n m end : ℕ) (events : List Event) → end ≡ n + m → IsKept lane true m events →
-    EndsUpTo end (ending_of lane n events) (ending_of lane n (take m events))
-ends_up_to lane n zero end events at kept = by (ending_of lane n events) refl
+ends_up_to : (calls : Calls) (lane n m end : ℕ) (events : List Event) → end ≡ n + m → IsSome (calls lane) →
+    IsKept lane calls m events → EndsUpTo end (ending_of lane n events) (ending_of lane n (take m events))
+ends_up_to calls lane n zero end events at begun kept = by (ending_of lane n events) refl
   where
     by : (x : Ending) → ending_of lane n events ≡ x → EndsUpTo end x StaysOpen
     by StaysOpen is = open_still
     by (EndsReturned r) is = let low = ending_last lane n events r is in cut_off (omega arith)
-    by EndsWithdrawn is = absurd (kept refl (withdrawn_by lane n events is))
-ends_up_to lane n (suc m) end [] at kept = open_still
-ends_up_to lane n (suc m) end (event ∷ events) at kept = by (end_or_not lane event)
-    (λ more. ends_up_to lane (n + 1) m end events (omega (arith, at)) more)
+    by EndsWithdrawn is = absurd (kept begun (withdrawn_by lane n events is))
+ends_up_to calls lane n (suc m) end [] at begun kept = open_still
+ends_up_to calls lane n (suc m) end (event ∷ events) at begun kept = by (end_or_not lane event)
+    (λ more. ends_up_to (open_then calls event) lane (n + 1) m end events (omega (arith, at)) more kept)
   where
-    by : IsEndOf lane event ⊎ (¬ IsEndOf lane event) → (IsKept lane true m events →
+    by : IsEndOf lane event ⊎ (¬ IsEndOf lane event) → (IsSome (open_then calls event lane) →
         EndsUpTo end (ending_of lane (n + 1) events) (ending_of lane (n + 1) (take m events))) →
         EndsUpTo end (ending_of lane n (event ∷ events)) (ending_of lane n (event ∷ take m events))
     by (inl is) _ = end_up_to lane n m end event events (omega (arith, at)) is
     by (inr not) more = subst (λ (x : Ending). EndsUpTo end x (ending_of lane n (event ∷ take m events)))
         (sym (ending_spares lane n event events not)) (subst (EndsUpTo end (ending_of lane (n + 1) events))
-        (sym (ending_spares lane n event (take m events) not))
-        (more (still_kept lane m (is_busy_then lane true event) true events (still_open lane event not) kept)))
+        (sym (ending_spares lane n event (take m events) not)) (more (still_open lane calls event not begun)))
 
--- none of the lanes that are busy after the first m events is withdrawn behind them
-abbrev pub AreKept : (ℕ → Bool) → ℕ → List Event → Type 0
-AreKept busy m events = (lane : ℕ) → IsKept lane (busy lane) m events
+-- so it is with each of them
+abbrev pub AreKept : Calls → ℕ → List Event → Type 0
+AreKept calls m events = (lane : ℕ) → IsKept lane calls m events
 
-begins_up_to : (busy : ℕ → Bool) (lane n m end : ℕ) (call : Call) (events : List Event) → end ≡ n + suc m →
-    AreKept busy (suc m) (Begins lane call ∷ events) →
+begins_up_to : (calls : Calls) (lane n m end : ℕ) (call : Call) (events : List Event) → end ≡ n + suc m →
+    AreKept calls (suc m) (Begins lane call ∷ events) →
     EndsUpTo end (ending_of lane (n + 1) events) (ending_of lane (n + 1) (take m events))
-begins_up_to busy lane n m end call events at kept = ends_up_to lane (n + 1) m end events (omega arith)
-    (still_kept lane m ((lane == lane) || busy lane) true events
-    (ap (λ (b : Bool). b || busy lane) (eq-eqb lane lane refl)) (kept lane))
+begins_up_to calls lane n m end call events at kept = ends_up_to (open_then calls (Begins lane call)) lane (n + 1) m
+    end events (omega arith) (ap is_some (in_lane (Some call) (calls lane) refl)) (kept lane)
 
 -- the entries up to there are those of the whole run, shortened, but for such as begin later
-lengthened : (busy : ℕ → Bool) (n m end : ℕ) (events : List Event) (e : Observation) → end ≡ n + m →
-    AreKept busy m events → Contains (entries_from n (take m events)) e →
+lengthened : (calls : Calls) (n m end : ℕ) (events : List Event) (e : Observation) → end ≡ n + m →
+    AreKept calls m events → Contains (entries_from n (take m events)) e →
     IsShortenedOf end e (Contains (entries_from n events))
-lengthened busy n zero end events e at kept has = absurd (none_in_empty e has)
-lengthened busy n (suc m) end [] e at kept has = absurd (none_in_empty e has)
-lengthened busy n (suc m) end (Begins lane call ∷ events) e at kept has = by (in_with_entry lane call n
+lengthened calls n zero end events e at kept has = absurd (none_in_empty e has)
+lengthened calls n (suc m) end [] e at kept has = absurd (none_in_empty e has)
+lengthened calls n (suc m) end (Begins lane call ∷ events) e at kept has = by (in_with_entry lane call n
     (ending_of lane (n + 1) (take m events)) (entries_from (n + 1) (take m events)) e has) (λ later. lengthened
-    (λ (other : ℕ). is_busy_then other (busy other) (Begins lane call)) (n + 1) m end events e (omega arith) kept
+    (open_then calls (Begins lane call)) (n + 1) m end events e (omega arith) kept
     later)
   where
     by : IsEntryOf lane call n (ending_of lane (n + 1) (take m events)) e ⊎
@@ -188,7 +175,7 @@ lengthened busy n (suc m) end (Begins lane call ∷ events) e at kept has = by (
     by (inl is) _ =
         let found : IsShortenedOf end e (IsEntryOf lane call n (ending_of lane (n + 1) events)) =
         lengthened_entry lane call n end (ending_of lane (n + 1) events) (ending_of lane (n + 1) (take m events)) e
-        (begins_up_to busy lane n m end call events at kept) is in
+        (begins_up_to calls lane n m end call events at kept) is in
         record {
           whole = found.whole;
           is = with_entry_has lane call n (ending_of lane (n + 1) events) (entries_from (n + 1) events) found.whole
@@ -203,19 +190,19 @@ lengthened busy n (suc m) end (Begins lane call ∷ events) e at kept has = by (
               (inr found.is);
           same = found.same;
         }
-lengthened busy n (suc m) end (Returns lane reply ∷ events) e at kept has = lengthened
-    (λ (other : ℕ). is_busy_then other (busy other) (Returns lane reply)) (n + 1) m end events e (omega arith) kept has
-lengthened busy n (suc m) end (Withdraws lane ∷ events) e at kept has = lengthened
-    (λ (other : ℕ). is_busy_then other (busy other) (Withdraws lane)) (n + 1) m end events e (omega arith) kept has
+lengthened calls n (suc m) end (Returns lane reply ∷ events) e at kept has = lengthened
+    (open_then calls (Returns lane reply)) (n + 1) m end events e (omega arith) kept has
+lengthened calls n (suc m) end (Withdraws lane ∷ events) e at kept has = lengthened
+    (open_then calls (Withdraws lane)) (n + 1) m end events e (omega arith) kept has
 
-shortens : (busy : ℕ → Bool) (n m end : ℕ) (events : List Event) (e : Observation) → end ≡ n + m →
-    AreKept busy m events → Contains (entries_from n events) e →
+shortens : (calls : Calls) (n m end : ℕ) (events : List Event) (e : Observation) → end ≡ n + m →
+    AreKept calls m events → Contains (entries_from n events) e →
     Contains (entries_from n (take m events)) (shortened end e) ⊎ (end ≤ e.first)
-shortens busy n zero end events e at kept has = let low = first_from n events e has in inr (omega arith)
-shortens busy n (suc m) end [] e at kept has = absurd (none_in_empty e has)
-shortens busy n (suc m) end (Begins lane call ∷ events) e at kept has = by (in_with_entry lane call n
+shortens calls n zero end events e at kept has = let low = first_from n events e has in inr (omega arith)
+shortens calls n (suc m) end [] e at kept has = absurd (none_in_empty e has)
+shortens calls n (suc m) end (Begins lane call ∷ events) e at kept has = by (in_with_entry lane call n
     (ending_of lane (n + 1) events) (entries_from (n + 1) events) e has) (λ later. shortens
-    (λ (other : ℕ). is_busy_then other (busy other) (Begins lane call)) (n + 1) m end events e (omega arith) kept
+    (open_then calls (Begins lane call)) (n + 1) m end events e (omega arith) kept
     later)
   where
     more_of : Contains (entries_from (n + 1) (take m events)) (shortened end e) ⊎ (end ≤ e.first) →
@@ -231,12 +218,12 @@ shortens busy n (suc m) end (Begins lane call ∷ events) e at kept has = by (in
     by (inl is) _ = inl (with_entry_has lane call n (ending_of lane (n + 1) (take m events))
         (entries_from (n + 1) (take m events)) (shortened end e) (inl (shortened_entry lane call n end
         (ending_of lane (n + 1) events) (ending_of lane (n + 1) (take m events)) e
-        (begins_up_to busy lane n m end call events at kept) is)))
+        (begins_up_to calls lane n m end call events at kept) is)))
     by (inr later) more = more_of (more later)
-shortens busy n (suc m) end (Returns lane reply ∷ events) e at kept has = shortens
-    (λ (other : ℕ). is_busy_then other (busy other) (Returns lane reply)) (n + 1) m end events e (omega arith) kept has
-shortens busy n (suc m) end (Withdraws lane ∷ events) e at kept has = shortens
-    (λ (other : ℕ). is_busy_then other (busy other) (Withdraws lane)) (n + 1) m end events e (omega arith) kept has
+shortens calls n (suc m) end (Returns lane reply ∷ events) e at kept has = shortens
+    (open_then calls (Returns lane reply)) (n + 1) m end events e (omega arith) kept has
+shortens calls n (suc m) end (Withdraws lane ∷ events) e at kept has = shortens
+    (open_then calls (Withdraws lane)) (n + 1) m end events e (omega arith) kept has
 
 -- a call returns behind where it began
 returns_behind : (n : ℕ) (events : List Event) (e : Observation) (r : Returned) → Contains (entries_from n events) e →
@@ -279,14 +266,13 @@ image_of f xs i y at = by (slice_get xs i) refl (sym (slice_get-map f xs i) ∙ 
     by None is none = absurd (none-some y none)
     by (Some x) is some = record { of = x; at = is; same = same_Some (f x) y some }
 
-pub shortened_run : (m : ℕ) (events : List Event) → AreInForm events → AreKept (λ (lane : ℕ). false) m events →
+pub shortened_run : (m : ℕ) (events : List Event) → AreKept none_open m events →
     AreOfRun (map (shortened m) (entries_from 0 events)) (take m events)
-shortened_run m events form kept = record {
-  inside = λ e has. inside e (lengthened (λ (lane : ℕ). false) 0 m m events e (omega arith) kept has);
+shortened_run m events kept = record {
+  inside = λ e has. inside e (lengthened none_open 0 m m events e (omega arith) kept has);
   each = λ i e at. each e (image_of (shortened m) (entries_from 0 events) i e at);
   single = λ i j e at_i at_j. single i j e (image_of (shortened m) (entries_from 0 events) i e at_i)
       (image_of (shortened m) (entries_from 0 events) j e at_j);
-  locks = λ i e at. locks e (image_of (shortened m) (entries_from 0 events) i e at);
 }
   where
     inside : (e : Observation) → IsShortenedOf m e (Contains (entries_from 0 events)) →
@@ -296,7 +282,7 @@ shortened_run m events form kept = record {
 
     each : {i : ℕ} (e : Observation) → IsImage (shortened m) (entries_from 0 events) i e →
         Contains (entries_from 0 (take m events)) e ⊎ IsLate (length (take m events)) e
-    each {i} e image = by (shortens (λ (lane : ℕ). false) 0 m m events image.of (omega arith) kept
+    each {i} e image = by (shortens none_open 0 m m events image.of (omega arith) kept
         (contains_at (entries_from 0 events) i image.of image.at))
       where
         by : Contains (entries_from 0 (take m events)) (shortened m image.of) ⊎ (m ≤ image.of.first) →
@@ -316,9 +302,3 @@ shortened_run m events form kept = record {
         IsImage (shortened m) (entries_from 0 events) j e → i ≡ j
     single i j e a b = own_firsts 0 events i j a.of b.of a.at b.at (sym (same_first m a.of) ∙
         ap (λ (o : Observation). o.first) (a.same ∙ sym b.same) ∙ same_first m b.of)
-
-    locks : {i : ℕ} (e : Observation) → IsImage (shortened m) (entries_from 0 events) i e →
-        is_lock_call e.call ≡ true
-    locks {i} e image = ap is_lock_call (sym (ap (λ (o : Observation). o.call) image.same) ∙ same_call m image.of) ∙
-        locks_from (λ (lane : ℕ). false) 0 events image.of form
-        (contains_at (entries_from 0 events) i image.of image.at)

@@ -14,12 +14,13 @@ use Rattle.stamp_runs.specs.declared.event.Event.{Event}
 use Rattle.stamp_runs.specs.declared.event.Event.TheVariants.{Begins, Returns}
 use Rattle.stamp_runs.specs.Run.{EndsBy, lane_of}
 use Rattle.stamp_runs.specs.Run.EndsBy.{ends_next}
-use Rattle.stamp_runs.specs.LockRun.{AreExplained}
+use Rattle.stamp_runs.specs.BothRun.{AreExplained}
+use Rattle.stamp_runs.specs.Own.{AreInForm, none_open}
 use Rattle.stamp_watch.specs.Issued.{IssuesOf, LosesNothing, ReturnsOlder}
 use Rattle.stamp_watch.specs.Ahead.{IsSpared}
 use Rattle.stamp_watch.specs.Delay.{AreInPlace, IsShown}
 use Rattle.stamp_watch.specs.Delay.AreInPlace.{none_is, was_given, is_aside}
-use Rattle.stamp_watch.specs.Form.{AreInForm, is_busy_after}
+use Rattle.stamp_watch.specs.Form.{is_busy_after}
 use Rattle.stamp_watch.specs.Late.{BeginsLater}
 use Rattle.stamp_watch.specs.Late.BeginsLater.{as_it_is, then_later}
 use Rattle.stamp_watch.proofs.BeginningLater.{free_before, later_as_long, later_in_form}
@@ -224,7 +225,7 @@ module _ (limits : Bounds) (run given aside waiting : List Event) (many : ℕ)
     behind_spared = subst (IsSpared there.behind) lane_is there.spared
 
     free : is_busy_after there.before issued.lane ≡ false
-    free = free_before (λ (lane : ℕ). false) there.before issued.lane issued.call
+    free = free_before none_open there.before issued.lane issued.call
         (there.behind ++ (waiting ++ e ∷ [])) (subst AreInForm (in_its_place [])
         (later_in_form limits (run ++ e ∷ []) (is.passed ++ (waiting ++ e ∷ [])) (is.later (e ∷ [])) form))
 

@@ -1,7 +1,7 @@
 -- A run is stuck at an event exactly where it is as an observed history.
-use Rattle.std.proofs.Common.{◌≡◌, ◌≢◌, ◌⊎◌, ℕ, suc, zero, ◌+◌, ◌==◌, Bool, true, false, List, [], ◌∷◌, ◌++◌, refl}
-use Rattle.std.proofs.Common.{sym, ◌∙◌, ap, subst, inl, inr, arith, add-one, eq-eqb, ne_eqb, Option, Some, None}
-use Rattle.std.specs.Prelude.{slice_get, map, take, drop, nat_lt, not, ◌&&◌, ◌||◌, if◌then◌else◌, ◌↔◌}
+use Rattle.std.proofs.Common.{◌≡◌, ◌≢◌, ◌⊎◌, ℕ, suc, zero, ◌+◌, ◌==◌, Bool, List, [], ◌∷◌, ◌++◌, refl}
+use Rattle.std.proofs.Common.{sym, ◌∙◌, ap, subst, inl, inr, arith, add-one, Option, Some, None}
+use Rattle.std.specs.Prelude.{slice_get, map, take, drop, nat_lt, ◌&&◌, ◌||◌, if◌then◌else◌, ◌↔◌, is_some, IsSome}
 use Rattle.std.specs.List.{Contains}
 use Rattle.std.proofs.lemmas.Bool.{cases_eq, false≢true}
 use Rattle.std.proofs.lemmas.Bool.Decides.{nat_tests}
@@ -17,18 +17,19 @@ use Rattle.stamp_explain.specs.Cut.{returned_by, cut_entries}
 use Rattle.stamp_explain.proofs.Lists.{none_in_empty}
 use Rattle.stamp_runs.specs.declared.event.Event.{Event}
 use Rattle.stamp_runs.specs.declared.event.Event.TheVariants.{Begins, Returns, Withdraws}
-use Rattle.stamp_runs.specs.Run.{EndsBy, IsEndOf, all_idle, lane_of}
+use Rattle.stamp_runs.specs.Run.{EndsBy, IsEndOf, lane_of}
 use Rattle.stamp_runs.specs.Run.EndsBy.{ends_next, ends_later}
-use Rattle.stamp_runs.specs.LockRun.{AreExplained, AreStuckAt}
+use Rattle.stamp_runs.specs.BothRun.{AreExplained, AreStuckAt, Both, start}
+use Rattle.stamp_runs.specs.Own.{AreInForm, AreInFormFrom, MayCome, none_open, open_then}
+use Rattle.stamp_runs.proofs.Owning.{Calls, in_lane, in_other}
 use Rattle.stamp_watch.specs.AsObserved.{Ending, ending_of, with_entry, entries_from, observed_of, IsStuckAtPosition}
 use Rattle.stamp_watch.specs.AsObserved.{NoneIsWithdrawnLater}
 use Rattle.stamp_watch.specs.AsObserved.Ending.{StaysOpen, EndsReturned, EndsWithdrawn}
-use Rattle.stamp_watch.specs.Form.{is_busy_then, MayCome, AreInFormFrom, AreInForm}
 use Rattle.stamp_watch.specs.WatchLaws.{StuckAsObserved, StuckAsSeen}
 use Rattle.stamp_watch.proofs.Numbered.{IsEntryOf, entry_returned, in_with_entry, with_entry_has, ended_by}
 use Rattle.stamp_watch.proofs.Numbered.{ending_last}
 use Rattle.stamp_watch.proofs.Numbered.{last_from, open_or_ended, return_ends, ending_spares, contains_at}
-use Rattle.stamp_watch.proofs.Form.{busy_other, form_up_to, may_come_at, begins_next, past_end}
+use Rattle.stamp_watch.proofs.Form.{begins_next, form_up_to, may_come_at, open_other, past_end}
 use Rattle.stamp_watch.proofs.AsObserved.{AreOfRun, run_explained, explained_run}
 use Rattle.stamp_watch.proofs.Shortening.{returned_below, shortened, AreKept, shortened_run}
 
@@ -51,38 +52,38 @@ ends_apart a b n (event ∷ events) q r ends other same = by (ended_by a n event
         absurd (omega (arith, second.1, same, ending_last a (n + 1) events q first.1))
     by (inr first) (inr second) more = more first.1 second.1
 
--- the return that ends the call of a busy lane ends none that begins later
-ends_none_later : (busy : ℕ → Bool) (lane n : ℕ) (events : List Event) (e : Observation) (q r : Returned) →
-    AreInFormFrom busy events → busy lane ≡ true → ending_of lane n events ≡ EndsReturned q →
+-- the return that ends an open call ends none that begins later
+ends_none_later : (calls : Calls) (lane n : ℕ) (events : List Event) (e : Observation) (q r : Returned) →
+    AreInFormFrom calls events → IsSome (calls lane) → ending_of lane n events ≡ EndsReturned q →
     Contains (entries_from n events) e → e.returned ≡ Some r → q.last ≡ r.last → ⊥
-ends_none_later busy lane n [] e q r form is ends has back same = none_in_empty e has
-ends_none_later busy lane n (Begins other call ∷ events) e q r form is ends has back same = by (in_with_entry other
+ends_none_later calls lane n [] e q r form is ends has back same = none_in_empty e has
+ends_none_later calls lane n (Begins other call ∷ events) e q r form is ends has back same = by (in_with_entry other
     call n (ending_of other (n + 1) events) (entries_from (n + 1) events) e has) (λ later. ends_none_later
-    (λ (v : ℕ). is_busy_then v (busy v) (Begins other call)) lane (n + 1) events e q r form.1
-    (ap (λ (b : Bool). b || busy lane) (ne_eqb other lane apart) ∙ is) ends later back same)
+    (open_then calls (Begins other call)) lane (n + 1) events e q r form.1
+    (ap is_some (in_other (Some call) (calls lane) apart) ∙ is) ends later back same)
   where
     apart : other ≢ lane
-    apart e = false≢true (sym form.0.0 ∙ ap busy e ∙ is)
+    apart e = false≢true (sym (ap is_some form.0) ∙ ap (λ (v : ℕ). is_some (calls v)) e ∙ is)
 
     by : IsEntryOf other call n (ending_of other (n + 1) events) e ⊎ Contains (entries_from (n + 1) events) e →
         (Contains (entries_from (n + 1) events) e → ⊥) → ⊥
     by (inl its) _ = apart (sym (ends_apart lane other (n + 1) events q r ends
         (entry_returned other call n (ending_of other (n + 1) events) e r its back) same))
     by (inr later) more = more later
-ends_none_later busy lane n (Returns other reply ∷ events) e q r form is ends has back same =
+ends_none_later calls lane n (Returns other reply ∷ events) e q r form is ends has back same =
     by (ended_by lane n (Returns other reply) events q ends) (λ apart more. ends_none_later
-    (λ (v : ℕ). is_busy_then v (busy v) (Returns other reply)) lane (n + 1) events e q r form.1
-    (busy_other lane (busy lane) (Returns other reply) apart ∙ is) more has back same)
+    (open_then calls (Returns other reply)) lane (n + 1) events e q r form.1
+    (ap is_some (open_other lane calls (Returns other reply) apart) ∙ is) more has back same)
   where
     by : ((Returns other reply ≡ Returns lane q.reply) × (q.last ≡ n)) ⊎
         ((other ≢ lane) × (ending_of lane (n + 1) events ≡ EndsReturned q)) →
         (other ≢ lane → ending_of lane (n + 1) events ≡ EndsReturned q → ⊥) → ⊥
     by (inl here) _ = omega (arith, here.1, same, last_from (n + 1) events e r has back)
     by (inr past) more = more past.0 past.1
-ends_none_later busy lane n (Withdraws other ∷ events) e q r form is ends has back same =
+ends_none_later calls lane n (Withdraws other ∷ events) e q r form is ends has back same =
     by (ended_by lane n (Withdraws other) events q ends) (λ apart more. ends_none_later
-    (λ (v : ℕ). is_busy_then v (busy v) (Withdraws other)) lane (n + 1) events e q r form.1
-    (busy_other lane (busy lane) (Withdraws other) apart ∙ is) more has back same)
+    (open_then calls (Withdraws other)) lane (n + 1) events e q r form.1
+    (ap is_some (open_other lane calls (Withdraws other) apart) ∙ is) more has back same)
   where
     by : ((Withdraws other ≡ Returns lane q.reply) × (q.last ≡ n)) ⊎
         ((other ≢ lane) × (ending_of lane (n + 1) events ≡ EndsReturned q)) →
@@ -120,19 +121,19 @@ own_lasts_with lane call n (EndsReturned o) entries others own = own_lasts_more
     (λ e q r has is back. others e q r has (ap EndsReturned (same_Some o q is)) back) own
 own_lasts_with lane call n EndsWithdrawn entries others own = own
 
-own_lasts : (busy : ℕ → Bool) (n : ℕ) (events : List Event) → AreInFormFrom busy events →
+own_lasts : (calls : Calls) (n : ℕ) (events : List Event) → AreInFormFrom calls events →
     HaveOwnLasts (entries_from n events)
 unfolding HaveOwnLasts
-own_lasts busy n [] form = λ i j e f q r at_e at_f back_e back_f same. absurd (none-some e at_e)
-own_lasts busy n (Begins lane call ∷ events) form = own_lasts_with lane call n (ending_of lane (n + 1) events)
+own_lasts calls n [] form = λ i j e f q r at_e at_f back_e back_f same. absurd (none-some e at_e)
+own_lasts calls n (Begins lane call ∷ events) form = own_lasts_with lane call n (ending_of lane (n + 1) events)
     (entries_from (n + 1) events)
-    (λ e q r has ends back same. ends_none_later (λ (v : ℕ). is_busy_then v (busy v) (Begins lane call)) lane (n + 1)
-    events e q r form.1 (ap (λ (b : Bool). b || busy lane) (eq-eqb lane lane refl)) ends has back same)
-    (own_lasts (λ (v : ℕ). is_busy_then v (busy v) (Begins lane call)) (n + 1) events form.1)
-own_lasts busy n (Returns lane reply ∷ events) form =
-    own_lasts (λ (v : ℕ). is_busy_then v (busy v) (Returns lane reply)) (n + 1) events form.1
-own_lasts busy n (Withdraws lane ∷ events) form =
-    own_lasts (λ (v : ℕ). is_busy_then v (busy v) (Withdraws lane)) (n + 1) events form.1
+    (λ e q r has ends back same. ends_none_later (open_then calls (Begins lane call)) lane (n + 1)
+    events e q r form.1 (ap is_some (in_lane (Some call) (calls lane) refl)) ends has back same)
+    (own_lasts (open_then calls (Begins lane call)) (n + 1) events form.1)
+own_lasts calls n (Returns lane reply ∷ events) form =
+    own_lasts (open_then calls (Returns lane reply)) (n + 1) events form.1
+own_lasts calls n (Withdraws lane ∷ events) form =
+    own_lasts (open_then calls (Withdraws lane)) (n + 1) events form.1
 
 -- so a cut at a return is the run up to there
 cut_is_short : (last bound i end : ℕ) (entries : List Observation) →
@@ -151,7 +152,7 @@ module _ (events : List Event) (form : AreInForm events) (i : ℕ) (e : Observat
     own : (j : ℕ) (f : Observation) (q : Returned) → slice_get (entries_from 0 events) j ≡ Some f →
         f.returned ≡ Some q → q.last ≡ r.last → j ≡ i
     unfolding HaveOwnLasts
-    own j f q at back same = own_lasts (λ (lane : ℕ). false) 0 events form j i f e q r at is_entry back returned same
+    own j f q at back same = own_lasts none_open 0 events form j i f e q r at is_entry back returned same
 
     pub cut_before_it : cut_entries r.last i 0 (entries_from 0 events) ≡
         map (shortened r.last) (entries_from 0 events)
@@ -182,13 +183,13 @@ module _ (events : List Event) (form : AreInForm events) (i : ℕ) (e : Observat
             test n here = grind (arith, nat_tests)
 
 -- the event at k, and the events up to it
-take_none : (k : ℕ) (events : List Event) → slice_get events k ≡ None → take (suc k) events ≡ take k events
+pub take_none : (k : ℕ) (events : List Event) → slice_get events k ≡ None → take (suc k) events ≡ take k events
 take_none zero [] none = refl
 take_none (suc k) [] none = refl
 take_none zero (x ∷ events) none = absurd (none-some x (sym none))
 take_none (suc k) (x ∷ events) none = ap (λ (es : List Event). x ∷ es) (take_none k events none)
 
-take_one : (k : ℕ) (events : List Event) (event : Event) → slice_get events k ≡ Some event →
+pub take_one : (k : ℕ) (events : List Event) (event : Event) → slice_get events k ≡ Some event →
     take (suc k) events ≡ take k events ++ event ∷ []
 take_one zero [] event is = absurd (none-some event is)
 take_one (suc k) [] event is = absurd (none-some event is)
@@ -204,21 +205,21 @@ withdrawn_at zero lane (x ∷ events) is = subst (λ (e : Event). EndsBy lane (W
 withdrawn_at (suc k) lane (x ∷ events) is = withdrawn_at k lane events is
 
 -- what is kept at a return is kept behind it
-kept_past_return : (k : ℕ) (busy : ℕ → Bool) (events : List Event) (u : ℕ) (reply : Reply) →
-    slice_get events k ≡ Some (Returns u reply) → AreKept busy k events → AreKept busy (suc k) events
-kept_past_return zero busy [] u reply is kept = absurd (none-some (Returns u reply) is)
-kept_past_return (suc k) busy [] u reply is kept = absurd (none-some (Returns u reply) is)
-kept_past_return zero busy (x ∷ events) u reply is kept = λ lane still withdrawn. past lane withdrawn
-    (past_end u lane (busy lane) (subst (λ (e : Event). is_busy_then lane (busy lane) e ≡ true) first still))
+kept_past_return : (k : ℕ) (calls : Calls) (events : List Event) (u : ℕ) (reply : Reply) →
+    slice_get events k ≡ Some (Returns u reply) → AreKept calls k events → AreKept calls (suc k) events
+kept_past_return zero calls [] u reply is kept = absurd (none-some (Returns u reply) is)
+kept_past_return (suc k) calls [] u reply is kept = absurd (none-some (Returns u reply) is)
+kept_past_return zero calls (x ∷ events) u reply is kept = λ lane still withdrawn. past lane withdrawn
+    (past_end u lane (calls lane) (subst (λ (e : Event). IsSome (open_then calls e lane)) first still))
   where
     first : x ≡ Returns u reply
     first = same_Some x (Returns u reply) is
 
-    past : (lane : ℕ) → EndsBy lane (Withdraws lane) events → (busy lane ≡ true) × (u ≢ lane) → ⊥
+    past : (lane : ℕ) → EndsBy lane (Withdraws lane) events → IsSome (calls lane) × (u ≢ lane) → ⊥
     past lane withdrawn before = kept lane before.0 (subst (λ (e : Event). EndsBy lane (Withdraws lane) (e ∷ events))
         (sym first) (ends_later (Returns u reply) before.1 withdrawn))
-kept_past_return (suc k) busy (x ∷ events) u reply is kept =
-    kept_past_return k (λ (lane : ℕ). is_busy_then lane (busy lane) x) events u reply is kept
+kept_past_return (suc k) calls (x ∷ events) u reply is kept =
+    kept_past_return k (open_then calls x) events u reply is kept
 
 -- an entry that returns so
 record HasReturnAt (entries : List Observation) (r : Returned) : Type 0 where
@@ -227,49 +228,50 @@ record HasReturnAt (entries : List Observation) (r : Returned) : Type 0 where
   back : entry.returned ≡ Some r
 
 -- the call that returns so is open in this lane, or has its entry behind
-abbrev IsOfCall : Bool → Ending → List Observation → Returned → Type 0
-IsOfCall busy ending entries r = ((busy ≡ true) × (ending ≡ EndsReturned r)) ⊎ HasReturnAt entries r
+abbrev IsOfCall : Option Call → Ending → List Observation → Returned → Type 0
+IsOfCall was ending entries r = (IsSome was × (ending ≡ EndsReturned r)) ⊎ HasReturnAt entries r
 
-call_past_end : (busy : Bool) (other lane : ℕ) (ending then_ending : Ending) (entries : List Observation)
+call_past_end : (was : Option Call) (other lane : ℕ) (ending then_ending : Ending) (entries : List Observation)
     (r : Returned) → (other ≢ lane → ending ≡ then_ending) →
-    IsOfCall (not (other == lane) && busy) then_ending entries r → IsOfCall busy ending entries r
-call_past_end busy other lane ending then_ending entries r spares (inr found) = inr found
-call_past_end busy other lane ending then_ending entries r spares (inl open_now) =
-    let before = past_end other lane busy open_now.0 in inl (before.0, spares before.1 ∙ open_now.1)
+    IsOfCall (if other == lane then None else was) then_ending entries r → IsOfCall was ending entries r
+call_past_end was other lane ending then_ending entries r spares (inr found) = inr found
+call_past_end was other lane ending then_ending entries r spares (inl open_now) =
+    let before = past_end other lane was open_now.0 in inl (before.0, spares before.1 ∙ open_now.1)
 
-call_past_beginning : (busy : Bool) (other lane n : ℕ) (call : Call) (events : List Event) (r : Returned) →
-    IsOfCall ((other == lane) || busy) (ending_of lane (n + 1) events) (entries_from (n + 1) events) r →
-    IsOfCall busy (ending_of lane (n + 1) events) (entries_from n (Begins other call ∷ events)) r
-call_past_beginning busy other lane n call events r (inr found) = inr (record {
+call_past_beginning : (was : Option Call) (other lane n : ℕ) (call : Call) (events : List Event) (r : Returned) →
+    IsOfCall (if other == lane then Some call else was) (ending_of lane (n + 1) events)
+    (entries_from (n + 1) events) r →
+    IsOfCall was (ending_of lane (n + 1) events) (entries_from n (Begins other call ∷ events)) r
+call_past_beginning was other lane n call events r (inr found) = inr (record {
   entry = found.entry;
   has = with_entry_has other call n (ending_of other (n + 1) events) (entries_from (n + 1) events) found.entry
       (inr found.has);
   back = found.back;
 })
-call_past_beginning busy other lane n call events r (inl open_now) = by (cases_eq other lane)
+call_past_beginning was other lane n call events r (inl open_now) = by (cases_eq other lane)
   where
     is_its : other ≡ lane → IsEntryOf other call n (ending_of other (n + 1) events)
         (record { thread = other; call = call; first = n; returned = Some r })
     is_its same = rw (same, open_now.1) refl
 
     by : (other ≡ lane) ⊎ (other ≢ lane) →
-        IsOfCall busy (ending_of lane (n + 1) events) (entries_from n (Begins other call ∷ events)) r
+        IsOfCall was (ending_of lane (n + 1) events) (entries_from n (Begins other call ∷ events)) r
     by (inl same) = inr (record {
       entry = record { thread = other; call = call; first = n; returned = Some r };
       has = with_entry_has other call n (ending_of other (n + 1) events) (entries_from (n + 1) events)
           (record { thread = other; call = call; first = n; returned = Some r }) (inl (is_its same));
       back = refl;
     })
-    by (inr apart) = inl (sym (ap (λ (b : Bool). b || busy) (ne_eqb other lane apart)) ∙ open_now.0, open_now.1)
+    by (inr apart) = inl (sym (ap is_some (in_other (Some call) was apart)) ∙ open_now.0, open_now.1)
 
 -- each return is that of a call
-call_of_return : (busy : ℕ → Bool) (n k : ℕ) (events : List Event) (lane : ℕ) (r : Returned) → r.last ≡ n + k →
-    AreInFormFrom busy events → slice_get events k ≡ Some (Returns lane r.reply) →
-    IsOfCall (busy lane) (ending_of lane n events) (entries_from n events) r
-call_of_return busy n zero [] lane r at form is = absurd (none-some (Returns lane r.reply) is)
-call_of_return busy n (suc k) [] lane r at form is = absurd (none-some (Returns lane r.reply) is)
-call_of_return busy n zero (x ∷ events) lane r at form is = inl (
-  subst (λ (e : Event). MayCome busy e) first form.0,
+call_of_return : (calls : Calls) (n k : ℕ) (events : List Event) (lane : ℕ) (r : Returned) → r.last ≡ n + k →
+    AreInFormFrom calls events → slice_get events k ≡ Some (Returns lane r.reply) →
+    IsOfCall (calls lane) (ending_of lane n events) (entries_from n events) r
+call_of_return calls n zero [] lane r at form is = absurd (none-some (Returns lane r.reply) is)
+call_of_return calls n (suc k) [] lane r at form is = absurd (none-some (Returns lane r.reply) is)
+call_of_return calls n zero (x ∷ events) lane r at form is = inl (
+  subst (λ (e : Event). MayCome calls e) first form.0,
   subst (λ (e : Event). ending_of lane n (e ∷ events) ≡ EndsReturned r) (sym first)
       (return_ends lane lane n r.reply events refl ∙
       ap (λ (m : ℕ). EndsReturned (record { last = m; reply = r.reply })) (omega arith)),
@@ -277,19 +279,19 @@ call_of_return busy n zero (x ∷ events) lane r at form is = inl (
   where
     first : x ≡ Returns lane r.reply
     first = same_Some x (Returns lane r.reply) is
-call_of_return busy n (suc k) (Begins other call ∷ events) lane r at form is =
-    call_past_beginning (busy lane) other lane n call events r
-    (call_of_return (λ (v : ℕ). is_busy_then v (busy v) (Begins other call)) (n + 1) k events lane r (omega arith)
+call_of_return calls n (suc k) (Begins other call ∷ events) lane r at form is =
+    call_past_beginning (calls lane) other lane n call events r
+    (call_of_return (open_then calls (Begins other call)) (n + 1) k events lane r (omega arith)
     form.1 is)
-call_of_return busy n (suc k) (Returns other reply ∷ events) lane r at form is = call_past_end (busy lane) other lane
+call_of_return calls n (suc k) (Returns other reply ∷ events) lane r at form is = call_past_end (calls lane) other lane
     (ending_of lane n (Returns other reply ∷ events)) (ending_of lane (n + 1) events) (entries_from (n + 1) events) r
     (ending_spares lane n (Returns other reply) events)
-    (call_of_return (λ (v : ℕ). is_busy_then v (busy v) (Returns other reply)) (n + 1) k events lane r (omega arith)
+    (call_of_return (open_then calls (Returns other reply)) (n + 1) k events lane r (omega arith)
     form.1 is)
-call_of_return busy n (suc k) (Withdraws other ∷ events) lane r at form is = call_past_end (busy lane) other lane
+call_of_return calls n (suc k) (Withdraws other ∷ events) lane r at form is = call_past_end (calls lane) other lane
     (ending_of lane n (Withdraws other ∷ events)) (ending_of lane (n + 1) events) (entries_from (n + 1) events) r
     (ending_spares lane n (Withdraws other) events)
-    (call_of_return (λ (v : ℕ). is_busy_then v (busy v) (Withdraws other)) (n + 1) k events lane r (omega arith)
+    (call_of_return (open_then calls (Withdraws other)) (n + 1) k events lane r (omega arith)
     form.1 is)
 
 -- and an entry that returned has its return among the events
@@ -332,44 +334,44 @@ return_of_entry n (suc k) (Withdraws lane ∷ events) e r has back at =
 -- at the return of an entry, with the events up to it
 module _ (limits : Bounds) (events : List Event) (form : AreInForm events) (i : ℕ) (e : Observation) (r : Returned)
     (is_entry : slice_get (entries_from 0 events) i ≡ Some e) (returned : e.returned ≡ Some r)
-    (kept : AreKept (λ (lane : ℕ). false) r.last events)
+    (kept : AreKept none_open r.last events)
   where
     before : AreOfRun (map (shortened r.last) (entries_from 0 events)) (take r.last events)
-    before = shortened_run r.last events form kept
+    before = shortened_run r.last events kept
 
     there : IsReturnThere r.last events
     there = return_of_entry 0 r.last events e r (contains_at (entries_from 0 events) i e is_entry) returned
         (omega arith)
 
     after : AreOfRun (map (shortened (suc r.last)) (entries_from 0 events)) (take (suc r.last) events)
-    after = shortened_run (suc r.last) events form (kept_past_return r.last (λ (lane : ℕ). false) events there.0
+    after = shortened_run (suc r.last) events (kept_past_return r.last none_open events there.0
         there.1.0 there.1.1 kept)
 
     pub explained_before : AreExplained limits (take r.last events) →
-        IsExplained (observed_as limits 0 (cut_entries r.last i 0 (entries_from 0 events)))
-    explained_before explained = subst (λ (es : List Observation). IsExplained (observed_as limits 0 es))
+        IsExplained (observed_as limits 1 (cut_entries r.last i 0 (entries_from 0 events)))
+    explained_before explained = subst (λ (es : List Observation). IsExplained (observed_as limits 1 es))
         (sym (cut_before_it events form i e r is_entry returned))
-        (run_explained limits (map (shortened r.last) (entries_from 0 events)) (take r.last events) before explained)
+        (run_explained limits 1 (map (shortened r.last) (entries_from 0 events)) (take r.last events) before explained)
 
-    pub before_explained : IsExplained (observed_as limits 0 (cut_entries r.last i 0 (entries_from 0 events))) →
+    pub before_explained : IsExplained (observed_as limits 1 (cut_entries r.last i 0 (entries_from 0 events))) →
         AreExplained limits (take r.last events)
-    before_explained explained = explained_run limits (map (shortened r.last) (entries_from 0 events))
-        (take r.last events) (form_up_to r.last (λ (lane : ℕ). false) events form) before
-        (subst (λ (es : List Observation). IsExplained (observed_as limits 0 es))
+    before_explained explained = explained_run limits 1 (map (shortened r.last) (entries_from 0 events))
+        (take r.last events) (form_up_to r.last none_open events form) before
+        (subst (λ (es : List Observation). IsExplained (observed_as limits 1 es))
         (cut_before_it events form i e r is_entry returned) explained)
 
     pub explained_after : AreExplained limits (take (suc r.last) events) →
-        IsExplained (observed_as limits 0 (cut_entries r.last (i + 1) 0 (entries_from 0 events)))
-    explained_after explained = subst (λ (es : List Observation). IsExplained (observed_as limits 0 es))
+        IsExplained (observed_as limits 1 (cut_entries r.last (i + 1) 0 (entries_from 0 events)))
+    explained_after explained = subst (λ (es : List Observation). IsExplained (observed_as limits 1 es))
         (sym (cut_after_it events form i e r is_entry returned))
-        (run_explained limits (map (shortened (suc r.last)) (entries_from 0 events)) (take (suc r.last) events) after
+        (run_explained limits 1 (map (shortened (suc r.last)) (entries_from 0 events)) (take (suc r.last) events) after
         explained)
 
-    pub after_explained : IsExplained (observed_as limits 0 (cut_entries r.last (i + 1) 0 (entries_from 0 events))) →
+    pub after_explained : IsExplained (observed_as limits 1 (cut_entries r.last (i + 1) 0 (entries_from 0 events))) →
         AreExplained limits (take (suc r.last) events)
-    after_explained explained = explained_run limits (map (shortened (suc r.last)) (entries_from 0 events))
-        (take (suc r.last) events) (form_up_to (suc r.last) (λ (lane : ℕ). false) events form) after
-        (subst (λ (es : List Observation). IsExplained (observed_as limits 0 es))
+    after_explained explained = explained_run limits 1 (map (shortened (suc r.last)) (entries_from 0 events))
+        (take (suc r.last) events) (form_up_to (suc r.last) none_open events form) after
+        (subst (λ (es : List Observation). IsExplained (observed_as limits 1 es))
         (cut_after_it events form i e r is_entry returned) explained)
 
 stuck_there : (limits : Bounds) (events : List Event) (k : ℕ) → AreInForm events → NoneIsWithdrawnLater k events →
@@ -403,18 +405,18 @@ stuck_there limits events k form kept are = at (slice_get events k) refl
             ap (λ (o : Observation). Some o) found.has.2
 
     returned : (lane : ℕ) (reply : Reply) →
-        IsOfCall false (ending_of lane 0 events) (entries_from 0 events) (record { last = k; reply = reply }) →
+        IsOfCall None (ending_of lane 0 events) (entries_from 0 events) (record { last = k; reply = reply }) →
         IsStuckAtPosition (observed_of limits events) k
     returned lane reply (inl never) = absurd (false≢true never.0)
     returned lane reply (inr found) = here reply found
 
     by : (event : Event) → slice_get events k ≡ Some event → IsStuckAtPosition (observed_of limits events) k
     by (Begins lane call) is = absurd (stuck (subst (AreExplained limits)
-        (sym (take_one k events (Begins lane call) is)) (begins_next limits lane call (take k events) [] all_idle false
-        refl (may_come_at k (λ (other : ℕ). false) events (Begins lane call) form is).0 are.explained)))
-    by (Returns lane reply) is = returned lane reply (call_of_return (λ (other : ℕ). false) 0 k events lane
+        (sym (take_one k events (Begins lane call) is)) (begins_next (Both limits) start lane call (take k events)
+        (ap is_some (may_come_at k none_open events (Begins lane call) form is)) are.explained)))
+    by (Returns lane reply) is = returned lane reply (call_of_return none_open 0 k events lane
         (record { last = k; reply = reply }) (omega arith) form is)
-    by (Withdraws lane) is = absurd (kept lane (may_come_at k (λ (other : ℕ). false) events (Withdraws lane) form is)
+    by (Withdraws lane) is = absurd (kept lane (may_come_at k none_open events (Withdraws lane) form is)
         (withdrawn_at k lane events is))
 
     at : (o : Option Event) → slice_get events k ≡ o → IsStuckAtPosition (observed_of limits events) k
@@ -433,8 +435,8 @@ there_stuck limits events k form kept found = subst (AreStuckAt limits events) f
     at : IsReturnAt (entries_from 0 events) found.entry
     at = found.stuck.at
 
-    now : AreKept (λ (lane : ℕ). false) found.stuck.at.return.last events
-    now = subst (λ (n : ℕ). AreKept (λ (lane : ℕ). false) n events) (sym found.here) kept
+    now : AreKept none_open found.stuck.at.return.last events
+    now = subst (λ (n : ℕ). AreKept none_open n events) (sym found.here) kept
 
 pub stuck_as_observed : StuckAsObserved
 stuck_as_observed limits events k form kept =
@@ -466,13 +468,13 @@ pub stuck_as_seen : StuckAsSeen
 stuck_as_seen limits events k form no_withdrawal = ((λ are. same.0 (shorter are)), (λ found. longer (same.1 found)))
   where
     none_later : NoneIsWithdrawnLater k (take (k + 1) events)
-    none_later lane busy withdrawn = no_withdrawal lane (withdrawn_last k lane events
+    none_later lane calls withdrawn = no_withdrawal lane (withdrawn_last k lane events
         (subst (λ (n : ℕ). EndsBy lane (Withdraws lane) (drop k (take n events))) (add-one k) withdrawn))
 
     same : AreStuckAt limits (take (k + 1) events) k ↔
         IsStuckAtPosition (observed_of limits (take (k + 1) events)) k
     same = stuck_as_observed limits (take (k + 1) events) k
-        (form_up_to (k + 1) (λ (lane : ℕ). false) events form) none_later
+        (form_up_to (k + 1) none_open events form) none_later
 
     first : take k (take (k + 1) events) ≡ take k events
     first = ap (λ (n : ℕ). take k (take n events)) (add-one k) ∙ take_short k events

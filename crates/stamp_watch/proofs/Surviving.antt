@@ -1,27 +1,22 @@
 -- In which order calls may take effect along the events of a run.
-use Rattle.std.proofs.Common.{◌≡◌, ◌≢◌, ℕ, List, ◌∷◌, ◌++◌, Option, refl, ◌∙◌, ap, subst, sym}
-use Rattle.stamp_core.specs.LockEvent.{LockEvent}
-use Rattle.stamp_core.specs.History.{Replies, appended_by}
-use Rattle.stamp_core.specs.Limits.{Bounds}
-use Rattle.stamp_core.specs.Transition.{Transition}
+use Rattle.std.proofs.Common.{◌≡◌, ◌≢◌, ℕ, List, ◌∷◌, refl, ◌∙◌, subst, sym}
 use Rattle.stamp_core.specs.declared.call.Call.{Call}
 use Rattle.stamp_core.specs.declared.reply.Reply.{Reply}
 use Rattle.stamp_runs.specs.declared.event.Event.{Event}
 use Rattle.stamp_runs.specs.declared.event.Event.TheVariants.{Begins, Returns, Withdraws}
-use Rattle.stamp_runs.specs.LockRun.{DoSame}
-use Rattle.stamp_runs.specs.Object.{LockStep, Object}
+use Rattle.stamp_runs.specs.Object.{Object}
 use Rattle.stamp_runs.specs.Run.{Happens, Lanes, Leads, Sets, Survives, lane_of}
 use Rattle.stamp_runs.specs.Run.Leads.{by_effect, by_event}
 use Rattle.stamp_runs.specs.Run.Phase.{Idle, Asks, Gets}
-use Rattle.stamp_runs.proofs.Laws as runs
 use Rattle.stamp_runs.proofs.Lanes.{happens_beside, stays_beside, asks_or_gets, idle_or_gets, one_reply, set_of}
 use Rattle.stamp_runs.proofs.Lanes.{sets_alike, sets_of}
 use Rattle.stamp_runs.proofs.Sets.{leads_survive}
 use Rattle.stamp_watch.specs.WatchLaws.{BeginsAtOnce, BeginsFirst, ReturnsAtOnce, ReturnsFirst, TakesEffectFirst}
-use Rattle.stamp_watch.specs.WatchLaws.{TakesEffectNext, WithdrawsAtOnce, WithdrawsFirst, AtOnceLosesNothing}
-use Rattle.stamp_watch.specs.WatchLaws.{EndlessAlikeFirst, SoonerAlikeFirst, UnchangingNeverNeeded}
+use Rattle.stamp_watch.specs.WatchLaws.{TakesEffectNext, WithdrawsAtOnce, WithdrawsFirst}
+use Rattle.stamp_watch.specs.WatchLaws.{ShorterStayExplained, UnchangingNeverNeeded}
 use Rattle.stamp_watch.specs.WatchLaws.{WithdrawnTakesNoEffect}
-use Rattle.stamp_watch.proofs.Ways.{beside, sets_back, spared_while_open, takes_beside, takes_effect, withdrawn_is_not}
+use Rattle.stamp_watch.proofs.Ways.{beside, sets_back, spared_while_open, survives_first, takes_beside, takes_effect}
+use Rattle.stamp_watch.proofs.Ways.{withdrawn_is_not}
 
 -- an event comes before others take effect
 pub record ComesFirst {S : Type 0} (O : Object S) (event : Event) (events : List Event) (s : S) (lanes : Lanes) :
@@ -76,98 +71,79 @@ module _ {S : Type 0} {O : Object S} where
   comes_first event due (by_event first happens rest) =
       record { after = _; happens = happens; survives = leads_survive O rest }
 
--- a call that begins next begins before others take effect
-pub begins_first : BeginsFirst
-begins_first limits t call events s lanes way = by (comes_first (Begins t call) tt way.way)
-  where
-    by : ComesFirst (LockStep limits) (Begins t call) events s lanes → BeginsAtOnce limits t call events s lanes
-    by first = record {
-      idle = first.happens.0;
-      survives = λ after sets. subst (Survives (LockStep limits) events s)
-          (sets_alike lanes first.after after t (Asks call) first.happens.1 sets)
-          first.survives;
-    }
+module _ {S : Type 0} (O : Object S) where
+  -- a call that begins next begins before others take effect
+  pub begins_first : BeginsFirst O
+  begins_first t call events s lanes way = by (comes_first (Begins t call) tt way.way)
+    where
+      by : ComesFirst O (Begins t call) events s lanes → BeginsAtOnce O t call events s lanes
+      by first = record {
+        idle = first.happens.0;
+        survives = λ after sets. subst (Survives O events s)
+            (sets_alike lanes first.after after t (Asks call) first.happens.1 sets)
+            first.survives;
+      }
 
--- a call in effect that returns next returns before others take effect
-pub returns_first : ReturnsFirst
-returns_first limits t reply gotten events s lanes gets way = by (comes_first (Returns t reply) (gotten, gets) way.way)
-  where
-    by : ComesFirst (LockStep limits) (Returns t reply) events s lanes →
-        ReturnsAtOnce limits t reply gotten events s lanes
-    by first = record {
-      same = one_reply gets first.happens.0;
-      survives = λ after sets. subst (Survives (LockStep limits) events s)
-          (sets_alike lanes first.after after t Idle first.happens.1 sets)
-          first.survives;
-    }
+  -- a call in effect that returns next returns before others take effect
+  pub returns_first : ReturnsFirst O
+  returns_first t reply gotten events s lanes gets way = by (comes_first (Returns t reply) (gotten, gets) way.way)
+    where
+      by : ComesFirst O (Returns t reply) events s lanes →
+          ReturnsAtOnce O t reply gotten events s lanes
+      by first = record {
+        same = one_reply gets first.happens.0;
+        survives = λ after sets. subst (Survives O events s)
+            (sets_alike lanes first.after after t Idle first.happens.1 sets)
+            first.survives;
+      }
 
--- a call that is withdrawn next is withdrawn before others take effect
-pub withdraws_first : WithdrawsFirst
-withdraws_first limits t events s lanes way = by (comes_first (Withdraws t) tt way.way)
-  where
-    by : ComesFirst (LockStep limits) (Withdraws t) events s lanes → WithdrawsAtOnce limits t events s lanes
-    by first = record {
-      call = first.happens.0;
-      asks = first.happens.1;
-      survives = λ after sets. subst (Survives (LockStep limits) events s)
-          (sets_alike lanes first.after after t Idle first.happens.2 sets)
-          first.survives;
-    }
+  -- a call that is withdrawn next is withdrawn before others take effect
+  pub withdraws_first : WithdrawsFirst O
+  withdraws_first t events s lanes way = by (comes_first (Withdraws t) tt way.way)
+    where
+      by : ComesFirst O (Withdraws t) events s lanes → WithdrawsAtOnce O t events s lanes
+      by first = record {
+        call = first.happens.0;
+        asks = first.happens.1;
+        survives = λ after sets. subst (Survives O events s)
+            (sets_alike lanes first.after after t Idle first.happens.2 sets)
+            first.survives;
+      }
 
--- where the call that returns next is not in effect, some call takes effect first
-pub takes_effect_first : TakesEffectFirst
-takes_effect_first limits t reply call events s lanes asks way = by asks way.way
-  where
-    by : {u : List LockEvent} {a b : Lanes} → a t ≡ Asks call →
-        Leads (LockStep limits) (Returns t reply ∷ events) s a u b →
-        TakesEffectNext limits (Returns t reply ∷ events) s a
-    by asks (by_effect u c r asks_u step sets rest) = record {
-      lane = u;
-      call = c;
-      reply = r;
-      asks = asks_u;
-      next = _;
-      step = step;
-      after = _;
-      sets = sets;
-      survives = leads_survive (LockStep limits) rest;
-    }
-    by asks (by_event event happens rest) = absurd (asks_or_gets asks happens.0)
+  -- where the call that returns next is not in effect, some call takes effect first
+  pub takes_effect_first : TakesEffectFirst O
+  takes_effect_first t reply call events s lanes asks way = by asks way.way
+    where
+      by : {u : S} {a b : Lanes} → a t ≡ Asks call →
+          Leads O (Returns t reply ∷ events) s a u b →
+          TakesEffectNext O (Returns t reply ∷ events) s a
+      by asks (by_effect u c r asks_u step sets rest) = record {
+        lane = u;
+        call = c;
+        reply = r;
+        asks = asks_u;
+        next = _;
+        step = step;
+        after = _;
+        sets = sets;
+        survives = leads_survive O rest;
+      }
+      by asks (by_event event happens rest) = absurd (asks_or_gets asks happens.0)
 
--- a call that is withdrawn takes no effect
-pub withdrawn_takes_no_effect : WithdrawnTakesNoEffect
-withdrawn_takes_no_effect limits t reply events s lanes gets withdrawn way =
-    withdrawn_is_not t reply gets withdrawn way.way
+  -- a call that is withdrawn takes no effect
+  pub withdrawn_takes_no_effect : WithdrawnTakesNoEffect O
+  withdrawn_takes_no_effect t reply events s lanes gets withdrawn way =
+      withdrawn_is_not t reply gets withdrawn way.way
 
--- a call that changes nothing takes effect at once
-pub at_once_loses_nothing : AtOnceLosesNothing
-at_once_loses_nothing limits = runs.at_once_loses_nothing (LockStep limits)
+  -- what goes on after a call that changed nothing and never returns goes on without it
+  pub unchanging_never_needed : UnchangingNeverNeeded O
+  unchanging_never_needed t call reply events s lanes after asks sets never way =
+      subst (Survives O events s)
+      (sets_alike after (set_of after t (Asks call)) lanes t (Asks call) (sets_of after t (Asks call))
+      (sets_back sets asks)) (leads_survive O (beside t (Asks call)
+      (spared_while_open t (λ idle. idle_or_gets idle sets.here) never way.way)
+      (λ c r is. absurd (asks_or_gets is sets.here)) way.way))
 
--- what goes on after a call that changed nothing and never returns goes on without it
-pub unchanging_never_needed : UnchangingNeverNeeded
-unchanging_never_needed limits t call reply events s lanes after asks sets never way =
-    subst (Survives (LockStep limits) events s)
-    (sets_alike after (set_of after t (Asks call)) lanes t (Asks call) (sets_of after t (Asks call))
-    (sets_back sets asks)) (leads_survive (LockStep limits) (beside t (Asks call)
-    (spared_while_open t (λ idle. idle_or_gets idle sets.here) never way.way)
-    (λ c r is. absurd (asks_or_gets is sets.here)) way.way))
-
--- a call that does the same takes the same step
-same_step : (limits : Bounds) (s : List LockEvent) (call other : Call) (reply : Reply) (next : List LockEvent) →
-    DoSame limits call other → LockStep limits s call reply next → LockStep limits s other reply next
-same_step limits s call other reply next does step = record {
-  replies = subst (λ (t : Option Transition). Replies t reply) (does s) step.replies;
-  appends = step.appends ∙ ap (λ (t : Option Transition). s ++ appended_by t) (does s);
-}
-
--- of two calls that are alike the one that returns sooner takes effect first
-pub sooner_alike_first : SoonerAlikeFirst
-sooner_alike_first limits t u call other reply events s lanes later sooner does =
-    runs.sooner_alike_first (LockStep limits) t u call other reply events s lanes later sooner
-    (λ v next answer step. same_step limits v call other answer next does step)
-
--- of two that never end either may
-pub endless_alike_first : EndlessAlikeFirst
-endless_alike_first limits t u call reply events s lanes later sooner =
-    runs.endless_alike_first (LockStep limits) t u call call reply events s lanes later sooner
-    (λ v next answer step. step)
+-- what is explained is explained up to each of its events
+pub shorter_stay_explained : ShorterStayExplained
+shorter_stay_explained limits past future explained = survives_first past future explained

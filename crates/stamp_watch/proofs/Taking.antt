@@ -6,7 +6,7 @@ use Rattle.stamp_runs.specs.declared.event.Event.{Event}
 use Rattle.stamp_runs.specs.declared.event.Event.TheVariants.{Begins, Returns, Withdraws}
 use Rattle.stamp_watch.specs.Stream.{IsOfStream}
 use Rattle.stamp_watch.specs.Judging.{AreBusyLanes}
-use Rattle.stamp_watch.specs.Verdict.{AreOfLock, IsInFormUpTo}
+use Rattle.stamp_watch.specs.Verdict.{AreOfLanes, IsInFormUpTo}
 use Rattle.stamp_watch.specs.inner.Judging.{AreTaken, MayComeIn}
 use Rattle.stamp_watch.proofs.Forming.{form_stops, form_ends}
 
@@ -30,19 +30,19 @@ module _ (events taken : List Event) (k : ℕ) (is : taken ≡ take k events) wh
       long = ap length is ∙ length-take-le k events within
 
 pub taken_stops : (events taken : List Event) (k busy : ℕ) (e : Event) → k < length events → e ≡ get_or events k e →
-    taken ≡ take k events → AreOfLock (take k events) → AreBusyLanes (take k events) busy → ¬ MayComeIn busy e →
+    taken ≡ take k events → AreOfLanes (take k events) → AreBusyLanes (take k events) busy → ¬ MayComeIn busy e →
     AreTaken events taken
 taken_stops events taken k busy e less read is whole lanes none =
     taken_form events taken k is (omega (arith, less)) (form_stops events k busy e less read lanes whole none)
 
 pub taken_all : (events taken : List Event) (k : ℕ) → length events ≤ k → taken ≡ take k events →
-    AreOfLock (take k events) → AreTaken events taken
+    AreOfLanes (take k events) → AreTaken events taken
 taken_all events taken k high is whole = taken_form events taken (length events) same (omega arith)
     (form_ends events k (length events) refl high whole)
   where
     same : taken ≡ take (length events) events
     same = is ∙ take_all k events high ∙ sym (take_all (length events) events (omega arith))
 
--- they are of the lock, as a slice
-pub taken_whole : (events held taken : List Event) → AreTaken events held → taken ≡ held → AreOfLock taken
-taken_whole events held taken is same = subst AreOfLock (sym (same ∙ is.same)) is.form.whole
+-- they are of the lanes, as a slice
+pub taken_whole : (events held taken : List Event) → AreTaken events held → taken ≡ held → AreOfLanes taken
+taken_whole events held taken is same = subst AreOfLanes (sym (same ∙ is.same)) is.form.whole

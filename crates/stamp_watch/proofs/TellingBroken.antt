@@ -5,27 +5,27 @@ use Rattle.std.proofs.lemmas.Bool.{cases_lt, cases_order}
 use Rattle.std.proofs.lemmas.List.{length-take-le, take-append-drop, take-take}
 use Rattle.stamp_core.specs.Limits.{Bounds}
 use Rattle.stamp_runs.specs.declared.event.Event.{Event}
-use Rattle.stamp_runs.specs.LockRun.{AreExplained}
+use Rattle.stamp_runs.specs.BothRun.{AreExplained}
 use Rattle.stamp_watch.specs.declared.late_verdict.LateVerdict.{LateVerdict}
 use Rattle.stamp_watch.specs.declared.late_verdict.LateVerdict.TheVariants.{Is, Late}
 use Rattle.stamp_watch.specs.declared.verdict.Verdict.{Verdict}
 use Rattle.stamp_watch.specs.declared.verdict.Verdict.TheVariants.{Explained, Stuck, StuckWithin, Undecided, Broken}
 use Rattle.stamp_watch.specs.declared.verdict.Why.TheVariants.{TooMany, TooFar}
 use Rattle.stamp_watch.specs.Late.{IsLateVerdict}
-use Rattle.stamp_watch.specs.Verdict.{AreBrokenAt, AreOfLock, IsVerdict}
+use Rattle.stamp_watch.specs.Verdict.{AreBrokenAt, AreOfLanes, IsVerdict}
 use Rattle.stamp_watch.specs.WatchLaws.{BrokenIsTold, BrokenIsToldLate, GivesUpBefore, IsLateBefore}
-use Rattle.stamp_watch.proofs.Forming.{of_lock_up_to}
-use Rattle.stamp_watch.proofs.StandingFor.{shorter_stay_explained}
+use Rattle.stamp_watch.proofs.Forming.{of_lanes_up_to}
+use Rattle.stamp_watch.proofs.Surviving.{shorter_stay_explained}
 
 module _ (limits : Bounds) (run : List Event) (k : ℕ) (broken : AreBrokenAt run k)
     (explained : AreExplained limits (take k run)) where
   -- no more than the first k events are in form
-  before_it : (n : ℕ) → AreOfLock (take n run) → n ≤ k
+  before_it : (n : ℕ) → AreOfLanes (take n run) → n ≤ k
   before_it n whole = by (cases_lt k n)
     where
       by : (k < n) ⊎ (n ≤ k) → n ≤ k
-      by (inl more) = absurd (broken.broken (subst AreOfLock (take-take (k + 1) n run (omega (arith, more)))
-          (of_lock_up_to (k + 1) (take n run) whole)))
+      by (inl more) = absurd (broken.broken (subst AreOfLanes (take-take (k + 1) n run (omega (arith, more)))
+          (of_lanes_up_to (k + 1) (take n run) whole)))
       by (inr within) = within
 
   explained_before : (n : ℕ) → n ≤ k → AreExplained limits (take n run)
@@ -39,13 +39,13 @@ module _ (limits : Bounds) (run : List Event) (k : ℕ) (broken : AreBrokenAt ru
     where
       by : (j ≡ k) ⊎ ((j < k) ⊎ (k < j)) → j ≡ k
       by (inl same) = same
-      by (inr (inl less)) = absurd (is.broken (subst AreOfLock (take-take (j + 1) k run (omega (arith, less)))
-          (of_lock_up_to (j + 1) (take k run) broken.whole)))
+      by (inr (inl less)) = absurd (is.broken (subst AreOfLanes (take-take (j + 1) k run (omega (arith, less)))
+          (of_lanes_up_to (j + 1) (take k run) broken.whole)))
       by (inr (inr more)) = let within : j ≤ k = before_it j is.whole in absurd (omega (arith, more, within))
 
   told : (most : ℕ) (ahead : Option ℕ) (v : Verdict) → IsVerdict limits run most ahead v →
       (v ≡ Broken k) ⊎ GivesUpBefore v k
-  told most ahead Explained has = absurd (broken.broken (of_lock_up_to (k + 1) run has.0))
+  told most ahead Explained has = absurd (broken.broken (of_lanes_up_to (k + 1) run has.0))
   told most ahead (Stuck j) has = absurd (has.1.stuck (explained_before (j + 1) (before_it (j + 1) has.0)))
   told most ahead (StuckWithin j m) has = absurd (has.stuck (explained_before m (before_it m has.whole)))
   told most ahead (Undecided j TooMany) has =

@@ -2,6 +2,7 @@
 use Rattle.std.proofs.Common.{◌≡◌, ◌⊎◌, ◌+◌, ◌*◌, ◌<◌, ◌≤◌, ℕ, Bool, true, false, List, [], ◌∷◌, ◌++◌, None}
 use Rattle.std.proofs.Common.{refl, sym, ◌∙◌, ap, subst, inl, inr, arith}
 use Rattle.std.specs.Prelude.{◌==◌, ◌&&◌, if◌then◌else◌}
+use Rattle.std.specs.Bool.{MatchBool}
 use Rattle.std.proofs.lemmas.Bool.{cases_lt, false≢true, le-ltb}
 use Rattle.stamp_core.specs.LockEvent.{LockEvent, counts, write_count}
 use Rattle.stamp_core.specs.LockEvent.LockEvent.{ReadAcquired, WriteAcquired}
@@ -10,17 +11,20 @@ use Rattle.stamp_core.specs.Limits.{AreInRange, Bounds, units}
 use Rattle.stamp_core.specs.Stamp.{IsStamp, optimistic_stamp, read_stamp, write_stamp}
 use Rattle.stamp_core.specs.Transition.{answer, change, may_read, may_write, transition}
 use Rattle.stamp_core.specs.History.{Replies, appended_by}
+use Rattle.stamp_core.specs.Call.{is_lock_call}
 use Rattle.stamp_core.specs.declared.call.Call.{Call}
-use Rattle.stamp_core.specs.declared.call.Call.TheVariants.{Optimistic, ReadLock, TryRead}
+use Rattle.stamp_core.specs.declared.call.Call.TheVariants.{Optimistic, ReadLock, TryRead, TryWrite, WriteLock}
 use Rattle.stamp_core.specs.declared.layout.Layout.{Layout}
+use Rattle.stamp_core.specs.declared.reply.Reply.{Reply}
 use Rattle.stamp_core.specs.declared.reply.Reply.TheVariants.{Stamp}
 use Rattle.stamp_core.proofs.TwoLayouts.{either_layout}
 use Rattle.stamp_runs.specs.Run.{lane_of}
 use Rattle.stamp_runs.specs.declared.event.Event.{Event}
 use Rattle.stamp_runs.specs.declared.event.Event.TheVariants.{Begins, Returns}
 use Rattle.stamp_runs.specs.Run.EndsBy.{ends_next}
+use Rattle.stamp_runs.specs.BothRun.{Both, State}
 use Rattle.stamp_runs.specs.Object.{LockStep}
-use Rattle.stamp_watch.specs.Issued.{IsReading, IsWriting, IssuesOf, IssuesOlder, ReturnsOlder}
+use Rattle.stamp_watch.specs.Issued.{IsReading, IsWriting, IssuesOf, IssuesOlder, IssuesStamp, ReturnsOlder}
 use Rattle.stamp_watch.specs.Ahead.{IsSpared}
 use Rattle.stamp_watch.specs.LateLaws.{LateStampLosesNothing, StampTellsVersion, TellsOlder}
 use Rattle.stamp_watch.proofs.BeginningLate.{writes-append}
@@ -229,6 +233,22 @@ stamp_tells_version limits call stamp version u v range (inr reading) is step =
     (let few : told.reader ≤ limits.readers = told.few in
     let most : limits.readers ≤ (units limits).readers = range.readers in omega (arith, few, most)) told.stamp
 
+-- a call that issues a stamp is the lock's
+lock_step : (limits : Bounds) {reply : Reply} (call : Call) (u v : State) → IssuesStamp call →
+    Both limits u call reply v → LockStep limits u.0 call reply v.0
+lock_step limits {reply} call u v issues step =
+    subst (λ (b : Bool). MatchBool b (LockStep limits u.0 call reply v.0) (v.0 ≡ u.0)) (by issues) step.0
+  where
+    is : (c : Call) → is_lock_call c ≡ true → call ≡ c → is_lock_call call ≡ true
+    is c own same = ap is_lock_call same ∙ own
+
+    by : IssuesStamp call → is_lock_call call ≡ true
+    by (inl (inl same)) = is WriteLock refl same
+    by (inl (inr same)) = is TryWrite refl same
+    by (inr (inl same)) = is Optimistic refl same
+    by (inr (inr (inl same))) = is TryRead refl same
+    by (inr (inr (inr same))) = is ReadLock refl same
+
 -- where a call begins and returns that issues an older stamp, an older version is told
 pub older_told : (limits : Bounds) (version : ℕ) (events : List Event) → AreInRange limits →
     ReturnsOlder limits version events → TellsOlder limits version events
@@ -244,9 +264,8 @@ older_told limits version events range is = record {
   tells = ends_past one.between (Returns issued.lane (Stamp issued.stamp) ∷ one.rest)
       (never_among issued.lane one.between (subst (IsSpared one.between) (ap lane_of issued.begins) one.spared))
       ends_next;
-  older = λ u v step. subst (λ (k : ℕ). k < version)
-      (sym (stamp_tells_version limits issued.call issued.stamp one.of u v range issued.issues issued.is_of step))
-      one.older;
+  older = λ u v step. subst (λ (k : ℕ). k < version) (sym (stamp_tells_version limits issued.call issued.stamp one.of
+      u.0 v.0 range issued.issues issued.is_of (lock_step limits issued.call u v issued.issues step))) one.older;
 }
   where
     one : IssuesOlder limits version is.begun is.behind
@@ -258,8 +277,8 @@ older_told limits version events range is = record {
 pub late_stamp_loses_nothing : LateStampLosesNothing
 late_stamp_loses_nothing limits lane call stamp version past between rest range issues is free never tells told way =
     late_loses_nothing limits lane call (Stamp stamp) version past between rest free never tells
-    (λ u v step. let same : write_count v ≡ version =
-    stamp_tells_version limits call stamp version u v range issues is step in omega (arith, same))
+    (λ u v step. let same : write_count v.0 ≡ version = stamp_tells_version limits call stamp version u.0 v.0 range
+    issues is (lock_step limits call u v issues step) in omega (arith, same))
     (older_told limits version rest range told) way
 
 pub one_version : (layout : Layout) (version stamp : ℕ) → IsStamp (units_of layout) version stamp → (k : ℕ) →

@@ -9,18 +9,17 @@ use Rattle.stamp_core.specs.Limits.{Bounds}
 use Rattle.stamp_runs.specs.declared.event.Event.{Event}
 use Rattle.stamp_runs.specs.declared.event.Event.TheVariants.{Begins, Returns, Withdraws}
 use Rattle.stamp_runs.specs.Run.{IsEndOf, EndsNever}
-use Rattle.stamp_runs.specs.LockRun.{AreExplained}
+use Rattle.stamp_runs.specs.BothRun.{AreExplained}
 use Rattle.stamp_sets.specs.declared.ending.Ending.{Ending}
 use Rattle.stamp_sets.specs.declared.ending.Ending.TheVariants.{Never}
-use Rattle.stamp_sets.specs.declared.ending.SmallEnding.TheVariants as small
 use Rattle.stamp_watch.specs.declared.verdict.Verdict.TheVariants as verdict
 use Rattle.stamp_watch.specs.declared.verdict.Why.TheVariants as cause
 use Rattle.stamp_sets.specs.declared.watch.Watch.{Watch}
-use Rattle.stamp_watch.specs.inner.Foretold.{ends_as}
+use Rattle.stamp_watch.specs.Foretold.{told_as}
 use Rattle.stamp_watch.specs.Judging.{IsFound}
 use Rattle.stamp_watch.specs.Course.{IsRunOn}
 use Rattle.stamp_watch.specs.SoFar.{BeginWithOpenCall, IsUnended}
-use Rattle.stamp_watch.specs.Verdict.{AreOfLock, IsOpenFor}
+use Rattle.stamp_watch.specs.Verdict.{AreOfLanes, IsOpenFor}
 use Rattle.stamp_watch.specs.inner.Judging.{IsEndTold}
 use Rattle.stamp_watch.specs.inner.Course.{IsUnknown}
 use Rattle.stamp_watch.proofs.Judging.{ends_so}
@@ -30,7 +29,7 @@ use Rattle.stamp_watch.proofs.Running.{cut_run, front_of_run, next_of_run}
 
 unended : (e : Event) (n : ℕ) (ends : Ending) (behind : List Event) → IsUnknown e ends → IsEndTold e n behind ends →
     IsUnended e behind
-unended (Begins lane call) n ends behind never told = ends_so lane n behind small.Never (sym (ap ends_as never) ∙ told)
+unended (Begins lane call) n ends behind never told = ends_so lane n behind Never (sym (ap told_as never) ∙ told)
 unended (Returns lane reply) n ends behind never told = absurd never
 unended (Withdraws lane) n ends behind never told = absurd never
 
@@ -52,7 +51,7 @@ open_for (Begins lane call) n k ahead ends run behind more never told there many
       omega (arith, long, many);
   never = subst (EndsNever lane) (sym (take-append-le ahead behind more many))
       (All-take (λ (e : Event). ¬ IsEndOf lane e) ahead behind
-      (ends_so lane n behind small.Never (sym (ap ends_as never) ∙ told)));
+      (ends_so lane n behind Never (sym (ap told_as never) ∙ told)));
 }
 open_for (Returns lane reply) n k ahead ends run behind more never told there many = absurd never
 open_for (Withdraws lane) n k ahead ends run behind more never told there many = absurd never
@@ -80,7 +79,7 @@ module _ (limits : Bounds) (run : List Event) (first seen : ℕ) (events : List 
     (
       open_for e n (first + seen) ahead ends (run ++ more) (drop (seen + 1) events) more unknown told (there more)
           many,
-      subst (λ (m : ℕ). AreOfLock (take m (run ++ more))) place
+      subst (λ (m : ℕ). AreOfLanes (take m (run ++ more))) place
           (front_of_run limits run first seen events base watch is (seen + 1 + ahead) more
           (let long : length (drop (seen + 1) events) ≡ length events - (seen + 1) = length-drop (seen + 1) events in
           omega (arith, less, long, many))),

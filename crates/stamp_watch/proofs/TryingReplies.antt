@@ -1,48 +1,41 @@
 -- Other replies that are tried.
-use Rattle.std.proofs.Common.{ℕ, ◌≡◌, ◌+◌, ◌-◌, ◌^◌, ◌<◌, ◌≤◌, false, true, List, [], ◌∷◌, ◌++◌, length, Some, refl}
+use Rattle.std.proofs.Common.{ℕ, ◌≡◌, ◌+◌, ◌-◌, ◌^◌, ◌<◌, ◌≤◌, true, List, [], ◌∷◌, ◌++◌, length, Some, refl}
 use Rattle.std.proofs.Common.{sym}
 use Rattle.std.proofs.Common.{◌∙◌, ap, subst, arith, append_assoc, get_or}
 use Rattle.std.specs.Prelude.{drop, nat_lt, slice_get, take}
 use Rattle.std.proofs.lemmas.List.{get_or_append_left, get_or-append-add, length-append, length-take-le}
 use Rattle.std.proofs.lemmas.List.{take-append-le}
 use Rattle.std.proofs.lemmas.List.{take-append-drop, take_more}
-use Rattle.std.proofs.lemmas.List.Elements.{All-contains, All-push}
+use Rattle.std.proofs.lemmas.List.Elements.{All-push}
 use Rattle.std.proofs.lemmas.Option.{get_or_from_slice_get, slice_get-get_or, slice_get_read, slice_get_within}
 use Rattle.std.proofs.lemmas.Bool.Decides.{nat_tests}
 use Rattle.std.proofs.Math.Seq.{take-add, take-append_seam}
 use Rattle.stamp_core.specs.Limits.{Bounds}
-use Rattle.stamp_core.specs.LockDecision.{reply_as}
-use Rattle.stamp_core.specs.declared.lock_decision.LockReply.{LockReply}
-use Rattle.stamp_core.specs.declared.lock_decision.LockReply.TheVariants as lock
 use Rattle.stamp_core.specs.declared.reply.Reply.{Reply}
 use Rattle.stamp_runs.specs.declared.event.Event.{Event}
 use Rattle.stamp_runs.specs.declared.event.Event.TheVariants.{Returns}
-use Rattle.stamp_runs.specs.LockRun.{AreExplained}
+use Rattle.stamp_runs.specs.BothRun.{AreExplained}
+use Rattle.stamp_runs.specs.OneWord.{is_small_reply}
+use Rattle.stamp_runs.specs.Own.{none_open}
+use Rattle.stamp_sets.specs.SmallCall.{reply_of}
+use Rattle.stamp_sets.specs.declared.small_call.SmallReply.{SmallReply}
 use Rattle.stamp_watch.specs.declared.course.Course.{Course}
 use Rattle.stamp_watch.specs.declared.online.Judge.{Judge}
 use Rattle.stamp_watch.specs.Possible.{AreTooManyFor, IsKept, IsPossibleReply, KeepsBase}
-use Rattle.stamp_watch.specs.Verdict.{AreOfLock, AreTooMany, IsOfLock, is_lock_reply}
+use Rattle.stamp_watch.specs.Verdict.{AreOfLanes, AreTooMany, IsOfLane}
 use Rattle.stamp_watch.specs.inner.Possible.{IsReturnFor, IsReturnHere}
 use Rattle.stamp_watch.specs.Judging.{IsJudging}
-use Rattle.stamp_explain.proofs.AddingNew.{contains_at}
 use Rattle.stamp_watch.proofs.Form.{form_goes_on}
-use Rattle.stamp_watch.proofs.Forming.{next_comes, next_of_lock, of_lock_up_to, rest_of_lock}
+use Rattle.stamp_watch.proofs.Forming.{next_comes, next_of_lane, of_lanes_up_to}
 use Rattle.stamp_watch.proofs.Judged.{cut_behind}
 use Rattle.stamp_watch.proofs.Running.{standing_more}
+use Rattle.stamp_watch.proofs.Small.{small_reply_is}
 
 -- those up to this place, and the one there
 pub up_to : {A : Type 0} (xs : List A) (at : ℕ) (x : A) → slice_get xs at ≡ Some x →
     take (at + 1) xs ≡ take at xs ++ x ∷ []
 up_to {A} xs at x there = take_more xs at x (slice_get_within xs at x there) ∙
     ap (λ (y : A). take at xs ++ y ∷ []) (get_or_from_slice_get xs at x x there)
-
-pub of_the_lock : (reply : LockReply) → is_lock_reply (reply_as reply) ≡ true
-of_the_lock (lock.Stamp s) = refl
-of_the_lock lock.Yes = refl
-of_the_lock lock.No = refl
-of_the_lock lock.Done = refl
-of_the_lock lock.Mismatch = refl
-of_the_lock (lock.Count n) = refl
 
 returns_same : (lane other : ℕ) (reply answer : Reply) → Returns lane reply ≡ Returns other answer → lane ≡ other
 returns_same lane other reply answer same = cc
@@ -57,27 +50,22 @@ pub some_same : {A : Type 0} {x y : A} → Some x ≡ Some y → x ≡ y
 some_same same = cc
 
 -- a return may have another reply
-other_reply : (past : List Event) (lane : ℕ) (own reply : Reply) → is_lock_reply reply ≡ true →
-    AreOfLock (past ++ Returns lane own ∷ []) → AreOfLock (past ++ Returns lane reply ∷ [])
-other_reply past lane own reply lock whole = record {
-  form = form_goes_on (λ (l : ℕ). false) past (Returns lane reply) before.form
+other_reply : (past : List Event) (lane : ℕ) (own reply : Reply) → is_small_reply reply ≡ true →
+    AreOfLanes (past ++ Returns lane own ∷ []) → AreOfLanes (past ++ Returns lane reply ∷ [])
+other_reply past lane own reply small whole = record {
+  form = form_goes_on none_open past (Returns lane reply) before.form
       (next_comes past (Returns lane own) [] whole);
-  lock = All-push IsOfLock past (Returns lane reply) before.lock
-      ((next_of_lock past (Returns lane own) [] whole).0, lock);
+  lanes = All-push IsOfLane past (Returns lane reply) before.lanes
+      ((next_of_lane past (Returns lane own) [] whole).0, small);
 }
   where
-    before : AreOfLock past
-    before = subst AreOfLock (take-append_seam past (Returns lane own ∷ []))
-        (of_lock_up_to (length past) (past ++ Returns lane own ∷ []) whole)
+    before : AreOfLanes past
+    before = subst AreOfLanes (take-append_seam past (Returns lane own ∷ []))
+        (of_lanes_up_to (length past) (past ++ Returns lane own ∷ []) whole)
 
 module _ (limits : Bounds) (run : List Event) (course : Course) (is : IsKept limits run course) (at : ℕ) where
   abbrev events : List Event
   events = course.events.items
-
-  -- the lane of a kept event is one of 64
-  pub kept_lane : (lane : ℕ) (own : Reply) → slice_get events at ≡ Some (Returns lane own) → lane < 64
-  kept_lane lane own there = (All-contains IsOfLock events (Returns lane own) (rest_of_lock is.past events is.whole)
-      (contains_at events at (Returns lane own) there)).0
 
   -- the run up to the event
   pub run_up_to : at < length events → take (course.first + at) run ≡ is.past ++ take at events
@@ -118,22 +106,22 @@ module _ (limits : Bounds) (run : List Event) (course : Course) (is : IsKept lim
         there : at ≡ course.seen + (at - course.seen)
         there = omega (arith, seen)
 
-    of_lock : AreOfLock (is.past ++ trial)
-    of_lock = subst AreOfLock (append_assoc is.past (take at events) (e ∷ []))
-        (subst (λ (x : Event). AreOfLock ((is.past ++ take at events) ++ x ∷ [])) (sym for.is)
-        (other_reply (is.past ++ take at events) for.lane for.own for.reply for.lock
-        (subst AreOfLock (sym (append_assoc is.past (take at events) (Returns for.lane for.own ∷ []))) own)))
+    of_lanes : AreOfLanes (is.past ++ trial)
+    of_lanes = subst AreOfLanes (append_assoc is.past (take at events) (e ∷ []))
+        (subst (λ (x : Event). AreOfLanes ((is.past ++ take at events) ++ x ∷ [])) (sym for.is)
+        (other_reply (is.past ++ take at events) for.lane for.own for.reply for.small
+        (subst AreOfLanes (sym (append_assoc is.past (take at events) (Returns for.lane for.own ∷ []))) own)))
       where
-        own : AreOfLock (is.past ++ (take at events ++ Returns for.lane for.own ∷ []))
-        own = subst (λ (xs : List Event). AreOfLock (is.past ++ xs))
+        own : AreOfLanes (is.past ++ (take at events ++ Returns for.lane for.own ∷ []))
+        own = subst (λ (xs : List Event). AreOfLanes (is.past ++ xs))
             (up_to events at (Returns for.lane for.own) for.there)
-            (subst AreOfLock (cut_behind (length is.past) (at + 1) is.past events refl)
-            (of_lock_up_to (length is.past + (at + 1)) (is.past ++ events) is.whole))
+            (subst AreOfLanes (cut_behind (length is.past) (at + 1) is.past events refl)
+            (of_lanes_up_to (length is.past + (at + 1)) (is.past ++ events) is.whole))
 
     pub judging_with : IsJudging limits course.first is.past trial course.base
     judging_with = subst (λ (xs : List Event). IsJudging limits course.first is.past xs course.base) (sym parts)
         (standing_more limits course.first is.past (take course.seen events) (behind ++ e ∷ []) course.base
-        (subst (λ (xs : List Event). AreOfLock (is.past ++ xs)) parts of_lock) is.from_base).judging
+        (subst (λ (xs : List Event). AreOfLanes (is.past ++ xs)) parts of_lanes) is.from_base).judging
 
     pub trial_long : length trial ≡ at + 1
     trial_long = let all = length-append (take at events) (e ∷ []) in
@@ -145,7 +133,7 @@ module _ (limits : Bounds) (run : List Event) (course : Course) (is : IsKept lim
 
 -- what was found of the run up to a return, with another reply
 module _ (limits : Bounds) (run : List Event) (judge : Judge) (is : KeepsBase limits run judge) (number at lane : ℕ)
-    (here : IsReturnHere judge number at lane) (reply : LockReply) where
+    (here : IsReturnHere judge number at lane) (reply : SmallReply) where
   less_here : at < length judge.course.events.items
   less_here = slice_get_within judge.course.events.items at (Returns lane here.own) here.there
 
@@ -153,24 +141,24 @@ module _ (limits : Bounds) (run : List Event) (judge : Judge) (is : KeepsBase li
   there_in_run = ap (λ (n : ℕ). slice_get run n) here.number_is ∙
       run_there limits run judge.course is at (Returns lane here.own) here.there
 
-  up_to_here : take number run ++ Returns lane (reply_as reply) ∷ [] ≡
-      is.past ++ (take at judge.course.events.items ++ Returns lane (reply_as reply) ∷ [])
-  up_to_here = ap (λ (n : ℕ). take n run ++ Returns lane (reply_as reply) ∷ []) here.number_is ∙
-      ap (λ (xs : List Event). xs ++ Returns lane (reply_as reply) ∷ []) (run_up_to limits run judge.course is at
-      less_here) ∙ append_assoc is.past (take at judge.course.events.items) (Returns lane (reply_as reply) ∷ [])
+  up_to_here : take number run ++ Returns lane (reply_of reply) ∷ [] ≡
+      is.past ++ (take at judge.course.events.items ++ Returns lane (reply_of reply) ∷ [])
+  up_to_here = ap (λ (n : ℕ). take n run ++ Returns lane (reply_of reply) ∷ []) here.number_is ∙
+      ap (λ (xs : List Event). xs ++ Returns lane (reply_of reply) ∷ []) (run_up_to limits run judge.course is at
+      less_here) ∙ append_assoc is.past (take at judge.course.events.items) (Returns lane (reply_of reply) ∷ [])
 
-  pub return_for : IsReturnFor judge.course.events.items at (Returns lane (reply_as reply))
+  pub return_for : IsReturnFor judge.course.events.items at (Returns lane (reply_of reply))
   return_for = record {
     lane = lane;
     own = here.own;
-    reply = reply_as reply;
+    reply = reply_of reply;
     there = here.there;
     is = refl;
-    lock = of_the_lock reply;
+    small = small_reply_is reply;
   }
 
   pub possible_here : AreExplained limits (is.past ++ (take at judge.course.events.items ++
-      Returns lane (reply_as reply) ∷ [])) → IsPossibleReply limits run number (reply_as reply)
+      Returns lane (reply_of reply) ∷ [])) → IsPossibleReply limits run number (reply_of reply)
   possible_here explained = record {
     lane = lane;
     own = here.own;
@@ -182,17 +170,17 @@ module _ (limits : Bounds) (run : List Event) (judge : Judge) (is : KeepsBase li
   same_lane other own there = returns_same other lane own here.own (some_same (sym there ∙ there_in_run))
 
   pub not_possible_here : (¬ AreExplained limits (is.past ++ (take at judge.course.events.items ++
-      Returns lane (reply_as reply) ∷ []))) → ¬ IsPossibleReply limits run number (reply_as reply)
+      Returns lane (reply_of reply) ∷ []))) → ¬ IsPossibleReply limits run number (reply_of reply)
   not_possible_here none possible = none (subst (AreExplained limits) up_to_here
-      (subst (λ (l : ℕ). AreExplained limits (take number run ++ Returns l (reply_as reply) ∷ []))
+      (subst (λ (l : ℕ). AreExplained limits (take number run ++ Returns l (reply_of reply) ∷ []))
       (same_lane possible.lane possible.own possible.there) possible.explained))
 
   abbrev tried : List Event
-  tried = take at judge.course.events.items ++ Returns lane (reply_as reply) ∷ []
+  tried = take at judge.course.events.items ++ Returns lane (reply_of reply) ∷ []
 
   pub too_many_here : (k : ℕ) → AreTooMany limits (judge.course.first + k)
-      (is.past ++ take k (take at judge.course.events.items ++ Returns lane (reply_as reply) ∷ []))
-      (drop k (take at judge.course.events.items ++ Returns lane (reply_as reply) ∷ [])) judge.most →
+      (is.past ++ take k (take at judge.course.events.items ++ Returns lane (reply_of reply) ∷ []))
+      (drop k (take at judge.course.events.items ++ Returns lane (reply_of reply) ∷ [])) judge.most →
       AreTooManyFor limits run number judge.most reply
   too_many_here k many = record {
     lane = lane;

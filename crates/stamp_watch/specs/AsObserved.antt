@@ -46,9 +46,9 @@ entries_from n (Begins lane call ∷ events) =
 entries_from n (Returns lane reply ∷ events) = entries_from (n + 1) events
 entries_from n (Withdraws lane ∷ events) = entries_from (n + 1) events
 
--- the run as an observed history of a lock alone
+-- the run as an observed history of a lock and its record of one word
 abbrev pub observed_of : Bounds → List Event → ObservedHistory
-observed_of limits events = observed_as limits 0 (entries_from 0 events)
+observed_of limits events = observed_as limits 1 (entries_from 0 events)
 
 -- the history is stuck at the entry that returned at this position
 pub record IsStuckAtPosition (h : ObservedHistory) (position : ℕ) : Type 0 where

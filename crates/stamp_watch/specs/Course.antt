@@ -4,7 +4,7 @@ use Rattle.stamp_core.specs.Limits.{Bounds}
 use Rattle.stamp_runs.specs.declared.event.Event.{Event}
 use Rattle.stamp_runs.specs.declared.event.Event.TheVariants.{Begins, Returns, Withdraws}
 use Rattle.stamp_runs.specs.Run.{EndsNever}
-use Rattle.stamp_runs.specs.LockRun.{AreExplained}
+use Rattle.stamp_runs.specs.BothRun.{AreExplained}
 use Rattle.stamp_watch.specs.declared.course.Course.{Course}
 use Rattle.stamp_watch.specs.declared.ended_call.EndedCall.{EndedCall}
 use Rattle.stamp_watch.specs.declared.verdict.Verdict.{Verdict}
@@ -14,7 +14,7 @@ use Rattle.stamp_sets.specs.declared.watch.Watch.{Watch}
 use Rattle.stamp_watch.specs.AsObserved.{AreEnded}
 use Rattle.stamp_watch.specs.EndedCall.{ended_from}
 use Rattle.stamp_watch.specs.SoFar.{BeginWithOpenCall}
-use Rattle.stamp_watch.specs.Verdict.{AreOfLock, IsVerdict, NoMoreAreOfLock}
+use Rattle.stamp_watch.specs.Verdict.{AreOfLanes, IsVerdict, NoMoreAreOfLanes}
 use Rattle.stamp_watch.specs.Judging.{IsFound, IsJudging}
 
 -- a watch judges a run, whatever comes behind these events
@@ -29,7 +29,7 @@ pub record IsRunOn (limits : Bounds) (run : List Event) (first seen : ℕ) (even
   pub past : List Event
   pub run_is : run ≡ past ++ events
   pub place : first ≡ length past
-  pub whole : AreOfLock (past ++ events)
+  pub whole : AreOfLanes (past ++ events)
   pub within : seen ≤ length events
   pub from_base : IsStanding limits first past (take seen events) base
   pub now : IsStanding limits (first + seen) (past ++ take seen events) (drop seen events) watch
@@ -87,13 +87,13 @@ pub record IsNear (ahead : ℕ) (course : Course) : Type 0 where
   pub events : length course.events.items ≤ course.seen + ahead
   pub waits : BeginWithOpenCall (drop course.seen course.events.items)
 
--- no event of the lock comes next
+-- no event comes next that may
 abbrev pub IsOver : List Event → List Event → Type 0
-IsOver run later = NoMoreAreOfLock (run ++ later) (length run)
+IsOver run later = NoMoreAreOfLanes (run ++ later) (length run)
 
 -- what is found of a run that ends or breaks here; what is not explained is found whatever comes later
 abbrev pub IsRest : Bounds → List Event → ℕ → Option ℕ → Verdict → Type 0
-IsRest limits run most ahead verdict.Explained = AreOfLock run × AreExplained limits run
+IsRest limits run most ahead verdict.Explained = AreOfLanes run × AreExplained limits run
 IsRest limits run most ahead (verdict.Stuck k) = IsFound limits run most ahead (verdict.Stuck k)
 IsRest limits run most ahead (verdict.StuckWithin k m) = IsFound limits run most ahead (verdict.StuckWithin k m)
 IsRest limits run most ahead (verdict.Undecided k cause.TooMany) = (later : List Event) → IsOver run later →

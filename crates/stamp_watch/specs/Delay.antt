@@ -7,14 +7,14 @@ use Rattle.stamp_core.specs.declared.call.Call.{Call}
 use Rattle.stamp_runs.specs.Run.{IsEndOf, lane_of, EndsNever}
 use Rattle.stamp_runs.specs.declared.event.Event.{Event}
 use Rattle.stamp_runs.specs.declared.event.Event.TheVariants.{Begins, Returns, Withdraws}
-use Rattle.stamp_runs.specs.LockRun.{AreExplained}
+use Rattle.stamp_runs.specs.BothRun.{AreExplained}
 use Rattle.stamp_watch.specs.Ahead.{IsSpared}
 use Rattle.stamp_watch.specs.declared.delay.Delay.{Delay}
 use Rattle.stamp_watch.specs.Judge.{IsJudge}
 use Rattle.stamp_watch.specs.Issued.{LosesNothing}
 use Rattle.stamp_watch.specs.Late.{BeginsLater, EndsBehind, IsLongCall, LongCallsBeginLater, last_of}
 use Rattle.stamp_watch.specs.Possible.{KeepsBase}
-use Rattle.stamp_watch.specs.Verdict.{AreOfLock, IsOpenFor}
+use Rattle.stamp_watch.specs.Verdict.{AreOfLanes, IsOpenFor}
 use Rattle.stamp_watch.specs.Waiting.{IsCounted, count_of}
 
 abbrev pub IsBeginning : Event → Type 0
@@ -147,7 +147,7 @@ reach_of ahead = (ahead - 64) + 64
 
 -- the delay of a run in form, in front of a judge, where calls may be open for so many events
 pub record IsDelayed (limits : Bounds) (most ahead : ℕ) (run : List Event) (delay : Delay) : Type 0 where
-  pub whole : AreOfLock run
+  pub whole : AreOfLanes run
   pub limits_are : delay.limits ≡ limits
   pub ahead_is : delay.ahead ≡ ahead - 64
   pub counted : IsCounted delay.waiting
@@ -164,7 +164,7 @@ pub record IsDelayed (limits : Bounds) (most ahead : ℕ) (run : List Event) (de
 abbrev pub kept_of : Delay → ℕ
 kept_of delay = length delay.waiting.events.items + length delay.aside.items + length delay.judge.course.events.items
 
--- few events are kept, by a judge that goes on with so many configurations
+-- few events are kept, by a judge that goes on with so many positions
 pub record IsSmallDelay (most ahead : ℕ) (delay : Delay) : Type 0 where
   pub limits : Bounds
   pub given : List Event

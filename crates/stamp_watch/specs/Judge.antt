@@ -4,7 +4,7 @@ use Rattle.stamp_core.specs.Limits.{Bounds}
 use Rattle.stamp_runs.specs.declared.event.Event.{Event}
 use Rattle.stamp_watch.specs.declared.online.Judge.{Judge}
 use Rattle.stamp_watch.specs.declared.verdict.Verdict.{Verdict}
-use Rattle.stamp_watch.specs.Verdict.{AreOfLock}
+use Rattle.stamp_watch.specs.Verdict.{AreOfLanes}
 use Rattle.stamp_watch.specs.Judging.{AreBusyLanes, IsFound}
 use Rattle.stamp_watch.specs.Course.{HasRoom, IsCourse, IsNear, IsSmall, KeepsEndOf}
 
@@ -44,7 +44,7 @@ pub record HasRoomForOne (judge : Judge) : Type 0 where
 -- what is found once the judge was given one event more; or the run is in form so far
 abbrev pub IsFoundThen : Event → Judge → Option Verdict → Type 0
 IsFoundThen e old found = (limits : Bounds) (most ahead : ℕ) (run : List Event) → IsJudge limits most ahead run old →
-    MatchOption found (AreOfLock (run ++ e ∷ []))
+    MatchOption found (AreOfLanes (run ++ e ∷ []))
     (λ verdict. IsFound limits (run ++ e ∷ []) most (Some ahead) verdict)
 
 -- the judge then

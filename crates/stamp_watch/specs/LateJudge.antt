@@ -16,7 +16,7 @@ use Rattle.stamp_watch.specs.Delay.{IsDelayed, IsSmallDelay}
 use Rattle.stamp_watch.specs.Judging.{AreBusyLanes}
 use Rattle.stamp_watch.specs.Late.{IsLateFound}
 use Rattle.stamp_watch.specs.PossibleLate.{KeepsLater}
-use Rattle.stamp_watch.specs.Verdict.{AreOfLock}
+use Rattle.stamp_watch.specs.Verdict.{AreOfLanes}
 
 -- nothing was found of the run yet
 pub record IsLateUnderWay (limits : Bounds) (most ahead : ℕ) (run : List Event) (judge : LateJudge) : Type 0 where
@@ -76,7 +76,7 @@ pub record HasRoomForOneLater (judge : LateJudge) : Type 0 where
 abbrev pub IsLateFoundThen : Event → LateJudge → Option LateVerdict → Type 0
 IsLateFoundThen e old found = (limits : Bounds) (most ahead : ℕ) (run : List Event) →
     IsLateJudge limits most ahead run old →
-    MatchOption found (AreOfLock (run ++ e ∷ [])) (λ finding. IsLateFound limits (run ++ e ∷ []) most ahead finding)
+    MatchOption found (AreOfLanes (run ++ e ∷ [])) (λ finding. IsLateFound limits (run ++ e ∷ []) most ahead finding)
 
 -- the judge then
 abbrev pub IsLateGiven : Event → LateJudge → LateJudge → Type 0

@@ -10,19 +10,19 @@ use Rattle.stamp_runs.specs.declared.event.Event.{Event}
 use Rattle.stamp_runs.specs.declared.event.Event.TheVariants.{Begins, Returns}
 use Rattle.stamp_runs.specs.Run.{EndsBy, EndsNever, Lanes, Survives}
 use Rattle.stamp_runs.specs.Object.{LockStep}
-use Rattle.stamp_runs.specs.LockRun.{AreExplained}
+use Rattle.stamp_runs.specs.BothRun.{AreExplained, Both, State}
 use Rattle.stamp_watch.specs.Form.{is_busy_after}
 use Rattle.stamp_watch.specs.Issued.{IssuesStamp, ReturnsOlder}
 
 -- with this reply the call has taken effect where no fewer acquisitions of write mode were made
 abbrev pub TellsAtLeast : Bounds → Call → Reply → ℕ → Type 0
 TellsAtLeast limits call reply version =
-    (u v : List LockEvent) → LockStep limits u call reply v → version ≤ write_count v
+    (u v : State) → Both limits u call reply v → version ≤ write_count v.0
 
 -- and here where fewer were made
 abbrev pub TellsLess : Bounds → Call → Reply → ℕ → Type 0
 TellsLess limits call reply version =
-    (u v : List LockEvent) → LockStep limits u call reply v → write_count v < version
+    (u v : State) → Both limits u call reply v → write_count v.0 < version
 
 -- a call begins among these events and returns among them, and its reply tells an older version than this one
 pub record TellsOlder (limits : Bounds) (version : ℕ) (events : List Event) : Type 0 where
@@ -38,8 +38,8 @@ pub record TellsOlder (limits : Bounds) (version : ℕ) (events : List Event) : 
 -- Such events go on only from an older version, since versions never fall.
 abbrev pub OlderIsTold : Type 0
 OlderIsTold =
-    (limits : Bounds) (version : ℕ) (events : List Event) (s : List LockEvent) (lanes : Lanes) →
-    TellsOlder limits version events → Survives (LockStep limits) events s lanes → write_count s < version
+    (limits : Bounds) (version : ℕ) (events : List Event) (s : State) (lanes : Lanes) →
+    TellsOlder limits version events → Survives (Both limits) events s lanes → write_count s.0 < version
 
 -- So nothing is lost if a call begins later, before events that tell an older version than its own reply tells.
 abbrev pub LateLosesNothing : Type 0

@@ -1,9 +1,9 @@
 pub mod inner
 pub mod Stream
+pub mod Names
 pub mod EndedCall
 pub mod Start
 pub mod Foretold
-pub mod Configurations
 pub mod Verdict
 pub mod Judging
 pub mod Course
@@ -13,8 +13,10 @@ pub mod Possible
 pub mod PossibleLate
 pub mod Ahead
 pub mod Form
-pub mod Watching
 pub mod AsObserved
+pub mod Ordered
+pub mod Corresponding
+pub mod AsEvents
 pub mod WatchLaws
 pub mod Issued
 pub mod Late

@@ -2,9 +2,9 @@
 use Rattle.std.specs.Prelude.{ℕ, ◌≡◌, ◌<◌, ◌≤◌, ◌++◌, ⊤, List, length, take, Option, Some, None, MatchOption}
 use Rattle.stamp_core.specs.Limits.{Bounds}
 use Rattle.stamp_core.specs.declared.call.Call.{Call}
-use Rattle.stamp_core.specs.declared.lock_decision.LockReply.{LockReply}
 use Rattle.stamp_core.specs.declared.reply.Reply.{Reply}
 use Rattle.stamp_runs.specs.declared.event.Event.{Event}
+use Rattle.stamp_sets.specs.declared.small_call.SmallReply.{SmallReply}
 use Rattle.stamp_watch.specs.declared.delay.Delay.{Delay}
 use Rattle.stamp_watch.specs.declared.late.LateJudge.{LateJudge}
 use Rattle.stamp_watch.specs.Possible.{AreTooManyWith, ArePossibleAmong, CanTell, KeepsBase, plain_replies}
@@ -38,7 +38,7 @@ pub record CanTellLater (judge : LateJudge) (k : ℕ) : Type 0 where
   pub before : MatchOption judge.delay.first_late ⊤ (λ first. k < first)
 
 -- which of the replies that were tried are possible at the event; or it can't be told
-abbrev pub IsToldLater : LateJudge → ℕ → List LockReply → Option (List Reply) → Type 0
+abbrev pub IsToldLater : LateJudge → ℕ → List SmallReply → Option (List Reply) → Type 0
 IsToldLater judge k tried (Some found) = (limits : Bounds) (run : List Event) → KeepsLater limits run judge →
     ArePossibleAmong limits run k tried found
 IsToldLater judge k tried None = CanTellLater judge k → (limits : Bounds) (run : List Event) →

@@ -5,7 +5,7 @@ use Rattle.stamp_core.specs.Limits.{Bounds}
 use Rattle.stamp_runs.specs.Run.{EndsNever}
 use Rattle.stamp_runs.specs.declared.event.Event.{Event}
 use Rattle.stamp_runs.specs.declared.event.Event.TheVariants.{Begins, Returns, Withdraws}
-use Rattle.stamp_runs.specs.LockRun.{AreExplained}
+use Rattle.stamp_runs.specs.BothRun.{AreExplained}
 use Rattle.stamp_watch.specs.Form.{is_busy_after}
 
 -- so many of the events are explained, and no more come behind them than are looked at for the end of a call

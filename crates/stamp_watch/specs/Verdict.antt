@@ -1,89 +1,81 @@
 -- What is found of a run that is judged from its events.
-use Rattle.std.specs.Prelude.{ℕ, ◌≡◌, ◌⊎◌, ◌+◌, ◌-◌, ◌/◌, ◌<◌, ◌≤◌, Bool, true, false, List, ◌∷◌, length, take, drop}
+use Rattle.std.specs.Prelude.{ℕ, ◌≡◌, ◌⊎◌, ◌+◌, ◌-◌, ◌/◌, ◌<◌, ◌≤◌, true, List, ◌∷◌, length, take, drop}
 use Rattle.std.specs.Prelude.{Option, Some, None}
 use Rattle.std.specs.List.{All}
 use Rattle.stamp_core.specs.Limits.{Bounds}
 use Rattle.stamp_core.specs.declared.call.Call.{Call}
-use Rattle.stamp_core.specs.declared.reply.Reply.{Reply}
-use Rattle.stamp_core.specs.declared.reply.Reply.TheVariants.{Content}
 use Rattle.stamp_runs.specs.declared.event.Event.{Event}
 use Rattle.stamp_runs.specs.declared.event.Event.TheVariants.{Begins, Returns, Withdraws}
+use Rattle.stamp_runs.specs.OneWord.{is_small_call, is_small_reply}
+use Rattle.stamp_runs.specs.Own.{AreInForm}
 use Rattle.stamp_runs.specs.Run.{EndsNever}
-use Rattle.stamp_runs.specs.LockRun.{AreExplained, AreStuckAt}
+use Rattle.stamp_runs.specs.BothRun.{AreExplained, AreStuckAt}
 use Rattle.stamp_sets.specs.declared.open_call.OpenCall.{OpenCall}
 use Rattle.stamp_watch.specs.declared.verdict.Verdict.{Verdict}
 use Rattle.stamp_watch.specs.declared.verdict.Verdict.TheVariants.{Explained, Stuck, StuckWithin, Undecided, Broken}
 use Rattle.stamp_watch.specs.declared.verdict.Why.TheVariants.{TooMany, TooFar}
 use Rattle.stamp_sets.specs.declared.watch.Watch.{Watch}
 use Rattle.stamp_watch.specs.AsObserved.{AreEnded, ending_of}
-use Rattle.stamp_sets.specs.Told.{open_at}
 use Rattle.stamp_watch.specs.Foretold.{told_as}
-use Rattle.stamp_watch.specs.Form.{AreInForm}
-use Rattle.stamp_sets.specs.Watch.{IsWatching}
-use Rattle.stamp_watch.specs.Configurations.{MoreArePossible}
+use Rattle.stamp_sets.specs.Watch.{IsWatching, MoreArePossible, open_of}
 
--- all replies but the words of a record are the lock's
-abbrev pub is_lock_reply : Reply → Bool
-is_lock_reply (Content words) = false
-is_lock_reply _ = true
+-- an event in one of 64 lanes, whose contents have one word each
+abbrev pub IsOfLane : Event → Type 0
+IsOfLane (Begins lane call) = (lane < 64) × (is_small_call call ≡ true)
+IsOfLane (Returns lane reply) = (lane < 64) × (is_small_reply reply ≡ true)
+IsOfLane (Withdraws lane) = lane < 64
 
--- an event in one of 64 lanes, with a reply of the lock
-abbrev pub IsOfLock : Event → Type 0
-IsOfLock (Begins lane call) = lane < 64
-IsOfLock (Returns lane reply) = (lane < 64) × (is_lock_reply reply ≡ true)
-IsOfLock (Withdraws lane) = lane < 64
-
--- the events of a run of a lock, in 64 lanes, each of which may come after those before it
-pub record AreOfLock (events : List Event) : Type 0 where
+-- the events of a run of a lock and its record, in 64 lanes, each of which may come after those before it
+pub record AreOfLanes (events : List Event) : Type 0 where
   pub form : AreInForm events
-  pub lock : All IsOfLock events
+  pub lanes : All IsOfLane events
 
 -- so they are up to this event, and no longer
 pub record AreBrokenAt (events : List Event) (k : ℕ) : Type 0 where
-  pub whole : AreOfLock (take k events)
-  pub broken : ¬ AreOfLock (take (k + 1) events)
+  pub whole : AreOfLanes (take k events)
+  pub broken : ¬ AreOfLanes (take (k + 1) events)
 
--- after some events more than so many different configurations are possible for a watch that is told of each open call
--- how it ends among those that come; the first of these has this number
+-- after some events more than so many different positions of the lock, or of the record, are possible for a watch that
+-- is told of each open call how it ends among those that come; the first of these has this number
 pub record AreTooMany (limits : Bounds) (n : ℕ) (past future : List Event) (most : ℕ) : Type 0 where
   pub watch : Watch
   pub limits_are : watch.limits ≡ limits
   pub watching : IsWatching past watch
-  pub told : (lane : ℕ) (begun : OpenCall) → open_at watch.table.items lane ≡ Some begun →
+  pub told : (lane : ℕ) (begun : OpenCall) → open_of watch lane ≡ Some begun →
       told_as begun.ends ≡ ending_of lane n future
   pub more : MoreArePossible past most watch
 
 -- there is an event with this number, and it may come behind those before it
 pub record MayComeNext (events : List Event) (k : ℕ) : Type 0 where
   pub there : k < length events
-  pub whole : AreOfLock (take (k + 1) events)
+  pub whole : AreOfLanes (take (k + 1) events)
 
 -- no more than so many of the events are in form
-abbrev pub NoMoreAreOfLock : List Event → ℕ → Type 0
-NoMoreAreOfLock events m = m < length events → ¬ AreOfLock (take (m + 1) events)
+abbrev pub NoMoreAreOfLanes : List Event → ℕ → Type 0
+NoMoreAreOfLanes events m = m < length events → ¬ AreOfLanes (take (m + 1) events)
 
 -- so many of the events, from the first on, are in form, and no more
 pub record IsInFormUpTo (events : List Event) (k : ℕ) : Type 0 where
   pub within : k ≤ length events
-  pub whole : AreOfLock (take k events)
-  pub broken : NoMoreAreOfLock events k
+  pub whole : AreOfLanes (take k events)
+  pub broken : NoMoreAreOfLanes events k
 
 -- among the first m events each call ends that is open after k, or those m are all that are in form
 pub record IsFarEnough (events : List Event) (k m : ℕ) : Type 0 where
-  pub whole : AreOfLock (take m events)
-  pub far : AreEnded k (take k events) (drop k (take m events)) ⊎ NoMoreAreOfLock events m
+  pub whole : AreOfLanes (take m events)
+  pub far : AreEnded k (take k events) (drop k (take m events)) ⊎ NoMoreAreOfLanes events m
 
--- after k events there are too many configurations, though it is told how the calls end
+-- after k events there are too many positions, though it is told how the calls end
 pub record IsTooManyAt (limits : Bounds) (events : List Event) (most k : ℕ) : Type 0 where
   pub known : ℕ
   pub far : IsFarEnough events k known
   pub too_many : AreTooMany limits k (take k events) (drop k (take known events)) most
 
--- the run is stuck between two places. Of the run that ends halfway between them there are too many configurations
+-- the run is stuck between two places. Of the run that ends halfway between them there are too many positions
 -- before some event
 pub record IsStuckWithin (limits : Bounds) (events : List Event) (most k m : ℕ) : Type 0 where
   pub there : m ≤ length events
-  pub whole : AreOfLock (take m events)
+  pub whole : AreOfLanes (take m events)
   pub explained : AreExplained limits (take k events)
   pub stuck : ¬ AreExplained limits (take m events)
   pub cut : ℕ
@@ -106,12 +98,12 @@ pub record IsOpenFor (events : List Event) (k ahead : ℕ) : Type 0 where
 -- where so many events are looked at for the end of a call, if not all; each of them may come
 abbrev pub IsTooFar : List Event → ℕ → Option ℕ → Type 0
 IsTooFar events k None = ⊥
-IsTooFar events k (Some ahead) = IsOpenFor events k ahead × AreOfLock (take (k + 1 + ahead) events)
+IsTooFar events k (Some ahead) = IsOpenFor events k ahead × AreOfLanes (take (k + 1 + ahead) events)
 
 -- what a verdict means
 abbrev pub IsVerdict : Bounds → List Event → ℕ → Option ℕ → Verdict → Type 0
-IsVerdict limits events most ahead Explained = AreOfLock events × AreExplained limits events
-IsVerdict limits events most ahead (Stuck k) = AreOfLock (take (k + 1) events) × AreStuckAt limits events k
+IsVerdict limits events most ahead Explained = AreOfLanes events × AreExplained limits events
+IsVerdict limits events most ahead (Stuck k) = AreOfLanes (take (k + 1) events) × AreStuckAt limits events k
 IsVerdict limits events most ahead (StuckWithin k m) = IsStuckWithin limits events most k m
 IsVerdict limits events most ahead (Undecided k TooMany) =
     MayComeNext events k × AreExplained limits (take k events) × IsTooManyAt limits events most k

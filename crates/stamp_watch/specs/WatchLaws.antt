@@ -1,180 +1,132 @@
--- The laws of runs, over the definitions alone.
-use Rattle.std.specs.Prelude.{ℕ, ◌≡◌, ◌≢◌, ◌≤◌, ◌<◌, ◌+◌, ◌↔◌, ◌++◌, false, List, [], ◌∷◌, length, take, slice_get}
-use Rattle.std.specs.Prelude.{◌⊎◌, Option, Some}
+-- The laws of runs, over the definitions alone; of any object where they hold of any.
+use Rattle.std.specs.Prelude.{ℕ, ◌≡◌, ◌≢◌, ◌≤◌, ◌<◌, ◌+◌, ◌↔◌, ◌++◌, false, List, ◌∷◌, take, slice_get}
+use Rattle.std.specs.Prelude.{◌⊎◌, Option, Some, map}
 use Rattle.stamp_core.specs.LockEvent.{LockEvent, write_count}
+use Rattle.stamp_core.specs.Call.{is_lock_call}
 use Rattle.stamp_core.specs.Limits.{Bounds}
 use Rattle.stamp_core.specs.declared.call.Call.{Call}
 use Rattle.stamp_core.specs.declared.reply.Reply.{Reply}
+use Rattle.stamp_explain.specs.Cut.{IsStuck}
 use Rattle.stamp_explain.specs.Explained.{IsExplained}
+use Rattle.stamp_explain.specs.Observed.{ObservedHistory, IsObserved, IsReturnAt}
 use Rattle.stamp_runs.specs.declared.event.Event.{Event}
 use Rattle.stamp_runs.specs.declared.event.Event.TheVariants.{Begins, Returns, Withdraws}
-use Rattle.stamp_runs.specs.Object.{LockStep}
-use Rattle.stamp_runs.specs.Run.{Lanes, Sets, Survives, EndsBy, ReturnsSooner, EndsNever}
-use Rattle.stamp_runs.specs.LockRun.{DoSame, AreExplained, AreStuckAt, Configuration, opening}
+use Rattle.stamp_runs.specs.BothRun.{AreExplained, AreStuckAt, Both, State, start}
+use Rattle.stamp_runs.specs.Names.{Names, event_by}
+use Rattle.stamp_runs.specs.Object.{LockStep, Object, RecordStep}
+use Rattle.stamp_runs.specs.Own.{AreInForm, own_events}
+use Rattle.stamp_runs.specs.Run.{AreExplainedFrom, AreStuckFrom, Lanes, Sets, Survives, EndsBy, EndsNever}
+use Rattle.stamp_runs.specs.Run.{all_idle}
 use Rattle.stamp_runs.specs.Run.Phase.{Idle, Asks, Gets}
+use Rattle.stamp_runs.specs.Merged.{Ascends, Merges, among_all}
+use Rattle.stamp_runs.specs.Pairs.{not_of}
+use Rattle.stamp_runs.specs.Position.{Position}
+use Rattle.stamp_runs.specs.Trace.{IsTrace, LeadsBy, Move, Taken, order_of}
 use Rattle.stamp_watch.specs.Ahead.{IsSpared}
-use Rattle.stamp_watch.specs.Form.{is_busy_after, AreInForm}
-use Rattle.stamp_watch.specs.Watching.{Fits, GoesOn, StandFor, Told}
+use Rattle.stamp_watch.specs.Form.{is_busy_after}
 use Rattle.stamp_watch.specs.declared.late_verdict.LateVerdict.{LateVerdict}
 use Rattle.stamp_watch.specs.declared.late_verdict.LateVerdict.TheVariants.{Is, Late}
+use Rattle.stamp_watch.specs.declared.moments.Moment.{Moment}
 use Rattle.stamp_watch.specs.declared.verdict.Verdict.{Verdict}
 use Rattle.stamp_watch.specs.declared.verdict.Verdict.TheVariants.{Explained, Stuck, StuckWithin, Undecided, Broken}
 use Rattle.stamp_watch.specs.Late.{IsLateVerdict}
 use Rattle.stamp_watch.specs.Verdict.{AreBrokenAt, IsVerdict}
+use Rattle.stamp_watch.specs.AsEvents.{AreEventsOf, AreNamesFor, IsReturnOf, cut_to, return_of}
+use Rattle.stamp_watch.specs.AsEvents.{state_at_first}
 use Rattle.stamp_watch.specs.AsObserved.{observed_of, IsStuckAtPosition, NoneIsWithdrawnLater}
+use Rattle.stamp_watch.specs.Corresponding.{Correspond}
+use Rattle.stamp_watch.specs.Ordered.{Explains}
 
 -- the lane is idle, and nothing is lost if its call begins at once
-pub record BeginsAtOnce (limits : Bounds) (lane : ℕ) (call : Call) (events : List Event) (s : List LockEvent)
+pub record BeginsAtOnce {S : Type 0} (O : Object S) (lane : ℕ) (call : Call) (events : List Event) (s : S)
     (lanes : Lanes) : Type 0 where
   pub idle : lanes lane ≡ Idle
-  pub survives : (after : Lanes) → Sets lanes after lane (Asks call) → Survives (LockStep limits) events s after
+  pub survives : (after : Lanes) → Sets lanes after lane (Asks call) → Survives O events s after
 
-abbrev pub BeginsFirst : Type 0
-BeginsFirst =
-    (limits : Bounds) (lane : ℕ) (call : Call) (events : List Event) (s : List LockEvent) (lanes : Lanes) →
-    Survives (LockStep limits) (Begins lane call ∷ events) s lanes → BeginsAtOnce limits lane call events s lanes
+abbrev pub BeginsFirst : {S : Type 0} → Object S → Type 0
+BeginsFirst {S} O =
+    (lane : ℕ) (call : Call) (events : List Event) (s : S) (lanes : Lanes) →
+    Survives O (Begins lane call ∷ events) s lanes → BeginsAtOnce O lane call events s lanes
 
 -- the call in effect has this reply, and nothing is lost if it returns at once
-pub record ReturnsAtOnce (limits : Bounds) (lane : ℕ) (reply gotten : Reply) (events : List Event)
-    (s : List LockEvent) (lanes : Lanes) : Type 0 where
+pub record ReturnsAtOnce {S : Type 0} (O : Object S) (lane : ℕ) (reply gotten : Reply) (events : List Event)
+    (s : S) (lanes : Lanes) : Type 0 where
   pub same : gotten ≡ reply
-  pub survives : (after : Lanes) → Sets lanes after lane Idle → Survives (LockStep limits) events s after
+  pub survives : (after : Lanes) → Sets lanes after lane Idle → Survives O events s after
 
-abbrev pub ReturnsFirst : Type 0
-ReturnsFirst =
-    (limits : Bounds) (lane : ℕ) (reply gotten : Reply) (events : List Event) (s : List LockEvent)
-    (lanes : Lanes) → lanes lane ≡ Gets gotten →
-    Survives (LockStep limits) (Returns lane reply ∷ events) s lanes →
-    ReturnsAtOnce limits lane reply gotten events s lanes
+abbrev pub ReturnsFirst : {S : Type 0} → Object S → Type 0
+ReturnsFirst {S} O =
+    (lane : ℕ) (reply gotten : Reply) (events : List Event) (s : S) (lanes : Lanes) → lanes lane ≡ Gets gotten →
+    Survives O (Returns lane reply ∷ events) s lanes → ReturnsAtOnce O lane reply gotten events s lanes
 
 -- the lane's call is not in effect, and nothing is lost if it is withdrawn at once
-pub record WithdrawsAtOnce (limits : Bounds) (lane : ℕ) (events : List Event) (s : List LockEvent)
+pub record WithdrawsAtOnce {S : Type 0} (O : Object S) (lane : ℕ) (events : List Event) (s : S)
     (lanes : Lanes) : Type 0 where
   pub call : Call
   pub asks : lanes lane ≡ Asks call
-  pub survives : (after : Lanes) → Sets lanes after lane Idle → Survives (LockStep limits) events s after
+  pub survives : (after : Lanes) → Sets lanes after lane Idle → Survives O events s after
 
-abbrev pub WithdrawsFirst : Type 0
-WithdrawsFirst =
-    (limits : Bounds) (lane : ℕ) (events : List Event) (s : List LockEvent) (lanes : Lanes) →
-    Survives (LockStep limits) (Withdraws lane ∷ events) s lanes → WithdrawsAtOnce limits lane events s lanes
+abbrev pub WithdrawsFirst : {S : Type 0} → Object S → Type 0
+WithdrawsFirst {S} O =
+    (lane : ℕ) (events : List Event) (s : S) (lanes : Lanes) → Survives O (Withdraws lane ∷ events) s lanes →
+    WithdrawsAtOnce O lane events s lanes
 
 -- some call takes effect, and the rest survives
-pub record TakesEffectNext (limits : Bounds) (events : List Event) (s : List LockEvent) (lanes : Lanes) : Type 0
+pub record TakesEffectNext {S : Type 0} (O : Object S) (events : List Event) (s : S) (lanes : Lanes) : Type 0
   where
     pub lane : ℕ
     pub call : Call
     pub reply : Reply
     pub asks : lanes lane ≡ Asks call
-    pub next : List LockEvent
-    pub step : LockStep limits s call reply next
+    pub next : S
+    pub step : O s call reply next
     pub after : Lanes
     pub sets : Sets lanes after lane (Gets reply)
-    pub survives : Survives (LockStep limits) events next after
+    pub survives : Survives O events next after
 
-abbrev pub TakesEffectFirst : Type 0
-TakesEffectFirst =
-    (limits : Bounds) (lane : ℕ) (reply : Reply) (call : Call) (events : List Event) (s : List LockEvent)
-    (lanes : Lanes) → lanes lane ≡ Asks call →
-    Survives (LockStep limits) (Returns lane reply ∷ events) s lanes →
-    TakesEffectNext limits (Returns lane reply ∷ events) s lanes
-
--- Where the return that is told of a call has a reply by which it changes nothing in any state, nothing is lost if
--- it is in effect.
-abbrev pub AtOnceLosesNothing : Type 0
-AtOnceLosesNothing =
-    (limits : Bounds) (lane : ℕ) (call : Call) (reply : Reply) (events : List Event) (s : List LockEvent)
-    (lanes after : Lanes) →
-    ((u v : List LockEvent) → LockStep limits u call reply v → v ≡ u) →
-    lanes lane ≡ Asks call → Sets lanes after lane (Gets reply) → EndsBy lane (Returns lane reply) events →
-    Survives (LockStep limits) events s lanes → Survives (LockStep limits) events s after
+abbrev pub TakesEffectFirst : {S : Type 0} → Object S → Type 0
+TakesEffectFirst {S} O =
+    (lane : ℕ) (reply : Reply) (call : Call) (events : List Event) (s : S) (lanes : Lanes) →
+    lanes lane ≡ Asks call → Survives O (Returns lane reply ∷ events) s lanes →
+    TakesEffectNext O (Returns lane reply ∷ events) s lanes
 
 -- A call that is withdrawn takes no effect: where it is in effect no way goes on.
-abbrev pub WithdrawnTakesNoEffect : Type 0
-WithdrawnTakesNoEffect =
-    (limits : Bounds) (lane : ℕ) (reply : Reply) (events : List Event) (s : List LockEvent) (lanes : Lanes) →
-    lanes lane ≡ Gets reply → EndsBy lane (Withdraws lane) events → ¬ Survives (LockStep limits) events s lanes
+abbrev pub WithdrawnTakesNoEffect : {S : Type 0} → Object S → Type 0
+WithdrawnTakesNoEffect {S} O =
+    (lane : ℕ) (reply : Reply) (events : List Event) (s : S) (lanes : Lanes) → lanes lane ≡ Gets reply →
+    EndsBy lane (Withdraws lane) events → ¬ Survives O events s lanes
 
 -- A call that never ends is not needed where it changed nothing.
-abbrev pub UnchangingNeverNeeded : Type 0
-UnchangingNeverNeeded =
-    (limits : Bounds) (lane : ℕ) (call : Call) (reply : Reply) (events : List Event) (s : List LockEvent)
-    (lanes after : Lanes) → lanes lane ≡ Asks call → Sets lanes after lane (Gets reply) →
-    EndsNever lane events → Survives (LockStep limits) events s after → Survives (LockStep limits) events s lanes
+abbrev pub UnchangingNeverNeeded : {S : Type 0} → Object S → Type 0
+UnchangingNeverNeeded {S} O =
+    (lane : ℕ) (call : Call) (reply : Reply) (events : List Event) (s : S) (lanes after : Lanes) →
+    lanes lane ≡ Asks call → Sets lanes after lane (Gets reply) → EndsNever lane events →
+    Survives O events s after → Survives O events s lanes
 
--- Of two open calls that are alike, which do the same and have one reply, nothing is lost if the one that returns
--- sooner takes effect instead of the other.
-abbrev pub SoonerAlikeFirst : Type 0
-SoonerAlikeFirst =
-    (limits : Bounds) (lane than : ℕ) (call other : Call) (reply : Reply) (events : List Event) (s : List LockEvent)
-    (lanes later sooner : Lanes) → DoSame limits call other → lane ≢ than → lanes lane ≡ Asks call →
-    lanes than ≡ Asks other → Sets lanes later than (Gets reply) → Sets lanes sooner lane (Gets reply) →
-    EndsBy lane (Returns lane reply) events →
-    ReturnsSooner lane than events → Survives (LockStep limits) events s later →
-    Survives (LockStep limits) events s sooner
+-- A way on which a call begins later is one on which it begins sooner: a judge that lets calls begin late explains no
+-- more.
+abbrev pub BeginsSooner : {S : Type 0} → Object S → Type 0
+BeginsSooner {S} O =
+    (lane : ℕ) (call : Call) (between rest : List Event) (s : S) (lanes begun : Lanes) →
+    Sets lanes begun lane (Asks call) → IsSpared between lane →
+    Survives O (between ++ Begins lane call ∷ rest) s lanes → Survives O (between ++ rest) s begun
 
--- Of two open calls that are one call, and of which neither ends, nothing is lost if the one takes effect instead of
--- the other.
-abbrev pub EndlessAlikeFirst : Type 0
-EndlessAlikeFirst =
-    (limits : Bounds) (lane than : ℕ) (call : Call) (reply : Reply) (events : List Event) (s : List LockEvent)
-    (lanes later sooner : Lanes) → lane ≢ than → lanes lane ≡ Asks call → lanes than ≡ Asks call →
-    Sets lanes later than (Gets reply) → Sets lanes sooner lane (Gets reply) → EndsNever lane events →
-    EndsNever than events → Survives (LockStep limits) events s later → Survives (LockStep limits) events s sooner
+-- A call may begin later, behind events among which it does not return, if what comes after them goes on only from
+-- an older version of the lock than its reply tells: then it takes effect later on each way.
+abbrev pub BeginsLate : Type 0
+BeginsLate =
+    (limits : Bounds) (lane : ℕ) (call : Call) (reply : Reply) (version : ℕ) (between rest : List Event)
+    (s : State) (lanes begun : Lanes) → lanes lane ≡ Idle → Sets lanes begun lane (Asks call) →
+    EndsBy lane (Returns lane reply) (between ++ rest) → EndsNever lane between →
+    ((u v : State) → Both limits u call reply v → version ≤ write_count v.0) →
+    ((v : State) (there : Lanes) → Survives (Both limits) rest v there → write_count v.0 < version) →
+    Survives (Both limits) (between ++ rest) s begun →
+    Survives (Both limits) (between ++ Begins lane call ∷ rest) s lanes
 
 -- What is explained is explained up to each of its events.
 abbrev pub ShorterStayExplained : Type 0
 ShorterStayExplained =
     (limits : Bounds) (past future : List Event) → AreExplained limits (past ++ future) → AreExplained limits past
-
--- At first a judge keeps the opening alone.
-abbrev pub OpeningStands : Type 0
-OpeningStands = (limits : Bounds) (told : ℕ → Told) → StandFor limits [] told (opening ∷ [])
-
--- What stands for the configurations after some events, and goes on by one more, stands for those after it.
-abbrev pub SetsGoOn : Type 0
-SetsGoOn =
-    (limits : Bounds) (past : List Event) (event : Event) (told then_told : ℕ → Told)
-    (old new : List Configuration) → StandFor limits past told old → GoesOn limits event told then_told old new →
-    StandFor limits (past ++ event ∷ []) then_told new
-
--- While one is kept, the run is explained so far; where none is, nothing is that fits what is told.
-abbrev pub SetsTell : Type 0
-SetsTell =
-    (limits : Bounds) (past : List Event) (told : ℕ → Told) (kept : List Configuration) →
-    StandFor limits past told kept →
-    ((c : Configuration) (others : List Configuration) → kept ≡ c ∷ others → AreExplained limits past) ×
-    ((future : List Event) → kept ≡ [] → Fits told future → ¬ AreExplained limits (past ++ future))
-
--- So a judge to whom nothing of what comes later is told says exactly at which event a run is stuck, whatever comes
--- after it.
-abbrev pub StuckIsExact : Type 0
-StuckIsExact =
-    (limits : Bounds) (past : List Event) (event : Event) (more : List Event) (told then_told : ℕ → Told)
-    (c : Configuration) (others : List Configuration) → StandFor limits past told (c ∷ others) →
-    GoesOn limits event told then_told (c ∷ others) [] → Fits then_told [] →
-    AreStuckAt limits (past ++ event ∷ more) (length past)
-
--- A call may begin later, behind events among which it does not return, if what comes after them goes on only from
--- an older version than its reply tells: then it takes effect later on each way.
-abbrev pub BeginsLate : Type 0
-BeginsLate =
-    (limits : Bounds) (lane : ℕ) (call : Call) (reply : Reply) (version : ℕ) (between rest : List Event)
-    (s : List LockEvent) (lanes begun : Lanes) → lanes lane ≡ Idle → Sets lanes begun lane (Asks call) →
-    EndsBy lane (Returns lane reply) (between ++ rest) → EndsNever lane between →
-    ((u v : List LockEvent) → LockStep limits u call reply v → version ≤ write_count v) →
-    ((v : List LockEvent) (there : Lanes) → Survives (LockStep limits) rest v there → write_count v < version) →
-    Survives (LockStep limits) (between ++ rest) s begun → Survives (LockStep limits)
-    (between ++ Begins lane call ∷ rest) s lanes
-
--- And a way on which a call begins later is one on which it begins sooner: a judge that lets calls begin late explains
--- no more.
-abbrev pub BeginsSooner : Type 0
-BeginsSooner =
-    (limits : Bounds) (lane : ℕ) (call : Call) (between rest : List Event) (s : List LockEvent)
-    (lanes begun : Lanes) → Sets lanes begun lane (Asks call) → IsSpared between lane →
-    Survives (LockStep limits) (between ++ Begins lane call ∷ rest) s lanes →
-    Survives (LockStep limits) (between ++ rest) s begun
 
 -- A call that is withdrawn may be left out: its two events make no difference.
 abbrev pub WithdrawnMayBeLeftOut : Type 0
@@ -190,6 +142,22 @@ ExplainedAsObserved =
     (limits : Bounds) (events : List Event) → AreInForm events →
     AreExplained limits events ↔ IsExplained (observed_of limits events)
 
+-- And the order of effects on a way along its events is one of that history.
+abbrev pub OrderExplains : Type 0
+OrderExplains =
+    (limits : Bounds) (events : List Event) (order : List Taken) (s : State) (lanes : Lanes) →
+    LeadsBy (Both limits) 0 order events start all_idle s lanes → Explains (observed_of limits events) order
+
+-- So the orders that are read back from a trace of the lock and one of its record, merged by their points, explain it.
+abbrev pub TracesExplain : Type 0
+TracesExplain =
+    (limits : Bounds) (events : List Event) → AreInForm events → (moves others : List Move) (order : List Taken)
+    (p : Position (List LockEvent)) (q : Position (List ℕ)) →
+    IsTrace (LockStep limits) start.0 (own_events is_lock_call events) moves p →
+    IsTrace RecordStep start.1 (own_events (not_of is_lock_call) events) others q →
+    Merges (among_all is_lock_call events (order_of moves)) (among_all (not_of is_lock_call) events (order_of others))
+    order → Ascends 0 order → Explains (observed_of limits events) order
+
 -- And it is stuck at an event exactly where that history is stuck there, if none of the calls that are open then is
 -- withdrawn later: the history does not tell of those.
 abbrev pub StuckAsObserved : Type 0
@@ -204,6 +172,51 @@ StuckAsSeen =
     (limits : Bounds) (events : List Event) (k : ℕ) → AreInForm events →
     ((lane : ℕ) → slice_get events k ≢ Some (Withdraws lane)) →
     AreStuckAt limits events k ↔ IsStuckAtPosition (observed_of limits (take (k + 1) events)) k
+
+-- What matters of positions is only which calls had returned before which began.
+abbrev pub PositionsTellOrder : Type 0
+PositionsTellOrder = (g h : ObservedHistory) → Correspond g h → IsExplained g ↔ IsExplained h
+
+-- An observed history that may be told is explained exactly where the run of its events is.
+abbrev pub ExplainedAsEvents : Type 0
+ExplainedAsEvents =
+    (h : ObservedHistory) (moments : List Moment) (events : List Event) → IsObserved h → AreEventsOf h moments events →
+    IsExplained h ↔ AreExplainedFrom (Both h.limits) (state_at_first h) events
+
+-- And it is stuck at an entry exactly where that run is stuck at the entry's return.
+abbrev pub StuckAsEvents : Type 0
+StuckAsEvents =
+    (h : ObservedHistory) (moments : List Moment) (events : List Event) (i k : ℕ) (at : IsReturnAt h.entries i) →
+    IsObserved h → AreEventsOf h moments events → slice_get moments k ≡ Some (return_of i at.return) →
+    IsStuck h i ↔ AreStuckFrom (Both h.limits) (state_at_first h) events k
+
+-- Such a run is stuck at returns alone.
+abbrev pub StuckAtReturns : Type 0
+StuckAtReturns =
+    (h : ObservedHistory) (moments : List Moment) (events : List Event) (k : ℕ) → IsObserved h →
+    AreEventsOf h moments events → AreStuckFrom (Both h.limits) (state_at_first h) events k →
+    IsReturnOf h.entries (slice_get moments k)
+
+-- Up to each of its moments it is explained exactly where the run is up to there.
+abbrev pub CutAsEvents : Type 0
+CutAsEvents =
+    (h : ObservedHistory) (moments : List Moment) (events : List Event) (k : ℕ) (m : Moment) → IsObserved h →
+    AreEventsOf h moments events → slice_get moments k ≡ Some m →
+    IsExplained (cut_to m h) ↔ AreExplainedFrom (Both h.limits) (state_at_first h) (take k events)
+
+-- Its contents may be told by numbers.
+abbrev pub ExplainedByNumbers : Type 0
+ExplainedByNumbers =
+    (h : ObservedHistory) (moments : List Moment) (events : List Event) (name : Names) → IsObserved h →
+    AreEventsOf h moments events → AreNamesFor h name →
+    IsExplained h ↔ AreExplained h.limits (map (event_by name) events)
+
+abbrev pub StuckByNumbers : Type 0
+StuckByNumbers =
+    (h : ObservedHistory) (moments : List Moment) (events : List Event) (name : Names) (i k : ℕ)
+    (at : IsReturnAt h.entries i) → IsObserved h → AreEventsOf h moments events → AreNamesFor h name →
+    slice_get moments k ≡ Some (return_of i at.return) →
+    IsStuck h i ↔ AreStuckAt h.limits (map (event_by name) events) k
 
 -- the verdict gives up at an event before this one
 abbrev pub GivesUpBefore : Verdict → ℕ → Type 0

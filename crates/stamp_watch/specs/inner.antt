@@ -1,7 +1,8 @@
-pub mod Foretold
 pub mod Judging
 pub mod Course
 pub mod Stream
+pub mod Names
 pub mod Delay
 pub mod Possible
 pub mod Kept
+pub mod AsEvents

@@ -2,16 +2,15 @@
 ghost use Rattle.std.specs.Prelude.{◌≡◌, ◌+◌, ◌^◌, ◌<◌, ◌≤◌, ◌∷◌, ◌++◌, [], ⊤, IfOk, OnOk, IsTrue, List, MatchOption, Option, ℕ, false, length};
 ghost use Rattle.stamp_core.specs.Limits.{Bounds};
 ghost use Rattle.stamp_runs.specs.declared.event.Event.{Event};
-ghost use Rattle.stamp_watch.specs.Verdict.{AreOfLock};
+ghost use Rattle.stamp_watch.specs.Verdict.{AreOfLanes};
 ghost use Rattle.stamp_watch.specs.Course.{HasRoom, IsCourse, IsRest, IsSmall, KeepsEndOf};
 ghost use Rattle.stamp_watch.specs.inner.Course.{HasGoneOn, HasLetGo, IsEndAtFront, IsFresh, IsFront, IsKnown, IsOneLonger, IsOnCourse, IsOnward, IsToldBy, IsUnknown};
 ghost use Rattle.stamp_watch.specs.inner.Kept.{StaysKept};
 
 use crate::judge::{Outcome, end_told, find_stuck, judge_rest, step};
-use crate::stream_event::StreamEvent;
+use crate::stream_event::{SmallEvent, StreamEvent};
 use crate::verdict::{Verdict, Why};
 use stamp_core::Limits;
-use stamp_runs::Event;
 use stamp_sets::{Ending, Progress, Watch};
 use std::alloc::{AllocError, Global};
 use std::mem::replace;
@@ -58,10 +57,10 @@ fn is_known(event: &StreamEvent, ends: Ending) -> bool
     ensures known { IsTrue result → IsKnown event.now ends }
     ensures unknown { result ≡ false → IsUnknown event.now ends }
 {
-    match event.as_event() {
-        Event::Begins(_, _) => !matches!(ends, Ending::Never),
-        Event::Returns(_, _) => true,
-        Event::Withdraws(_) => true,
+    match event.small() {
+        SmallEvent::Begins(_, _) => !matches!(ends, Ending::Never),
+        SmallEvent::Returns(_, _) => true,
+        SmallEvent::Withdraws(_) => true,
     }
 }
 
@@ -100,7 +99,7 @@ impl Course {
     /// One more event, which may come there.
     pub(crate) fn add(&mut self, event: &StreamEvent) -> Result<(), AllocError>
         ensures course { OnOk result ((limits : Bounds) (run : List Event) → IsCourse limits run self.old
-            → AreOfLock (run ++ event.now ∷ []) → IsCourse limits (run ++ event.now ∷ []) self.new) }
+            → AreOfLanes (run ++ event.now ∷ []) → IsCourse limits (run ++ event.now ∷ []) self.new) }
         ensures longer { OnOk result (IsOneLonger self.old self.new) }
     {
         self.events.extend_from_slice(from_ref(event))?;

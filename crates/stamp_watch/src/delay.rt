@@ -16,7 +16,7 @@ ghost use Rattle.stamp_watch.specs.Late.{IsLateFound};
 ghost use Rattle.stamp_watch.specs.LateJudge.{EndsInRunLate, KeepsEndLate};
 ghost use Rattle.stamp_watch.specs.Possible.{KeepsBase};
 ghost use Rattle.stamp_watch.specs.PossibleLate.{KeepsDelayed};
-ghost use Rattle.stamp_watch.specs.Verdict.{AreOfLock};
+ghost use Rattle.stamp_watch.specs.Verdict.{AreOfLanes};
 ghost use Rattle.stamp_watch.specs.inner.Delay.{HasBegun, HasHandedOn, HasRoomFor, IsFindingBy, IsFindingOf, IsLateBreak, IsLateRest, IsOfLaneAt, IsReady, IsReadyFor, IsSettled, IsShownBy, IsWaitingOn, found_by};
 
 use crate::issued::{returns_older, version_issued};
@@ -185,7 +185,7 @@ impl Delay {
         requires few { length self.old.waiting.events.items ≤ self.old.ahead }
         requires there { IsOfLaneAt self.old.aside.items (lane_of end.now) place }
         ensures begun { IfOk result (λ _. (limits : Bounds) (most ahead : ℕ) (run : List Event)
-            → IsDelayed limits most ahead run self.old → AreOfLock (run ++ end.now ∷ [])
+            → IsDelayed limits most ahead run self.old → AreOfLanes (run ++ end.now ∷ [])
             → HasBegun limits most ahead run end.now self.new) }
         ensures told { IfOk result (λ found. self.new.judge.found ≡ found) }
         ensures spared { IfOk result (λ _. IsSpared self.new.aside.items (lane_of end.now)) }
@@ -203,7 +203,7 @@ impl Delay {
         requires room { self.old.passed + length self.old.waiting.events.items + 1 < 2 ^ 64 }
         requires few { length self.old.waiting.events.items ≤ self.old.ahead }
         ensures begun { IfOk result (λ _. (limits : Bounds) (most ahead : ℕ) (run : List Event)
-            → IsDelayed limits most ahead run self.old → AreOfLock (run ++ end.now ∷ [])
+            → IsDelayed limits most ahead run self.old → AreOfLanes (run ++ end.now ∷ [])
             → HasBegun limits most ahead run end.now self.new) }
         ensures told { IfOk result (λ found. self.new.judge.found ≡ found) }
         ensures spared { IfOk result (λ _. IsSpared self.new.aside.items (lane_of end.now)) }
@@ -285,7 +285,7 @@ impl Delay {
         requires room { self.old.passed + length self.old.waiting.events.items + 1 < 2 ^ 64 }
         requires few { length self.old.waiting.events.items ≤ self.old.ahead }
         ensures delayed { IfOk result (λ _. (limits : Bounds) (most ahead : ℕ) (run : List Event)
-            → IsDelayed limits most ahead run self.old → AreOfLock (run ++ event.now ∷ [])
+            → IsDelayed limits most ahead run self.old → AreOfLanes (run ++ event.now ∷ [])
             → IsDelayed limits most ahead (run ++ event.now ∷ []) self.new) }
         ensures told { IfOk result (λ found. self.new.judge.found ≡ found) }
         ensures few { IfOk result (λ found. (found ≡ None → length self.new.waiting.events.items ≤ self.old.ahead)

@@ -1,16 +1,15 @@
 //! Judging runs that are in memory.
 ghost use Rattle.std.specs.Prelude.{◌≡◌, ◌+◌, ◌^◌, ◌<◌, ◌∷◌, ◌++◌, IfOk, List, None, Option, ℕ, length};
-ghost use Rattle.std.specs.List.{All};
 ghost use Rattle.stamp_core.specs.Limits.{Bounds};
 ghost use Rattle.stamp_runs.specs.declared.event.Event.{Event};
 ghost use Rattle.stamp_sets.specs.Watch.{IsWatched};
-ghost use Rattle.stamp_watch.specs.Verdict.{IsOfLock, IsVerdict};
+ghost use Rattle.stamp_watch.specs.Verdict.{IsVerdict};
 ghost use Rattle.stamp_watch.specs.Judging.{IsFound, IsJudging};
 ghost use Rattle.stamp_watch.specs.inner.Judging.{IsBase, IsEndTold, IsJudgingOn, IsOutcome, IsStep, IsStuckAmong, IsStuckBehind, IsStuckFrom};
 
 use crate::ahead::end_ahead;
 use crate::lanes::in_form;
-use crate::stream_event::StreamEvent;
+use crate::stream_event::{SmallEvent, StreamEvent};
 use crate::verdict::{Verdict, Why};
 use stamp_core::Limits;
 use stamp_runs::Event;
@@ -24,21 +23,20 @@ pub(crate) enum Outcome {
     Explained,
     /// They are not explained. So many of them are.
     Unexplained(usize),
-    /// So many of them are explained, and behind those too many configurations are possible.
+    /// So many of them are explained, and behind those too many positions are possible.
     TooMany(usize),
 }
 
 /// How the call that begins by this event ends among those ahead, the first of which has this number. Of another
 /// event it says nothing.
 pub(crate) fn end_told(event: &StreamEvent, ahead: &[StreamEvent], first: u64) -> Ending
-    requires lock { All IsOfLock ahead.now }
-    requires room { first + length ahead.now < 2 ^ 64 }
+    requires { first + length ahead.now < 2 ^ 64 }
     ensures { IsEndTold event.now first ahead.now result }
 {
-    match event.as_event() {
-        Event::Begins(lane, _) => end_ahead(ahead, lane, first),
-        Event::Returns(_, _) => Ending::Never,
-        Event::Withdraws(_) => Ending::Never,
+    match event.small() {
+        SmallEvent::Begins(lane, _) => end_ahead(ahead, lane as u64, first),
+        SmallEvent::Returns(_, _) => Ending::Never,
+        SmallEvent::Withdraws(_) => Ending::Never,
     }
 }
 
@@ -55,10 +53,10 @@ pub(crate) fn step(
         → IsJudging limits n past (event.now ∷ ahead) watch.old
         → IsStep limits n past event.now ahead most watch.new progress) }
 {
-    match event.as_event() {
-        Event::Begins(lane, call) => Ok(watch.begins(lane, &call, ends)),
-        Event::Returns(lane, reply) => watch.returns(lane, &reply, most),
-        Event::Withdraws(lane) => Ok(watch.withdraws(lane)),
+    match event.small() {
+        SmallEvent::Begins(lane, call) => Ok(watch.begins(lane as u64, call, ends)),
+        SmallEvent::Returns(lane, reply) => watch.returns(lane as u64, reply, most),
+        SmallEvent::Withdraws(lane) => Ok(watch.withdraws(lane as u64)),
     }
 }
 
@@ -124,9 +122,10 @@ pub(crate) fn find_stuck(
     Ok(Verdict::Stuck(first + low as u64))
 }
 
-/// Judges a run of a lock that is in memory, from a new lock on: whether it is explained, and if not, at which event
-/// it is stuck. More than `most` configurations before an event are too many to go on. A run that is not explained
-/// may be judged again up to 64 times, each time up to an earlier event. A call may be open for as long as it likes.
+/// Judges a run of a lock and its record that is in memory, from a new lock on: whether it is explained, and if not, at
+/// which event it is stuck. More than `most` positions before an event are too many to go on. A run that is not
+/// explained may be judged again up to 64 times, each time up to an earlier event. A call may be open for as long as it
+/// likes.
 pub fn judge_run(
     alloc: Global,
     limits: Limits,

@@ -1,35 +1,11 @@
 //! The lanes that have an open call, and which events may come then.
-ghost use Rattle.std.specs.Prelude.{◌≡◌, ◌↔◌, IfOk, IsTrue, MatchOption, false};
-ghost use Rattle.stamp_core.specs.LockDecision.{reply_as};
-ghost use Rattle.stamp_watch.specs.Verdict.{is_lock_reply};
+ghost use Rattle.std.specs.Prelude.{◌≡◌, ◌↔◌, IfOk, IsTrue};
 ghost use Rattle.stamp_watch.specs.inner.Judging.{IsFreeLane, IsTakenLane, AreTaken, IsBusyThen};
 
-use crate::stream_event::StreamEvent;
-use stamp_core::{LockReply, Reply};
+use crate::stream_event::{SmallEvent, StreamEvent};
 use stamp_runs::Event;
 use stamp_sets::{has_lane, with_lane, without_lane};
 use std::alloc::{AllocError, Global};
-
-/// The reply, if it is one of the lock.
-pub(crate) fn lock_reply(reply: &Reply) -> Option<LockReply>
-    ensures { MatchOption result (is_lock_reply reply.now ≡ false) (λ found. reply_as found ≡ reply.now) }
-{
-    match *reply {
-        Reply::Stamp(stamp) => Some(LockReply::Stamp(stamp)),
-        Reply::Yes => Some(LockReply::Yes),
-        Reply::No => Some(LockReply::No),
-        Reply::Done => Some(LockReply::Done),
-        Reply::Mismatch => Some(LockReply::Mismatch),
-        Reply::Count(count) => Some(LockReply::Count(count)),
-        Reply::Content(_) => None,
-    }
-}
-
-fn is_lock_reply(reply: &Reply) -> bool
-    ensures { result ≡ is_lock_reply reply.now }
-{
-    !matches!(reply, Reply::Content(_))
-}
 
 /// Whether the lane is one of 64, and not among these.
 fn is_free(busy: u64, lane: u64) -> bool
@@ -45,40 +21,26 @@ fn is_taken(busy: u64, lane: u64) -> bool
     lane < 64 && has_lane(busy, lane)
 }
 
-/// The lanes with an open call after the event, if it is one of the lock that may come where these have one.
-fn busy_then(busy: u64, event: &Event) -> Option<u64>
+/// The lanes with an open call after the event, if it may come where these have one.
+pub(crate) fn busy_with(busy: u64, event: &StreamEvent) -> Option<u64>
     ensures { IsBusyThen busy event.now result }
 {
-    match event {
-        Event::Begins(lane, call) => {
-            if is_free(busy, *lane) && call.is_lock_call() {
-                Some(with_lane(busy, *lane))
+    match event.small() {
+        SmallEvent::Begins(lane, _) => {
+            if is_free(busy, lane as u64) {
+                Some(with_lane(busy, lane as u64))
             } else {
                 None
             }
         }
-        Event::Returns(lane, reply) => {
-            if is_taken(busy, *lane) && is_lock_reply(reply) {
-                Some(without_lane(busy, *lane))
-            } else {
-                None
-            }
-        }
-        Event::Withdraws(lane) => {
-            if is_taken(busy, *lane) {
-                Some(without_lane(busy, *lane))
+        SmallEvent::Returns(lane, _) | SmallEvent::Withdraws(lane) => {
+            if is_taken(busy, lane as u64) {
+                Some(without_lane(busy, lane as u64))
             } else {
                 None
             }
         }
     }
-}
-
-/// So it is with an event in few bytes.
-pub(crate) fn busy_with(busy: u64, event: &StreamEvent) -> Option<u64>
-    ensures { IsBusyThen busy event.now result }
-{
-    busy_then(busy, &event.as_event())
 }
 
 /// The events, from the first on, that are in form.

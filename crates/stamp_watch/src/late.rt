@@ -26,10 +26,10 @@ use crate::stream_event::StreamEvent;
 use stamp_core::{Call, Limits, Reply};
 use std::alloc::{AllocError, Global};
 
-/// Judges a run of a lock event by event, from a new lock on. It is as `Judge`, but a call may be open for as long as
-/// it likes, and is never too far from its end: where it is open for more than many events, it begins later. What is
-/// found is what a `Judge` would find, if it is shown of each such call that nothing is lost. After an `Err` it is of
-/// no more use.
+/// Judges a run of a lock and its record event by event, from a new lock on. It is as `Judge`, but a call may be open
+/// for as long as it likes, and is never too far from its end: where it is open for more than many events, it begins
+/// later. What is found is what a `Judge` would find, if it is shown of each such call that nothing is lost. After an
+/// `Err` it is of no more use.
 #[derive(Drop)]
 pub struct LateJudge {
     pub(crate) delay: Delay,
@@ -38,8 +38,8 @@ pub struct LateJudge {
 }
 
 impl LateJudge {
-    /// The judge of a lock with these limits, before any event. More than `most` configurations before an event are
-    /// too many to go on. A call begins later if it is open for all but 64 of `ahead` events. So `ahead` is rather
+    /// The judge of a lock with these limits and its record, before any event. More than `most` positions before an
+    /// event are too many to go on. A call begins later if it is open for all but 64 of `ahead` events. So `ahead` is rather
     /// thousands; where it is 64 or less, each call begins late.
     pub fn new(
         alloc: Global,

@@ -3,7 +3,7 @@
 //! A judge is given a run event by event. It keeps a base, which is a watch, the events behind it, and a watch that has
 //! seen the first of these. An event is seen once it is known how its call ends, so a watch is told nothing that isn't
 //! so, whatever comes later: what was explained stays explained, and the base can judge each run that ends behind what
-//! was seen. Where the watch keeps no configuration, the run is not explained with the events that are known, and the
+//! was seen. Where the watch keeps no position, the run is not explained with the events that are known, and the
 //! first event that shows it is found from the base, by halving. What is found is final.
 //!
 //! A copy of the watch, once the ends of its open calls were seen, is the new base, and the events before it are let go
@@ -27,10 +27,10 @@ use crate::verdict::Verdict;
 use stamp_core::Limits;
 use std::alloc::{AllocError, Global};
 
-/// Judges a run of a lock event by event, from a new lock on. An event is looked at once it is known how each call
-/// ends that began before it. So the judge keeps the events from the first call on that has not ended, and those that
-/// it may judge again. Once it has found that the run is not explained, or that it can't tell, it looks no further.
-/// After an `Err` it is of no more use.
+/// Judges a run of a lock and its record event by event, from a new lock on. An event is looked at once it is known how
+/// each call ends that began before it. So the judge keeps the events from the first call on that has not ended, and
+/// those that it may judge again. Once it has found that the run is not explained, or that it can't tell, it looks no
+/// further. After an `Err` it is of no more use.
 #[derive(Drop)]
 pub struct Judge {
     pub(crate) most: u64,
@@ -51,8 +51,8 @@ pub(crate) fn broken_off(rest: Verdict, number: u64) -> Verdict
 }
 
 impl Judge {
-    /// The judge of a lock with these limits, before any event. More than `most` configurations before an event are
-    /// too many to go on, and so is a call that none of `ahead` events behind its beginning ends.
+    /// The judge of a lock with these limits and its record, before any event. More than `most` positions before an
+    /// event are too many to go on, and so is a call that none of `ahead` events behind its beginning ends.
     pub fn new(alloc: Global, limits: Limits, most: u64, ahead: usize) -> Result<Judge, AllocError>
         ensures judge { IfOk result (λ judge. IsJudge limits most ahead [] judge) }
         ensures known { IfOk result (λ judge. IsJudgeOfSome judge) }

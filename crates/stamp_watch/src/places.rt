@@ -4,16 +4,15 @@ ghost use Rattle.stamp_runs.specs.Run.{lane_of};
 ghost use Rattle.stamp_watch.specs.Ahead.{IsSpared};
 ghost use Rattle.stamp_watch.specs.inner.Delay.{IsFirstOfLaneAt};
 
-use crate::stream_event::StreamEvent;
-use stamp_runs::Event;
+use crate::stream_event::{SmallEvent, StreamEvent};
 
 pub(crate) fn lane_of(event: &StreamEvent) -> u64
     ensures { result ≡ lane_of event.now }
 {
-    match event.as_event() {
-        Event::Begins(lane, _) => lane,
-        Event::Returns(lane, _) => lane,
-        Event::Withdraws(lane) => lane,
+    match event.small() {
+        SmallEvent::Begins(lane, _) => lane as u64,
+        SmallEvent::Returns(lane, _) => lane as u64,
+        SmallEvent::Withdraws(lane) => lane as u64,
     }
 }
 

@@ -1,37 +1,46 @@
 //! Which replies were possible at a return of a run, as a judge can tell from the events that it keeps.
-ghost use Rattle.std.specs.Prelude.{◌≡◌, ◌+◌, ◌<◌, ◌≤◌, IfOk, List, Some, length, slice_get};
+ghost use Rattle.std.specs.Prelude.{◌≡◌, ◌+◌, ◌<◌, ◌≤◌, ◌∷◌, [], IfOk, List, Some, length, slice_get};
 ghost use Rattle.stamp_core.specs.Limits.{Bounds};
 ghost use Rattle.stamp_runs.specs.declared.event.Event.{Event};
+ghost use Rattle.stamp_sets.specs.declared.small_call.SmallReply.{SmallReply};
 ghost use Rattle.stamp_watch.specs.Possible.{IsKept, IsTold, IsToldOf, KeepsSome, counts_below, items_in, plain_replies};
 ghost use Rattle.stamp_watch.specs.inner.Possible.{IsKeptReturn, IsOutcomeWith, IsPossibleSo, IsReturnFor, IsReturnHere, KeepsSomeCourse, replies_in};
 
 use crate::course::Course;
 use crate::judge::{Outcome, judge_rest};
 use crate::online::Judge;
-use crate::stream_event::StreamEvent;
+use crate::stream_event::{SmallEvent, StreamEvent};
 use stamp_core::{Call, Limits, LockReply, Reply};
-use stamp_runs::Event;
+use stamp_sets::SmallReply;
 use std::alloc::{AllocError, Global};
 use std::slice::from_ref;
 
 /// The counts that are at most this.
-fn counts_up_to(alloc: Global, most: u64) -> Result<Vec<LockReply>, AllocError>
+fn counts_up_to(alloc: Global, most: u64) -> Result<Vec<SmallReply>, AllocError>
     ensures { IfOk result (λ replies. replies.items ≡ counts_below (most + 1)) }
 {
     let mut replies = Vec::new(alloc);
     for count in 0..most {
-        replies.push(LockReply::Count(count))?;
+        replies.push(SmallReply::OfLock(LockReply::Count(count)))?;
     }
-    replies.push(LockReply::Count(most))?;
+    replies.push(SmallReply::OfLock(LockReply::Count(most)))?;
     Ok(replies)
 }
 
-/// The replies that a call may be given, if none of them is a stamp.
+/// These two.
+fn either(alloc: Global, one: LockReply, other: LockReply) -> Result<Vec<SmallReply>, AllocError>
+    ensures { IfOk result (λ replies. replies.items ≡ SmallReply.OfLock one ∷ SmallReply.OfLock other ∷ []) }
+{
+    let replies = Vec::from_array(alloc, [SmallReply::OfLock(one), SmallReply::OfLock(other)])?;
+    Ok(replies)
+}
+
+/// The replies that a call may be given, if none of them is a stamp or a content.
 fn plain_replies(
     alloc: Global,
     limits: Limits,
     call: &Call,
-) -> Result<Option<Vec<LockReply>>, AllocError>
+) -> Result<Option<Vec<SmallReply>>, AllocError>
     ensures { IfOk result (λ replies. replies_in replies ≡ plain_replies limits call.now) }
 {
     match call {
@@ -39,19 +48,18 @@ fn plain_replies(
         | Call::TryUnlockWrite
         | Call::TryUnlockRead
         | Call::IsWriteLocked
-        | Call::IsReadLocked => {
-            Ok(Some(Vec::from_array(alloc, [LockReply::Yes, LockReply::No])?))
+        | Call::IsReadLocked
+        | Call::PutIf(_, _) => Ok(Some(either(alloc, LockReply::Yes, LockReply::No)?)),
+        Call::UnlockWrite(_) | Call::UnlockRead(_) | Call::Unlock(_) => {
+            Ok(Some(either(alloc, LockReply::Done, LockReply::Mismatch)?))
         }
-        Call::UnlockWrite(_) | Call::UnlockRead(_) | Call::Unlock(_) => Ok(Some(Vec::from_array(
-            alloc,
-            [LockReply::Done, LockReply::Mismatch],
-        )?)),
         Call::ReadCount => Ok(Some(counts_up_to(alloc, limits.readers())?)),
+        Call::Put(_) => Ok(Some(Vec::from_array(alloc, [SmallReply::OfLock(LockReply::Done)])?)),
         _ => Ok(None),
     }
 }
 
-fn reply_at(replies: &[LockReply], place: usize) -> LockReply
+fn reply_at(replies: &[SmallReply], place: usize) -> SmallReply
     requires { place < length replies.now }
     ensures { slice_get replies.now place ≡ Some result }
 {
@@ -92,21 +100,18 @@ impl Judge {
         if place < self.course.seen {
             return None;
         }
-        match self.course.events.as_slice().get(place)?.as_event() {
-            Event::Returns(lane, _) => Some(KeptReturn {
-                place,
-                lane: lane as u8,
-            }),
+        match self.course.events.as_slice().get(place)?.small() {
+            SmallEvent::Returns(lane, _) => Some(KeptReturn { place, lane }),
             _ => None,
         }
     }
 
-    /// Whether this reply is possible at a return. Nothing where too many configurations are.
+    /// Whether this reply is possible at a return. Nothing where too many positions are.
     fn is_possible(
         &self,
         number: u64,
         kept: KeptReturn,
-        reply: LockReply,
+        reply: SmallReply,
     ) -> Result<Option<bool>, AllocError>
         requires keeps { KeepsSome self.now }
         requires here { IsReturnHere self.now number kept.place kept.lane }
@@ -123,11 +128,11 @@ impl Judge {
 
     /// Which of these replies the call could have had that returns at the event with this number: with such a one in
     /// place of its own, the run is explained up to the event. Nothing where that can't be told: the event is no
-    /// return, or none that is kept, or with some reply too many configurations are possible.
+    /// return, or none that is kept, or with some reply too many positions are possible.
     pub fn possible_among(
         &self,
         number: u64,
-        replies: &[LockReply],
+        replies: &[SmallReply],
     ) -> Result<Option<Vec<Reply>>, AllocError>
         requires { KeepsSome self.now }
         ensures { IfOk result (λ told. IsTold self.now number replies.now (items_in told)) }
@@ -149,8 +154,8 @@ impl Judge {
     }
 
     /// Which replies the call could have had that returns at the event with this number: of yes and no, of done and
-    /// mismatch, or of the counts that the limits allow. Nothing where that can't be told, as `possible_among` says, or
-    /// where such a call is given stamps.
+    /// mismatch, or of the counts that the limits allow; a put has done alone. Nothing where that can't be told, as
+    /// `possible_among` says, or where such a call is given stamps, or a content.
     pub fn possible_at(&self, number: u64, call: &Call) -> Result<Option<Vec<Reply>>, AllocError>
         requires { KeepsSome self.now }
         ensures { IfOk result (λ told. IsToldOf self.now number call.now (items_in told)) }

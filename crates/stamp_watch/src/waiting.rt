@@ -5,8 +5,7 @@ ghost use Rattle.stamp_watch.specs.Waiting.{IsCounted};
 ghost use Rattle.stamp_watch.specs.inner.Delay.{IsAloneInFront};
 
 use crate::places::lane_of;
-use crate::stream_event::StreamEvent;
-use stamp_runs::Event;
+use crate::stream_event::{SmallEvent, StreamEvent};
 use std::alloc::{AllocError, Global};
 use std::collections::VecDeque;
 use std::slice::from_ref;
@@ -81,8 +80,8 @@ impl Waiting {
         let Some(event) = self.events.front() else {
             return false;
         };
-        match event.as_event() {
-            Event::Begins(lane, _) => self.counts[lane as usize] == 1,
+        match event.small() {
+            SmallEvent::Begins(lane, _) => self.counts[lane as usize] == 1,
             _ => false,
         }
     }

@@ -1,37 +1,35 @@
-//! Laws of runs. Each function does nothing; its contract is the law, over the definitions alone.
+//! Laws of runs of a lock and its record. Each function does nothing; its contract is the law, over the definitions
+//! alone.
+ghost use Rattle.stamp_core.specs.Limits.{Bounds};
+ghost use Rattle.stamp_runs.specs.BothRun.{Both};
 ghost use Rattle.stamp_watch.specs.Late.{LaterExplainsNoMore};
 ghost use Rattle.stamp_watch.specs.LateLaws.{LateLosesNothing, LateStampLosesNothing, OlderIsTold, StampTellsVersion};
-ghost use Rattle.stamp_watch.specs.WatchLaws.{AtOnceLosesNothing, BeginsFirst, BeginsLate, BeginsSooner, BrokenIsTold, BrokenIsToldLate, EndlessAlikeFirst, ExplainedAsObserved, OpeningStands, ReturnsFirst, SetsGoOn, SetsTell, ShorterStayExplained, SoonerAlikeFirst, StuckAsObserved, StuckAsSeen, StuckIsExact, TakesEffectFirst, UnchangingNeverNeeded, WithdrawnMayBeLeftOut, WithdrawnTakesNoEffect, WithdrawsFirst};
+ghost use Rattle.stamp_watch.specs.WatchLaws.{BeginsFirst, BeginsLate, BeginsSooner, BrokenIsTold, BrokenIsToldLate, CutAsEvents, ExplainedAsEvents, ExplainedAsObserved, ExplainedByNumbers, OrderExplains, PositionsTellOrder, ReturnsFirst, ShorterStayExplained, StuckAsEvents, StuckAsObserved, StuckAsSeen, StuckAtReturns, StuckByNumbers, TakesEffectFirst, TracesExplain, UnchangingNeverNeeded, WithdrawnMayBeLeftOut, WithdrawnTakesNoEffect, WithdrawsFirst};
 
 /// Where a call begins next, nothing is lost if it begins before other calls take effect.
 pub fn begins_first()
-    ensures { BeginsFirst }
+    ensures { (limits : Bounds) → BeginsFirst (Both limits) }
 {}
 
 /// Where a call that is in effect returns next, nothing is lost if it returns before other calls take effect.
 pub fn returns_first()
-    ensures { ReturnsFirst }
+    ensures { (limits : Bounds) → ReturnsFirst (Both limits) }
 {}
 
 /// A call that is withdrawn next is not in effect, and nothing is lost if it is withdrawn before other calls take
 /// effect.
 pub fn withdraws_first()
-    ensures { WithdrawsFirst }
+    ensures { (limits : Bounds) → WithdrawsFirst (Both limits) }
 {}
 
 /// Where a call that is not in effect returns next, some open call takes effect.
 pub fn takes_effect_first()
-    ensures { TakesEffectFirst }
-{}
-
-/// A call whose reply tells that it changes nothing may take effect as soon as it may.
-pub fn at_once_loses_nothing()
-    ensures { AtOnceLosesNothing }
+    ensures { (limits : Bounds) → TakesEffectFirst (Both limits) }
 {}
 
 /// A call that is withdrawn takes no effect.
 pub fn withdrawn_takes_no_effect()
-    ensures { WithdrawnTakesNoEffect }
+    ensures { (limits : Bounds) → WithdrawnTakesNoEffect (Both limits) }
 {}
 
 /// A call that is withdrawn may be left out: its two events make no difference.
@@ -41,42 +39,12 @@ pub fn withdrawn_may_be_left_out()
 
 /// A call that never ends is not needed where it changed nothing.
 pub fn unchanging_never_needed()
-    ensures { UnchangingNeverNeeded }
-{}
-
-/// Of two open calls that are alike the one that returns sooner may take effect first.
-pub fn sooner_alike_first()
-    ensures { SoonerAlikeFirst }
-{}
-
-/// Of two open calls that are one call, and of which neither ends, either may take effect first.
-pub fn endless_alike_first()
-    ensures { EndlessAlikeFirst }
+    ensures { (limits : Bounds) → UnchangingNeverNeeded (Both limits) }
 {}
 
 /// What is explained is explained up to each of its events.
 pub fn shorter_stay_explained()
     ensures { ShorterStayExplained }
-{}
-
-/// At first a judge keeps the opening alone.
-pub fn opening_stands()
-    ensures { OpeningStands }
-{}
-
-/// What stands for the configurations after some events stands for those after one more, if it goes on by it.
-pub fn sets_go_on()
-    ensures { SetsGoOn }
-{}
-
-/// While a configuration is kept the run is explained so far, and where none is nothing is that fits what is told.
-pub fn sets_tell()
-    ensures { SetsTell }
-{}
-
-/// A judge to whom nothing of what comes later is told says exactly at which event a run is stuck.
-pub fn stuck_is_exact()
-    ensures { StuckIsExact }
 {}
 
 /// A call may begin later if what comes then goes on only from an older version than its reply tells.
@@ -86,7 +54,7 @@ pub fn begins_late()
 
 /// A way on which a call begins later is one on which it begins sooner.
 pub fn begins_sooner()
-    ensures { BeginsSooner }
+    ensures { (limits : Bounds) → BeginsSooner (Both limits) }
 {}
 
 /// A run in which calls begin later is explained only where the run is as it stands, up to each of its events.
@@ -121,6 +89,16 @@ pub fn explained_as_observed()
     ensures { ExplainedAsObserved }
 {}
 
+/// An order in which calls took effect along the events of a run explains its observed history.
+pub fn order_explains()
+    ensures { OrderExplains }
+{}
+
+/// The orders that are read back from a trace of the lock and one of its record explain it, merged by their points.
+pub fn traces_explain()
+    ensures { TracesExplain }
+{}
+
 /// A run in form is stuck at an event exactly where its observed history is stuck at the entry that returned there,
 /// if no call that is open then is withdrawn later.
 pub fn stuck_as_observed()
@@ -131,6 +109,42 @@ pub fn stuck_as_observed()
 /// whatever comes later.
 pub fn stuck_as_seen()
     ensures { StuckAsSeen }
+{}
+
+/// What matters of positions is only which calls had returned before which began: histories of the same calls, of
+/// which the same had returned before the same began, are explained alike.
+pub fn positions_tell_order()
+    ensures { PositionsTellOrder }
+{}
+
+/// An observed history that may be told is explained exactly where the run of its events is.
+pub fn explained_as_events()
+    ensures { ExplainedAsEvents }
+{}
+
+/// And it is stuck at an entry exactly where that run is stuck at the entry's return.
+pub fn stuck_as_events()
+    ensures { StuckAsEvents }
+{}
+
+/// Such a run is stuck at returns alone.
+pub fn stuck_at_returns()
+    ensures { StuckAtReturns }
+{}
+
+/// Up to each of its moments an observed history is explained exactly where the run of its events is up to there.
+pub fn cut_as_events()
+    ensures { CutAsEvents }
+{}
+
+/// An observed history is explained exactly where the run of its events is that tells contents by numbers.
+pub fn explained_by_numbers()
+    ensures { ExplainedByNumbers }
+{}
+
+/// And it is stuck where that run is.
+pub fn stuck_by_numbers()
+    ensures { StuckByNumbers }
 {}
 
 /// Where a run is explained before an event, and the event may not come there, the run is told as broken at the event,

@@ -1,17 +1,42 @@
 //! What the tests make limits and small events of, and that there is room for one more.
 ghost use Rattle.std.specs.Prelude.{◌≡◌, OnOk, false};
 
-use stamp_core::Limits;
-use stamp_watch::{Event, StreamEvent};
+use stamp_core::{Call, Limits, Reply};
+use stamp_watch::{Event, SmallCall, SmallReply, StreamEvent};
 use std::test::Fail;
 
 pub(crate) fn limits(readers: u64, versions: u64) -> Result<Limits, Fail> {
     Limits::new(readers, versions).map_err(|_| Fail::from("limits"))
 }
 
-/// The same event as a judge takes it, if it is one of a lock.
-pub(crate) fn of_lock(event: &Event) -> Result<StreamEvent, Fail> {
-    Ok(StreamEvent::of(event).ok_or("not of a lock")?)
+/// The same event as a judge takes it, if each content has one word.
+pub(crate) fn small(event: &Event) -> Result<StreamEvent, Fail> {
+    Ok(StreamEvent::of(event).ok_or("not small")?)
+}
+
+/// The content of this number is put in the lane.
+pub(crate) fn puts(lane: u64, number: u64) -> Event {
+    Event::Begins(lane, SmallCall::Put(number).as_call())
+}
+
+/// The content of the second number is put in the lane, if the record holds that of the first.
+pub(crate) fn puts_if(lane: u64, expected: u64, number: u64) -> Event {
+    Event::Begins(lane, SmallCall::PutIf(expected, number).as_call())
+}
+
+/// The put or the release of the lane returns.
+pub(crate) fn done(lane: u64) -> Event {
+    Event::Returns(lane, Reply::Done)
+}
+
+/// A get begins in the lane.
+pub(crate) fn gets(lane: u64) -> Event {
+    Event::Begins(lane, Call::Get)
+}
+
+/// It returns the content of this number.
+pub(crate) fn got(lane: u64, number: u64) -> Event {
+    Event::Returns(lane, SmallReply::Content(number).as_reply())
 }
 
 /// A judge that isn't full can number one more event.

@@ -255,13 +255,13 @@ fn events_out_of_form_break_a_run(rt: HostRuntime) -> Result<(), Fail> {
     assert!(rt; verdict(&rt, 100, &nothing_to_withdraw)? == Verdict::Broken(0));
     let no_such_lane = [calls(64, Call::TryRead), stamps(64, 257)];
     assert!(rt; verdict(&rt, 100, &no_such_lane)? == Verdict::Broken(0));
-    let call_of_a_record = [calls(0, Call::Get)];
-    assert!(rt; verdict(&rt, 100, &call_of_a_record)? == Verdict::Broken(0));
-    let Some(words) = Words::new(&[7]) else {
+    let Some(words) = Words::new(&[7, 8]) else {
         return Err(Fail::from("words"));
     };
-    let words_for_a_stamp = [calls(0, Call::TryRead), says(0, Reply::Content(words))];
-    assert!(rt; verdict(&rt, 100, &words_for_a_stamp)? == Verdict::Broken(1));
+    let put_of_two_words = [calls(0, Call::Put(words))];
+    assert!(rt; verdict(&rt, 100, &put_of_two_words)? == Verdict::Broken(0));
+    let got_two_words = [calls(0, Call::Get), says(0, Reply::Content(words))];
+    assert!(rt; verdict(&rt, 100, &got_two_words)? == Verdict::Broken(1));
     Ok(())
 }
 

@@ -1,9 +1,9 @@
 ghost use Rattle.std.specs.Prelude.{IfOk, OnOk};
 ghost use Rattle.stamp_watch.specs.LateJudge.{IsLateJudgeOfSome};
 
-use crate::fixtures::{limits, not_full, of_lock};
+use crate::fixtures::{done, gets, got, limits, not_full, puts, small};
 use stamp_core::{Call, LockCall, Reply};
-use stamp_watch::{EndedCall, Event, LateJudge, LateVerdict, StreamEvent, Verdict};
+use stamp_watch::{EndedCall, Event, LateJudge, LateVerdict, SmallCall, StreamEvent, Verdict};
 use std::test::Fail;
 
 /// Gives these events to the judge: what is found then.
@@ -14,7 +14,7 @@ fn pushed(judge: &mut LateJudge, events: &[Event]) -> Result<Option<LateVerdict>
     let mut found = None;
     for event in events {
         not_full(judge.is_full())?;
-        found = judge.push(&of_lock(event)?)?;
+        found = judge.push(&small(event)?)?;
     }
     Ok(found)
 }
@@ -183,7 +183,8 @@ fn a_judge_of_late_calls_tells_how_far_it_is(rt: HostRuntime) -> Result<(), Fail
     let mut judge = LateJudge::new(rt.alloc(), limits(127, 1000)?, 100, 1_000)?;
     assert!(rt; judge.count() == 0);
     not_full(judge.is_full())?;
-    let None = judge.push(&StreamEvent::begins(1, LockCall::IsWriteLocked))? else {
+    let None = judge.push(&StreamEvent::begins(1, SmallCall::OfLock(LockCall::IsWriteLocked)))?
+    else {
         return Err(Fail::from("found"));
     };
     assert!(rt; judge.count() == 1);
@@ -206,5 +207,29 @@ fn possible_replies_are_told_of_calls_that_begin_in_time(rt: HostRuntime) -> Res
     assert!(rt; told.as_slice() == [Reply::No].as_slice());
     pushed(&mut judge, &WAITS_ON)?;
     assert!(rt; judge.possible_at(4, &Call::IsWriteLocked)?.is_none());
+    Ok(())
+}
+
+#[test]
+fn a_put_that_is_open_for_long_begins_late(rt: HostRuntime) -> Result<(), Fail> {
+    let mut events = [
+        puts(0, 7),
+        gets(1),
+        got(1, 0),
+        gets(1),
+        got(1, 0),
+        gets(1),
+        got(1, 0),
+        gets(1),
+        got(1, 0),
+        done(0),
+        gets(1),
+        got(1, 7),
+    ];
+    let explained = LateVerdict::Is(Verdict::Explained);
+    assert!(rt; found(&rt, &events)? == (None, explained));
+    events[2] = got(1, 7);
+    let late = LateVerdict::Late(1);
+    assert!(rt; found(&rt, &events)? == (Some(late), late));
     Ok(())
 }

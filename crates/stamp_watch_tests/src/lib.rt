@@ -10,3 +10,5 @@ mod judge_tests;
 mod late_tests;
 #[cfg(test)]
 mod online_tests;
+#[cfg(test)]
+mod record_tests;

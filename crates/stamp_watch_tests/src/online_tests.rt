@@ -2,9 +2,9 @@ ghost use Rattle.std.specs.Prelude.{IfOk, OnOk};
 ghost use Rattle.stamp_watch.specs.Judge.{HasFoundNothing, IsJudgeOfSome};
 ghost use Rattle.stamp_watch.specs.Possible.{IsKeeping};
 
-use crate::fixtures::{limits, not_full, of_lock};
+use crate::fixtures::{done, gets, got, limits, not_full, puts, small};
 use stamp_core::{Call, LockReply, Reply};
-use stamp_watch::{Event, Judge, Verdict, Why, judge_run};
+use stamp_watch::{Event, Judge, SmallCall, SmallReply, Verdict, Why, judge_run};
 use std::test::Fail;
 
 /// The judge of a lock for up to 127 readers and 1,000 write acquisitions.
@@ -22,7 +22,7 @@ fn pushed(judge: &mut Judge, events: &[Event]) -> Result<Option<Verdict>, Fail>
     let mut found = None;
     for event in events {
         not_full(judge.is_full())?;
-        found = judge.push(&of_lock(event)?)?;
+        found = judge.push(&small(event)?)?;
     }
     Ok(found)
 }
@@ -190,7 +190,7 @@ fn kept(judge: &mut Judge, events: &[Event]) -> Result<(), Fail>
 {
     for event in events {
         not_full(judge.is_full())?;
-        judge.push(&of_lock(event)?)?;
+        judge.push(&small(event)?)?;
     }
     Ok(())
 }
@@ -209,7 +209,11 @@ fn possible_replies_are_told_of_a_return(rt: HostRuntime) -> Result<(), Fail> {
         return Err(Fail::from("not told"));
     };
     assert!(rt; counts.as_slice() == [Reply::Count(0), Reply::Count(1)].as_slice());
-    let tried = [LockReply::Count(2), LockReply::Count(1), LockReply::No];
+    let tried = [
+        SmallReply::OfLock(LockReply::Count(2)),
+        SmallReply::OfLock(LockReply::Count(1)),
+        SmallReply::OfLock(LockReply::No),
+    ];
     let Some(among) = judge.possible_among(2, &tried)? else {
         return Err(Fail::from("not told"));
     };
@@ -227,7 +231,7 @@ fn going(judge: &mut Judge, event: &Event) -> Result<(), Fail>
     ensures none { OnOk result (HasFoundNothing judge.new) }
 {
     not_full(judge.is_full())?;
-    match judge.push(&of_lock(event)?)? {
+    match judge.push(&small(event)?)? {
         None => Ok(()),
         Some(_) => Err(Fail::from("found")),
     }
@@ -244,5 +248,52 @@ fn a_judge_tells_how_far_a_run_is_explained(rt: HostRuntime) -> Result<(), Fail>
     assert!(rt; judge.explained() == 1 && judge.open_calls() == 1);
     going(&mut judge, &Event::Returns(1, Reply::Stamp(257)))?;
     assert!(rt; judge.explained() == 4 && judge.open_calls() == 0);
+    Ok(())
+}
+
+#[test]
+fn possible_contents_are_told(rt: HostRuntime) -> Result<(), Fail> {
+    let mut judge = Judge::new(rt.alloc(), limits(127, 1000)?, 100, 100)?;
+    kept(&mut judge, &[gets(1), puts(0, 7), done(0), got(1, 9)])?;
+    let tried = [
+        SmallReply::Content(7),
+        SmallReply::Content(8),
+        SmallReply::Content(0),
+        SmallReply::OfLock(LockReply::Done),
+    ];
+    let Some(contents) = judge.possible_among(3, &tried)? else {
+        return Err(Fail::from("not told"));
+    };
+    let possible = [
+        SmallReply::Content(7).as_reply(),
+        SmallReply::Content(0).as_reply(),
+    ];
+    assert!(rt; contents.as_slice() == possible.as_slice());
+    assert!(rt; judge.possible_at(3, &Call::Get)?.is_none());
+    Ok(())
+}
+
+#[test]
+fn possible_replies_are_told_of_a_put(rt: HostRuntime) -> Result<(), Fail> {
+    let mut judge = Judge::new(rt.alloc(), limits(127, 1000)?, 100, 100)?;
+    kept(
+        &mut judge,
+        &[puts(0, 7), Event::Returns(0, Reply::Mismatch)],
+    )?;
+    let Some(replies) = judge.possible_at(1, &SmallCall::Put(7).as_call())? else {
+        return Err(Fail::from("not told"));
+    };
+    assert!(rt; replies.as_slice() == [Reply::Done].as_slice());
+    Ok(())
+}
+
+#[test]
+fn a_judge_tells_where_the_events_begin_that_it_keeps(rt: HostRuntime) -> Result<(), Fail> {
+    let mut judge = Judge::new(rt.alloc(), limits(127, 1000)?, 100, 100)?;
+    kept(&mut judge, &[puts(0, 7), done(0)])?;
+    assert!(rt; judge.starts() == 1);
+    assert!(rt; judge.word_at(0) == Some(256) && judge.word_at(1) == None);
+    assert!(rt; judge.content_at(0) == Some(0) && judge.content_at(1) == None);
+    assert!(rt; judge.waiting_at(0, 0) == None);
     Ok(())
 }

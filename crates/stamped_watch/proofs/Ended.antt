@@ -1,8 +1,7 @@
 -- The call that is told where a stream is stuck.
-use Rattle.std.proofs.Common.{ℕ, ◌≡◌, ◌++◌, List, Option, Some, sym, ◌∙◌, ap, subst}
+use Rattle.std.proofs.Common.{ℕ, ◌≡◌, ◌++◌, List, Option, Some, None, sym, ◌∙◌, ap, subst}
 use Rattle.std.specs.Prelude.{IfSome}
 use Rattle.std.proofs.lemmas.Option.{same_Some}
-use Rattle.stamp_core.specs.Limits.{Bounds}
 use Rattle.stamp_runs.specs.declared.event.Event.{Event}
 use Rattle.stamp_watch.specs.declared.ended_call.EndedCall.{EndedCall}
 use Rattle.stamp_watch.specs.declared.late.LateJudge.{LateJudge}
@@ -14,29 +13,39 @@ use Rattle.stamp_watch.specs.LateJudge.{EndsInRunLate, KeepsEndLate}
 use Rattle.stamped_watch.specs.declared.finding.Finding.{Finding}
 use Rattle.stamped_watch.specs.declared.finding.Finding.TheVariants as found
 use Rattle.stamped_watch.specs.Finding.{verdict_of}
-use Rattle.stamped_watch.specs.Stream.{IsStream}
-use Rattle.stamped_watch.specs.StreamJudge.{EndsInStream, KeepsCall}
-use Rattle.stamped_watch.specs.inner.StreamJudge.{EndsInRunOf}
-use Rattle.stamped_watch.proofs.Streaming.{stream_longer}
+use Rattle.stamped_watch.specs.declared.header.Header.{Header}
+use Rattle.stamped_watch.specs.declared.run_judge.RunJudge.{RunJudge}
+use Rattle.stamped_watch.specs.Stream.{IsRunBy}
+use Rattle.stamped_watch.specs.StreamJudge.{EndsInStream, KeepsCallOf}
+use Rattle.stamped_watch.specs.StreamJudge.{EndsInRunOf}
+use Rattle.stamped_watch.proofs.Streaming.{run_longer}
 
 -- the call that ends where a stream is stuck ends there in more bytes
-pub more_there : (bytes more : List ℕ) (judge : Option LateJudge) (f : Finding) → EndsInStream bytes judge f →
+pub more_there : (bytes more : List ℕ) (judge : Option RunJudge) (f : Finding) → EndsInStream bytes judge f →
     EndsInStream (bytes ++ more) judge f
-more_there bytes more judge f there k same x is =
+more_there bytes more None f there = tt
+more_there bytes more (Some inner) f there = λ k same x is.
     let of = there k same x is in record {
-      limits = of.limits;
-      events = of.events;
+      header = of.header;
+      run = of.run;
       rest = of.rest ++ more;
-      stream = stream_longer bytes more of.limits of.events of.rest of.stream;
+      stream = run_longer inner.names bytes of.header of.run more of.rest of.stream;
+      width_is = of.width_is;
       ends = of.ends;
     }
 
 -- and of the stream whose events were judged
-pub stream_there : (bytes : List ℕ) (limits : Bounds) (events : List Event) (rest : List ℕ) →
-    IsStream bytes limits events rest → (inner : LateJudge) (f : Finding) → EndsInRunOf events inner f →
-    EndsInStream bytes (Some inner) f
-stream_there bytes limits events rest stream inner f there k same x is =
-    record { limits = limits; events = events; rest = rest; stream = stream; ends = there k same x is }
+pub stream_there : (bytes : List ℕ) (header : Header) (run : List Event) (rest : List ℕ) (inner : RunJudge) →
+    IsRunBy inner.names bytes header run rest → inner.width ≡ header.width → (f : Finding) →
+    EndsInRunOf run inner.judge f → EndsInStream bytes (Some inner) f
+stream_there bytes header run rest inner stream width f there k same x is = record {
+  header = header;
+  run = run;
+  rest = rest;
+  stream = stream;
+  width_is = width;
+  ends = there k same x is;
+}
 
 -- a verdict is told as what is found
 pub call_there : (f : Finding) (v : LateVerdict) (run : List Event) (inner : LateJudge) → verdict_of f ≡ Some v →
@@ -50,7 +59,7 @@ call_there f v run inner is there k same x kept =
 
 -- where a verdict is told as what is found, the call is kept that ends where the run is stuck
 pub call_kept : (f : Finding) (v : LateVerdict) (inner : LateJudge) → verdict_of f ≡ Some v →
-    KeepsEndLate inner.delay v → KeepsCall (Some inner) f
+    KeepsEndLate inner.delay v → KeepsCallOf inner f
 call_kept (found.Explained calls) v inner is keeps = tt
 call_kept (found.Stuck k) v inner is keeps =
     subst (KeepsEndLate inner.delay) (sym (same_Some (Is (verdict.Stuck k)) v is)) keeps

@@ -1,9 +1,14 @@
+pub mod Plain
+pub mod WordsRead
 pub mod Streaming
 pub mod Misplacing
 pub mod Counting
+pub mod InWords
 pub mod Found
 pub mod Ending
 pub mod Taking
+pub mod Beginning
+pub mod TakingEvent
 pub mod ReadingOn
 pub mod LinesTold
 pub mod Witnessing

@@ -418,7 +418,7 @@ module _ (most ahead : ℕ) (fed front rest bytes : List ℕ) (parts : bytes ≡
     parts = in_two ∙ ap (λ (xs : List ℕ). xs ++ rest) is.parts ∙ append_assoc is.taken is.later rest;
     has_taken = is.has_taken;
     keeps = λ none. absurd (false≢true (ap is_some (sym none ∙ same) ∙ some));
-    short = is.short;
+    part = is.part;
   }
 
   pub fed_both : (judge : StreamJudge) → IsFed most ahead ((fed ++ front) ++ rest) judge →

@@ -7,66 +7,29 @@ use Rattle.std.proofs.lemmas.Bool.{cases_order, false≢true}
 use Rattle.std.proofs.lemmas.List.{length-append, take-append-le, take_all}
 use Rattle.std.proofs.lemmas.List.Elements.{All-push}
 use Rattle.std.proofs.Math.Seq.{take-append_seam}
-use Rattle.stamp_core.specs.Call.{is_lock_call}
 use Rattle.stamp_core.specs.Limits.{Bounds}
-use Rattle.stamp_core.specs.declared.call.Call.{Call}
-use Rattle.stamp_core.specs.declared.call.Call.TheVariants as call
-use Rattle.stamp_core.specs.declared.reply.Reply.{Reply}
-use Rattle.stamp_core.specs.declared.reply.Reply.TheVariants as reply
 use Rattle.stamp_runs.specs.declared.event.Event.{Event}
 use Rattle.stamp_runs.specs.declared.event.Event.TheVariants.{Begins, Returns, Withdraws}
-use Rattle.stamp_runs.specs.LockRun.{AreExplained}
+use Rattle.stamp_runs.specs.BothRun.{AreExplained}
 use Rattle.stamp_watch.specs.declared.late.LateJudge.{LateJudge}
 use Rattle.stamp_watch.specs.declared.late_verdict.LateVerdict.{LateVerdict}
 use Rattle.stamp_watch.specs.declared.late_verdict.LateVerdict.TheVariants.{Is, Late}
 use Rattle.stamp_watch.specs.declared.verdict.Verdict.{Verdict}
 use Rattle.stamp_watch.specs.declared.verdict.Verdict.TheVariants as verdict
-use Rattle.stamp_watch.specs.Form.{is_busy_after, MayCome}
+use Rattle.stamp_runs.specs.Own.{MayCome, none_open, open_after}
+use Rattle.stamp_watch.specs.Form.{is_busy_after}
 use Rattle.stamp_watch.specs.Late.{IsLateFound, IsLateVerdict}
 use Rattle.stamp_watch.specs.LateJudge.{IsLateFoundThen, IsLateJudge}
 use Rattle.stamp_watch.specs.Judging.{IsFound}
-use Rattle.stamp_watch.specs.Verdict.{AreBrokenAt, AreOfLock, IsOfLock, IsVerdict, is_lock_reply}
-use Rattle.stamp_watch.proofs.Form.{form_goes_on}
-use Rattle.stamp_watch.proofs.Forming.{next_of_lock, of_lock_up_to}
+use Rattle.stamp_watch.specs.Verdict.{AreBrokenAt, AreOfLanes, IsOfLane, IsVerdict}
+use Rattle.stamp_watch.proofs.Form.{form_goes_on, none_is}
+use Rattle.stamp_watch.proofs.Forming.{next_of_lane, of_lanes_up_to}
 use Rattle.stamp_watch.proofs.Running.{found_now}
 use Rattle.stamped_watch.specs.declared.misplaced.Misplaced.{Misplaced}
 use Rattle.stamped_watch.specs.declared.misplaced.Misplaced.TheVariants.{Lane, Open, Idle}
-use Rattle.stamped_watch.specs.EventBytes.{call_kind, kind_of, reply_kind}
 use Rattle.stamped_watch.specs.Finding.{IsMisplaced}
 use Rattle.stamped_watch.specs.Finding.{IsLateOfForm, IsMisplacedSo, IsOfForm}
-use Rattle.stamped_watch.specs.inner.StreamJudge.{IsMisplacedAt}
-
--- what has a kind is of the lock
-call_of_lock : (c : Call) → IsSome (call_kind c) → is_lock_call c ≡ true
-call_of_lock call.TryWrite some = refl
-call_of_lock call.TryRead some = refl
-call_of_lock call.WriteLock some = refl
-call_of_lock call.ReadLock some = refl
-call_of_lock call.Optimistic some = refl
-call_of_lock (call.Validate s) some = refl
-call_of_lock (call.UnlockWrite s) some = refl
-call_of_lock (call.UnlockRead s) some = refl
-call_of_lock (call.Unlock s) some = refl
-call_of_lock (call.ToWrite s) some = refl
-call_of_lock (call.ToRead s) some = refl
-call_of_lock (call.ToOptimistic s) some = refl
-call_of_lock call.TryUnlockWrite some = refl
-call_of_lock call.TryUnlockRead some = refl
-call_of_lock call.IsWriteLocked some = refl
-call_of_lock call.IsReadLocked some = refl
-call_of_lock call.ReadCount some = refl
-call_of_lock call.Get some = absurd (false≢true some)
-call_of_lock (call.Put words) some = absurd (false≢true some)
-call_of_lock (call.PutIf expected words) some = absurd (false≢true some)
-
-reply_of_lock : (r : Reply) → IsSome (reply_kind r) → is_lock_reply r ≡ true
-reply_of_lock (reply.Stamp s) some = refl
-reply_of_lock reply.Yes some = refl
-reply_of_lock reply.No some = refl
-reply_of_lock reply.Done some = refl
-reply_of_lock reply.Mismatch some = refl
-reply_of_lock (reply.Count n) some = refl
-reply_of_lock (reply.Content words) some = absurd (false≢true some)
+use Rattle.stamped_watch.specs.StreamJudge.{IsMisplacedAt, IsSmallEvent}
 
 not_false : (b : Bool) → (b ≡ false → ⊥) → b ≡ true
 not_false true none = refl
@@ -76,14 +39,14 @@ not_true : (b : Bool) → (b ≡ true → ⊥) → b ≡ false
 not_true true none = absurd (none refl)
 not_true false none = refl
 
-module _ (run : List Event) (whole : AreOfLock run) where
-  goes_on : (e : Event) → MayCome (is_busy_after run) e → IsOfLock e → AreOfLock (run ++ e ∷ [])
+module _ (run : List Event) (whole : AreOfLanes run) where
+  goes_on : (e : Event) → MayCome (open_after run) e → IsOfLane e → AreOfLanes (run ++ e ∷ [])
   goes_on e may is = record {
-    form = form_goes_on (λ (lane : ℕ). false) run e whole.form may;
-    lock = All-push IsOfLock run e whole.lock is;
+    form = form_goes_on none_open run e whole.form may;
+    lanes = All-push IsOfLane run e whole.lanes is;
   }
 
-  misplaced_so : (e : Event) (why : Misplaced) → IsSome (kind_of e) → ¬ AreOfLock (run ++ e ∷ []) →
+  misplaced_so : (e : Event) (why : Misplaced) → IsSmallEvent e → ¬ AreOfLanes (run ++ e ∷ []) →
       IsMisplacedSo e why → IsMisplaced run e why
   misplaced_so e Lane some none is = is
   misplaced_so (Begins lane call) Open some none is =
@@ -91,7 +54,8 @@ module _ (run : List Event) (whole : AreOfLock run) where
         below,
         refl,
         not_false (is_busy_after run lane)
-            (λ free. none (goes_on (Begins lane call) (free, call_of_lock call some) below)),
+            (λ free. none (goes_on (Begins lane call) (none_is (open_after run lane) free)
+            (below, some))),
       )
   misplaced_so (Returns lane reply) Open some none is = absurd (false≢true is.1)
   misplaced_so (Withdraws lane) Open some none is = absurd (false≢true is.1)
@@ -101,7 +65,7 @@ module _ (run : List Event) (whole : AreOfLock run) where
         below,
         refl,
         not_true (is_busy_after run lane)
-            (λ busy. none (goes_on (Returns lane reply) busy (below, reply_of_lock reply some))),
+            (λ busy. none (goes_on (Returns lane reply) busy (below, some))),
       )
   misplaced_so (Withdraws lane) Idle some none is =
       let below : lane < 64 = omega (arith, is.0) in (
@@ -119,9 +83,9 @@ module _ (run : List Event) (whole : AreOfLock run) where
 
       by : (k ≡ length run) ⊎ ((k < length run) ⊎ (length run < k)) → k ≡ length run
       by (inl same) = same
-      by (inr (inl less)) = absurd (broken.broken (subst AreOfLock
-          (sym (take-append-le (k + 1) run (e ∷ []) (omega (arith, less)))) (of_lock_up_to (k + 1) run whole)))
-      by (inr (inr more)) = absurd (broken.broken (subst AreOfLock
+      by (inr (inl less)) = absurd (broken.broken (subst AreOfLanes
+          (sym (take-append-le (k + 1) run (e ∷ []) (omega (arith, less)))) (of_lanes_up_to (k + 1) run whole)))
+      by (inr (inr more)) = absurd (broken.broken (subst AreOfLanes
           (take_all k (run ++ e ∷ []) (omega (arith, more, long)) ∙
           sym (take_all (k + 1) (run ++ e ∷ []) (omega (arith, more, long)))) broken.whole))
 
@@ -129,7 +93,7 @@ module _ (run : List Event) (whole : AreOfLock run) where
 never_explained : (limits : Bounds) (run : List Event) (most : ℕ) (ahead : Option ℕ) →
     ¬ IsFound limits run most ahead verdict.Explained
 never_explained limits run most ahead found =
-    let below : 64 < 64 = next_of_lock run (Withdraws 64) [] (found (Withdraws 64 ∷ [])).0 in
+    let below : 64 < 64 = next_of_lane run (Withdraws 64) [] (found (Withdraws 64 ∷ [])).0 in
     omega (arith, below)
 
 -- so a verdict that holds whatever comes later is that it is broken, or of form
@@ -148,23 +112,23 @@ late_of_form limits run most ahead (Is v) found other =
 late_of_form limits run most ahead (Late k) found other = tt
 
 -- no run in form is broken, so a verdict on one as it ends is that it is explained, or of form
-form_here : (limits : Bounds) (run : List Event) (most : ℕ) (ahead : Option ℕ) (v : Verdict) → AreOfLock run →
+form_here : (limits : Bounds) (run : List Event) (most : ℕ) (ahead : Option ℕ) (v : Verdict) → AreOfLanes run →
     IsVerdict limits run most ahead v → v ≢ verdict.Explained → IsOfForm v
 form_here limits run most ahead verdict.Explained whole is other = absurd (other refl)
 form_here limits run most ahead (verdict.Stuck k) whole is other = tt
 form_here limits run most ahead (verdict.StuckWithin k m) whole is other = tt
 form_here limits run most ahead (verdict.Undecided k why) whole is other = tt
 form_here limits run most ahead (verdict.Broken k) whole is other =
-    absurd (is.0.broken (of_lock_up_to (k + 1) run whole))
+    absurd (is.0.broken (of_lanes_up_to (k + 1) run whole))
 
-pub late_form_here : (limits : Bounds) (run : List Event) (most ahead : ℕ) (v : LateVerdict) → AreOfLock run →
+pub late_form_here : (limits : Bounds) (run : List Event) (most ahead : ℕ) (v : LateVerdict) → AreOfLanes run →
     IsLateVerdict limits run most ahead v → v ≢ Is verdict.Explained → IsLateOfForm v
 late_form_here limits run most ahead (Is v) whole is other =
     form_here limits run most None v whole is (λ same. other (ap Is same))
 late_form_here limits run most ahead (Late k) whole is other = tt
 
 -- where a run in form is broken with one event more, that may not come behind it
-module _ (limits : Bounds) (run : List Event) (most : ℕ) (ahead : Option ℕ) (e : Event) (k : ℕ) (whole : AreOfLock run)
+module _ (limits : Bounds) (run : List Event) (most : ℕ) (ahead : Option ℕ) (e : Event) (k : ℕ) (whole : AreOfLanes run)
     (found : IsFound limits (run ++ e ∷ []) most ahead (verdict.Broken k)) where
   now : AreBrokenAt (run ++ e ∷ []) k × AreExplained limits (take k (run ++ e ∷ []))
   now = found_now limits (run ++ e ∷ []) most ahead (verdict.Broken k) found
@@ -175,10 +139,10 @@ module _ (limits : Bounds) (run : List Event) (most : ℕ) (ahead : Option ℕ) 
   front : take k (run ++ e ∷ []) ≡ run
   front = ap (λ (n : ℕ). take n (run ++ e ∷ [])) here ∙ take-append_seam run (e ∷ [])
 
-  not_whole : ¬ AreOfLock (run ++ e ∷ [])
-  not_whole all = now.0.broken (of_lock_up_to (k + 1) (run ++ e ∷ []) all)
+  not_whole : ¬ AreOfLanes (run ++ e ∷ [])
+  not_whole all = now.0.broken (of_lanes_up_to (k + 1) (run ++ e ∷ []) all)
 
-  pub misplaced_at : (why : Misplaced) → IsSome (kind_of e) → IsMisplacedSo e why → IsMisplacedAt limits run e k why
+  pub misplaced_at : (why : Misplaced) → IsSmallEvent e → IsMisplacedSo e why → IsMisplacedAt limits run e k why
   misplaced_at why some so = record {
     place = here;
     whole = whole;
@@ -191,5 +155,5 @@ pub found_then : (limits : Bounds) (most ahead : ℕ) (run : List Event) (e : Ev
     (o : Option LateVerdict) (v : LateVerdict) → IsLateFoundThen e judge o → o ≡ Some v →
     IsLateJudge limits most ahead run judge → IsLateFound limits (run ++ e ∷ []) most ahead v
 found_then limits most ahead run e judge o v then some is = subst (λ (p : Option LateVerdict).
-    MatchOption p (AreOfLock (run ++ e ∷ [])) (λ w. IsLateFound limits (run ++ e ∷ []) most ahead w)) some
+    MatchOption p (AreOfLanes (run ++ e ∷ [])) (λ w. IsLateFound limits (run ++ e ∷ []) most ahead w)) some
     (then limits most ahead run is)

@@ -1,5 +1,6 @@
 -- One read more of a stream.
-use Rattle.std.proofs.Common.{ℕ, ◌≡◌, ◌↔◌, ◌-◌, true, false, List, [], ◌∷◌, ◌++◌, length, Option, None, Result, Ok}
+use Rattle.std.proofs.Common.{ℕ, ◌≡◌, ◌≢◌, ◌⊎◌, ◌↔◌, ◌-◌, true, false, List, [], ◌∷◌, ◌++◌, length, Option, None}
+use Rattle.std.proofs.Common.{Result, Ok}
 use Rattle.std.proofs.Common.{Err, refl, sym, ◌∙◌, ap, subst, arith, inl, inr, append-nil, append_assoc, IsErrAnd}
 use Rattle.std.specs.Prelude.{drop, is_err, take}
 use Rattle.std.specs.Io.KnownBytes.{Consumes, IsAtEnd}
@@ -135,15 +136,34 @@ reads_none left old result is = record {
   failed = rw (none_passes is_err old old 0 fails_of_none (makes_none old)) (not_of_reading result is);
 }
 
--- and nothing is written
-pub writes_none : {A : Type 0} (sent : Option (List ℕ)) (old : Results) (result : Result A ServeFault) →
-    IsErrAnd result (λ e. e ≡ Memory) → HasWritten WriteFault sent sent old old result
-writes_none sent old (Ok x) is = absurd is
-writes_none sent old (Err e) is = record {
+-- and nothing is written, unless a write failed
+pub writes_no_more : {A : Type 0} (sent : Option (List ℕ)) (old : Results) (result : Result A ServeFault) →
+    result ≢ Err WriteFault → HasWritten WriteFault sent sent old old result
+writes_no_more sent old (Ok x) none = record {
   failed = (
-    λ same. absurd (cc),
-    λ some. absurd (false≢true (sym (none_passes takes_none old old 0 (λ write takes. takes) (makes_none old)) ∙
-        some)),
+    (λ same. absurd (none same)),
+    (λ some. absurd (false≢true (sym (none_passes takes_none old old 0 (λ write takes. takes) (makes_none old)) ∙
+        some))),
+  );
+  silent = tt;
+}
+writes_no_more sent old (Err e) none = record {
+  failed = (
+    (λ same. absurd (none same)),
+    (λ some. absurd (false≢true (sym (none_passes takes_none old old 0 (λ write takes. takes) (makes_none old)) ∙
+        some))),
   );
   silent = λ other. (Keeps-refl sent, refl);
 }
+
+pub writes_none : {A : Type 0} (sent : Option (List ℕ)) (old : Results) (result : Result A ServeFault) →
+    IsErrAnd result (λ e. e ≡ Memory) → HasWritten WriteFault sent sent old old result
+writes_none sent old (Ok x) is = absurd is
+writes_none sent old (Err e) is = writes_no_more sent old (Err e) (λ same. cc)
+
+-- so it is where a read failed
+pub writes_not : {A : Type 0} (sent : Option (List ℕ)) (old : Results) (result : Result A ServeFault) →
+    IsErrAnd result (λ e. (e ≡ ReadFault) ⊎ (e ≡ Memory)) → HasWritten WriteFault sent sent old old result
+writes_not sent old (Ok x) is = absurd is
+writes_not sent old (Err e) (inl is) = writes_no_more sent old (Err e) (λ same. cc)
+writes_not sent old (Err e) (inr is) = writes_no_more sent old (Err e) (λ same. cc)

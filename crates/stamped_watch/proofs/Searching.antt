@@ -11,7 +11,7 @@ use Rattle.stamp_observed.specs.declared.behind.SearchEnd.{SearchEnd}
 use Rattle.stamp_observed.specs.declared.behind.SearchEnd.TheVariants.{Small, NotFound}
 use Rattle.stamp_watch.specs.declared.ended_call.EndedCall.{EndedCall}
 use Rattle.stamp_watch.specs.declared.online.Judge.{Judge}
-use Rattle.stamp_sets.specs.Positions.{word_of}
+use Rattle.stamp_watch.specs.Start.{word_of}
 use Rattle.stamped_watch.specs.Calls.{told_beside, told_end}
 use Rattle.stamped_watch.specs.Witness.{IsCallOf, told_before}
 use Rattle.stamped_watch.specs.inner.Witness.{IsSearchedFrom}

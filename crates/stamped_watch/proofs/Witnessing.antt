@@ -5,7 +5,7 @@ use Rattle.std.proofs.Common.{sym, subst, ◌∙◌, ◌+◌, ◌-◌, ◌<◌, 
 use Rattle.std.proofs.Common.{add-zero}
 use Rattle.std.specs.declared.alloc.Global.{Global}
 use Rattle.std.specs.Prelude.{Result, Ok, Err, Vec, min, ◌⊎◌, ◌==◌, slice_get, nat_le, if◌then◌else◌}
-use Rattle.std.specs.Prelude.{option_map, option_and_then}
+use Rattle.std.specs.Prelude.{IsSome, is_some, map, option_map, option_and_then}
 use Rattle.std.specs.Prelude.{MatchOption, ⊤}
 use Rattle.std.specs.List.{fold}
 use Rattle.std.proofs.Math.ListN.{get_or-append}
@@ -15,17 +15,23 @@ use Rattle.std.proofs.lemmas.List.{get_or-append-add, length-take-le, take-appen
 use Rattle.std.proofs.lemmas.List.Sums.{fold-append}
 use Rattle.std.proofs.lemmas.Option.{get_or_from_slice_get, slice_get-get_or, slice_get_within}
 use Rattle.stamp_core.specs.Limits.{Bounds}
+use Rattle.stamp_core.specs.Call.{is_lock_call}
 use Rattle.stamp_core.specs.declared.call.Call.{Call}
+use Rattle.stamp_core.specs.declared.call.Call.TheVariants as call
 use Rattle.stamp_core.specs.declared.reply.Reply.{Reply}
+use Rattle.stamp_core.specs.declared.reply.Reply.TheVariants as reply
 use Rattle.stamp_explain.specs.Observed.{ObservedHistory}
+use Rattle.stamp_runs.specs.Names.{Names, call_by, event_by}
 use Rattle.stamp_runs.specs.declared.event.Event.{Event}
 use Rattle.stamp_runs.specs.declared.event.Event.TheVariants.{Begins, Returns, Withdraws}
 use Rattle.stamp_watch.specs.declared.ended_call.EndedCall.{EndedCall}
-use Rattle.stamp_watch.specs.declared.late.LateJudge.{LateJudge}
 use Rattle.stamp_watch.specs.declared.online.Judge.{Judge}
-use Rattle.stamp_watch.specs.EndedCall.{begun_in, begun_then, ended, ended_at, ended_by, ended_from}
+use Rattle.stamp_watch.specs.EndedCall.{IsEndedAt, begun_in, begun_then, ended, ended_at, ended_by, ended_from}
+use Rattle.stamp_watch.specs.Names.{name_in}
 use Rattle.stamp_watch.specs.PossibleLate.{AreSameUntil}
 use Rattle.stamp_watch.specs.Start.{BeganLateBy, IsJudgeUpTo}
+use Rattle.stamped_watch.specs.declared.header.Header.{Header}
+use Rattle.stamped_watch.specs.declared.run_judge.RunJudge.{RunJudge}
 use Rattle.stamped_watch.specs.declared.stream_judge.StreamJudge.{StreamJudge}
 use Rattle.stamp_observed.specs.declared.behind.Sought.{Sought}
 use Rattle.stamped_watch.specs.declared.finding.Finding.TheVariants.{Stuck}
@@ -33,8 +39,11 @@ use Rattle.stamped_watch.specs.declared.orders.Watching.{Watching}
 use Rattle.stamped_watch.specs.declared.witness.NoWitness.{NoWitness}
 use Rattle.stamped_watch.specs.declared.witness.NoWitness.TheVariants as lack
 use Rattle.stamped_watch.specs.Possible.{BeganLate, KeepsOf}
-use Rattle.stamped_watch.specs.StreamJudge.{EndsInStream, KeepsFed, ended_in}
-use Rattle.stamped_watch.specs.Witness.{AreInVain, AreSoughtOn, IsSoughtFrom, IsText, IsTextIn, IsWitnessAt}
+use Rattle.stamped_watch.specs.EventBytes.{IsOfWidth, is_of_lock, size_of}
+use Rattle.stamped_watch.specs.Note.{EndsThere}
+use Rattle.stamped_watch.specs.Stream.{HaveBytes, IsRunBy}
+use Rattle.stamped_watch.specs.StreamJudge.{EndsInRun, EndsInStream, KeepsFed, ended_of}
+use Rattle.stamped_watch.specs.Witness.{AreInVain, AreSoughtOn, HasData, IsSoughtFrom, IsText, IsTextIn, IsWitnessAt}
 use Rattle.stamped_watch.specs.Witness.{IsTextHere, IsWitnessIn, IsWitnessOf, IsWitnessText, most_searched}
 use Rattle.stamped_watch.proofs.Replying.{late_told}
 
@@ -163,66 +172,143 @@ same_ended run given (Some first) k x (some, many, same) none ended_is =
     sym (front_ended (take first given) (drop first given) k (omega (arith, long, less, some))) ∙
     ap (λ (xs : List Event). ended_at xs k) (take-append-drop first given) ∙ ended_is
 
--- what is a witness by the events of the judge inside is one by those of the stream
-witness_of_kept : (most ahead : ℕ) (fed : List ℕ) (inner : LateJudge) → KeepsOf most ahead fed inner → (k : ℕ)
-    (base : Judge) →
-    IsJudgeUpTo inner k base → (small : ObservedHistory) → IsWitnessAt base k small → IsWitnessIn fed k small
-witness_of_kept most ahead fed inner keeps k base up small at =
-    let of_run = keeps.keeps in
-    let kept = of_run.keeps in
-    let same : IsWitnessAt inner.delay.judge k small =
-    subst (λ (j : Judge). IsWitnessAt j k small) up.is at in record {
-      limits = keeps.limits;
-      events = keeps.events;
-      rest = keeps.rest;
-      stream = keeps.stream;
-      ended = same.ended;
-      ended_is = same_ended keeps.events of_run.given inner.delay.first_late k same.ended of_run.same up.none
-          (subst (λ (run : List Event). ended_at run k ≡ Some same.ended) (sym kept.run_is)
-          (ended_in_run inner.delay.judge.course.first kept.past inner.delay.judge.course.events.items kept.more k
-          same.ended kept.place same.ended_is));
-      witness = subst (λ (l : Bounds). IsWitnessOf l same.ended small) kept.from_base.judging.limits_are same.witness;
-    }
+-- a stream without data tells no content, so that its events go by no numbers
+lock_call_same : (names : Names) (c : Call) → is_lock_call c ≡ true → call_by names c ≡ c
+lock_call_same names (call.Put words) is = absurd (cc)
+lock_call_same names (call.PutIf expected words) is = absurd (cc)
+lock_call_same names call.Get is = refl
+lock_call_same names call.TryWrite is = refl
+lock_call_same names call.TryRead is = refl
+lock_call_same names call.WriteLock is = refl
+lock_call_same names call.ReadLock is = refl
+lock_call_same names call.Optimistic is = refl
+lock_call_same names (call.Validate s) is = refl
+lock_call_same names (call.UnlockWrite s) is = refl
+lock_call_same names (call.UnlockRead s) is = refl
+lock_call_same names (call.Unlock s) is = refl
+lock_call_same names (call.ToWrite s) is = refl
+lock_call_same names (call.ToRead s) is = refl
+lock_call_same names (call.ToOptimistic s) is = refl
+lock_call_same names call.TryUnlockWrite is = refl
+lock_call_same names call.TryUnlockRead is = refl
+lock_call_same names call.IsWriteLocked is = refl
+lock_call_same names call.IsReadLocked is = refl
+lock_call_same names call.ReadCount is = refl
 
-pub witness_told : (most ahead : ℕ) (fed : List ℕ) (judge : StreamJudge) → KeepsFed most ahead fed judge →
-    (inner : LateJudge) →
-    judge.judge ≡ Some inner → (k : ℕ) (base : Judge) → IsJudgeUpTo inner k base → (text : List ℕ) →
-    IsWitnessText base k text → IsTextIn fed k text
-witness_told most ahead fed judge keeps inner some k base up text is = record {
-  small = is.small;
-  witness = witness_of_kept most ahead fed inner
-      (subst (λ (o : Option LateJudge). MatchOption o ⊤ (λ i. KeepsOf most ahead fed i)) some keeps) k base up is.small
-      is.witness;
-  text_is = is.text_is;
+lock_event_same : (names : Names) (e : Event) → is_of_lock e ≡ true → event_by names e ≡ e
+lock_event_same names (Begins lane c) is = ap (Begins lane) (lock_call_same names c is)
+lock_event_same names (Returns lane (reply.Content words)) is = absurd (cc)
+lock_event_same names (Returns lane (reply.Stamp s)) is = refl
+lock_event_same names (Returns lane reply.Yes) is = refl
+lock_event_same names (Returns lane reply.No) is = refl
+lock_event_same names (Returns lane reply.Done) is = refl
+lock_event_same names (Returns lane reply.Mismatch) is = refl
+lock_event_same names (Returns lane (reply.Count n)) is = refl
+lock_event_same names (Withdraws lane) is = refl
+
+lock_events_same : (names : Names) (width : Option ℕ) → None ≡ width → (events : List Event) (units : List ℕ) →
+    HaveBytes width events units → map (event_by names) events ≡ events
+lock_events_same names width none [] units have = refl
+lock_events_same names width none (e ∷ events) units have =
+    ap (λ (x : Event). x ∷ map (event_by names) events)
+    (lock_event_same names e (subst (λ (w : Option ℕ). IsOfWidth w e) (sym none) have.0.front.fits)) ∙
+    ap (λ (xs : List Event). e ∷ xs) (lock_events_same names width none events (drop (size_of e) units) have.1)
+
+lock_run : (contents : List (List ℕ)) (bytes : List ℕ) (header : Header) (run : List Event) (rest : List ℕ)
+    (is : IsRunBy contents bytes header run rest) → None ≡ header.width → run ≡ is.events
+lock_run contents bytes header run rest is none = is.run_is ∙
+    lock_events_same (name_in contents) header.width none is.events is.stream.units is.stream.events_are
+
+pub no_width : (o : Option ℕ) → is_some o ≡ false → o ≡ None
+no_width None is = refl
+no_width (Some n) is = absurd (cc)
+
+pub some_width : (o : Option ℕ) → is_some o ≡ true → IsSome o
+some_width o is = is
+
+-- what is a witness by the events of the judge inside is one by those of the stream
+module _ (most ahead : ℕ) (fed : List ℕ) (inner : RunJudge) (keeps : KeepsOf most ahead fed inner)
+    (no_data : inner.width ≡ None) (k : ℕ) (base : Judge) (up : IsJudgeUpTo inner.judge k base) where
+  witness_of_kept : (small : ObservedHistory) → IsWitnessAt base k small → IsWitnessIn fed k small
+  witness_of_kept small at =
+      let of_run = keeps.keeps in
+      let kept = of_run.keeps in
+      let same : IsWitnessAt inner.judge.delay.judge k small =
+      subst (λ (j : Judge). IsWitnessAt j k small) up.is at in record {
+        header = keeps.header;
+        events = keeps.stream.events;
+        rest = keeps.rest;
+        stream = keeps.stream.stream;
+        ended = same.ended;
+        ended_is = subst (λ (run : List Event). ended_at run k ≡ Some same.ended)
+            (lock_run inner.names fed keeps.header keeps.run keeps.rest keeps.stream (sym no_data ∙ keeps.width_is))
+            (same_ended keeps.run of_run.given inner.judge.delay.first_late k same.ended of_run.same up.none
+            (subst (λ (run : List Event). ended_at run k ≡ Some same.ended) (sym kept.run_is)
+            (ended_in_run inner.judge.delay.judge.course.first kept.past inner.judge.delay.judge.course.events.items
+            kept.more k same.ended kept.place same.ended_is)));
+        witness = subst (λ (l : Bounds). IsWitnessOf l same.ended small) kept.from_base.judging.limits_are
+            same.witness;
+      }
+
+  witness_told : (text : List ℕ) → IsWitnessText base k text → IsTextIn fed k text
+  witness_told text is = record {
+    small = is.small;
+    witness = witness_of_kept is.small is.witness;
+    text_is = is.text_is;
+  }
+
+-- the call that ends there in a stream without data
+ends_there : (fed : List ℕ) (inner : RunJudge) (k : ℕ) (x : EndedCall) → inner.width ≡ None →
+    EndsInRun inner fed k x → EndsThere fed k x
+ends_there fed inner k x no_data is = record {
+  header = is.header;
+  events = is.stream.events;
+  rest = is.rest;
+  stream = is.stream.stream;
+  ends = subst (λ (run : List Event). IsEndedAt run k x)
+      (lock_run inner.names fed is.header is.run is.rest is.stream (sym no_data ∙ is.width_is)) is.ends;
 }
 
 -- so it is with a text that was sought, or with why there is none
 module _ (asked : Watching) (fed : List ℕ) (judge : StreamJudge) (keeps : KeepsFed asked.most asked.ahead fed judge)
-    (inner : LateJudge) (some : judge.judge ≡ Some inner) (k : ℕ) (ends : EndsInStream fed judge.judge (Stuck k)) where
+    (inner : RunJudge) (some : judge.judge ≡ Some inner) (k : ℕ) (ends : EndsInStream fed judge.judge (Stuck k)) where
   kept_of : KeepsOf asked.most asked.ahead fed inner
-  kept_of = subst (λ (o : Option LateJudge). MatchOption o ⊤ (λ i. KeepsOf asked.most asked.ahead fed i)) some keeps
+  kept_of = subst (λ (o : Option RunJudge). MatchOption o ⊤ (λ i. KeepsOf asked.most asked.ahead fed i)) some keeps
 
-  pub none_behind_late : BeganLateBy inner k → BeganLate asked.ahead fed k
+  ends_here : (x : EndedCall) → ended_of inner.judge k ≡ Some x → EndsInRun inner fed k x
+  ends_here x of = (subst (λ (o : Option RunJudge). EndsInStream fed o (Stuck k)) some ends) k refl x of
+
+  pub has_data : IsSome inner.width → HasData fed
+  has_data is = record {
+    header = kept_of.header;
+    events = kept_of.stream.events;
+    rest = kept_of.rest;
+    stream = kept_of.stream.stream;
+    width = subst IsSome kept_of.width_is is;
+  }
+
+  pub none_behind_late : BeganLateBy inner.judge k → BeganLate asked.ahead fed k
   none_behind_late late = late_told asked.most asked.ahead fed inner kept_of k late
 
-  pub text_told : (base : Judge) → IsJudgeUpTo inner k base → (x : EndedCall) → ended_in judge.judge k ≡ Some x →
-      (most : ℕ) → asked.most ≡ most → (r : Result (Vec ℕ Global) NoWitness) →
+  pub text_told : (base : Judge) → IsJudgeUpTo inner.judge k base → inner.width ≡ None → (x : EndedCall) →
+      ended_of inner.judge k ≡ Some x → (most : ℕ) → asked.most ≡ most → (r : Result (Vec ℕ Global) NoWitness) →
       IsTextHere base k x (min most 16384) r → IsText asked fed k r
-  text_told base up x of most same (Ok text) is =
-      witness_told asked.most asked.ahead fed judge keeps inner some k base up text.items is
-  text_told base up x of most same (Err lack.BeganLate) is = absurd is
-  text_told base up x of most same (Err lack.Withdrawn) is =
-      record { ended = x; there = ends k refl x of; no_reply = is }
-  text_told base up x of most same (Err (lack.NotFound sought)) is = record {
+  text_told base up no_data x of most same (Ok text) is =
+      witness_told asked.most asked.ahead fed inner kept_of no_data k base up text.items is
+  text_told base up no_data x of most same (Err lack.BeganLate) is = absurd is
+  text_told base up no_data x of most same (Err lack.OfData) is = absurd is
+  text_told base up no_data x of most same (Err lack.Withdrawn) is =
+      record { ended = x; there = ends_there fed inner k x no_data (ends_here x of); no_reply = is }
+  text_told base up no_data x of most same (Err (lack.NotFound sought)) is = record {
     inner = inner;
     keeps = kept_of;
     ended = x;
-    kept = subst (λ (o : Option LateJudge). ended_in o k ≡ Some x) some of;
-    there = ends k refl x of;
+    kept = of;
+    there = ends_there fed inner k x no_data (ends_here x of);
     in_vain = subst (λ (j : Judge). AreInVain j k x (min asked.most most_searched) sought.items) up.is
         (subst (λ (m : ℕ). AreInVain base k x (min m 16384) sought.items) (sym same) is);
   }
-  text_told base up x of most same (Err lack.Memory) is = tt
+  text_told base up no_data x of most same (Err lack.Memory) is = tt
 
 -- one more start was tried
 pub sought_more : (judge : Judge) (number : ℕ) (x : EndedCall) (most start : ℕ) (before : List Sought)

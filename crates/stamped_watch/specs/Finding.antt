@@ -2,11 +2,12 @@
 use Rattle.std.specs.Prelude.{ℕ, ◌≡◌, ◌≢◌, ◌+◌, ◌-◌, ◌*◌, ◌^◌, ◌<◌, ◌≤◌, ◌⊎◌, ◌++◌, Bool, true, false, List, []}
 use Rattle.std.specs.Prelude.{length, take}
 use Rattle.std.specs.Prelude.{Option, Some, None}
-use Rattle.std.specs.List.{count_by}
+use Rattle.std.specs.List.{All, count_by}
 use Rattle.stamp_core.specs.Limits.{Bounds}
 use Rattle.stamp_runs.specs.declared.event.Event.{Event}
 use Rattle.stamp_runs.specs.declared.event.Event.TheVariants.{Begins, Withdraws}
-use Rattle.stamp_runs.specs.LockRun.{AreExplained}
+use Rattle.stamp_runs.specs.BothRun.{AreExplainedAt, AreStuckIn}
+use Rattle.stamp_runs.specs.Run.{lane_of}
 use Rattle.stamp_watch.specs.declared.late_verdict.LateVerdict.{LateVerdict}
 use Rattle.stamp_watch.specs.declared.late_verdict.LateVerdict.TheVariants.{Is, Late}
 use Rattle.stamp_watch.specs.declared.verdict.Verdict.{Verdict}
@@ -15,15 +16,16 @@ use Rattle.stamp_watch.specs.declared.verdict.Verdict.TheVariants as verdict
 use Rattle.stamp_watch.specs.Form.{is_busy_after}
 use Rattle.stamp_watch.specs.Late.{IsLateFound, IsLateVerdict}
 use Rattle.stamp_watch.specs.SoFar.{IsExplainedUpTo}
-use Rattle.stamp_watch.specs.Verdict.{AreOfLock}
+use Rattle.stamp_watch.specs.Verdict.{AreOfLanes}
 use Rattle.stamped_watch.specs.declared.event_bytes.BadEvent.{BadEvent}
 use Rattle.stamped_watch.specs.declared.finding.Finding.{Finding}
 use Rattle.stamped_watch.specs.declared.finding.Finding.TheVariants as found
+use Rattle.stamped_watch.specs.declared.header.Header.{Header}
 use Rattle.stamped_watch.specs.declared.misplaced.Misplaced.{Misplaced}
 use Rattle.stamped_watch.specs.declared.misplaced.Misplaced.TheVariants.{Lane, Open, Idle}
-use Rattle.stamped_watch.specs.EventBytes.{HasBytes, IsNoEvent, lane_of}
-use Rattle.stamped_watch.specs.Header.{IsNoHeader}
-use Rattle.stamped_watch.specs.Stream.{BeginsNoEvent, IsStream}
+use Rattle.stamped_watch.specs.EventBytes.{HasBytes, IsNoEvent, size_of}
+use Rattle.stamped_watch.specs.Header.{IsNoHeader, IsShortHeader}
+use Rattle.stamped_watch.specs.Stream.{BeginsNoEvent, IsPartOfEvent, IsRunIn, IsStream, words_of_record}
 
 abbrev pub is_beginning : Event → Bool
 is_beginning (Begins lane call) = true
@@ -38,39 +40,49 @@ abbrev pub calls_in : List Event → ℕ
 calls_in events = count_by is_beginning events - count_by is_withdrawal events
 
 -- the events end here, since no other begins the rest, and this is the verdict on the run that ends with them
-pub record IsJudgedAtEnd (limits : Bounds) (events : List Event) (most ahead : ℕ) (rest : List ℕ)
-    (verdict : LateVerdict) : Type 0 where
-  pub ends : BeginsNoEvent rest
-  pub verdict_is : IsLateVerdict limits events most ahead verdict
+pub record IsJudgedAtEnd (header : Header) (run : List Event) (most ahead : ℕ) (rest : List ℕ) (verdict : LateVerdict) :
+    Type 0
+  where
+    pub ends : BeginsNoEvent header.width rest
+    pub verdict_is : IsLateVerdict header.limits run most ahead verdict
 
 -- this is the verdict on the first events, whatever comes behind them, or on all events
 pub record IsJudged (most ahead : ℕ) (bytes : List ℕ) (verdict : LateVerdict) : Type 0 where
-  pub limits : Bounds
+  pub header : Header
+  pub run : List Event
+  pub rest : List ℕ
+  pub stream : IsRunIn bytes header run rest
+  pub judged : IsLateFound header.limits run most ahead verdict ⊎ IsJudgedAtEnd header run most ahead rest verdict
+
+-- the events are explained until the one with this number, and no longer
+pub record AreStuckThere (bytes : List ℕ) (k : ℕ) : Type 0 where
+  pub header : Header
   pub events : List Event
   pub rest : List ℕ
-  pub stream : IsStream bytes limits events rest
-  pub judged : IsLateFound limits events most ahead verdict ⊎ IsJudgedAtEnd limits events most ahead rest verdict
+  pub stream : IsStream bytes header events rest
+  pub stuck : AreStuckIn header.limits (words_of_record header.width) events k
 
 -- the first events are explained, and these bytes come behind
-pub record AreExplainedBefore (bytes : List ℕ) (events : List Event) (rest : List ℕ) : Type 0 where
-  pub limits : Bounds
-  pub stream : IsStream bytes limits events rest
-  pub whole : AreOfLock events
-  pub explained : AreExplained limits events
+pub record AreExplainedBefore (bytes : List ℕ) (header : Header) (events : List Event) (rest : List ℕ) : Type 0 where
+  pub stream : IsStream bytes header events rest
+  pub lanes : All (λ (e : Event). lane_of e < 64) events
+  pub explained : AreExplainedAt header.limits (words_of_record header.width) events
 
 -- all bytes are a header and events that are explained, with so many calls
 pub record IsExplained (bytes : List ℕ) (calls : ℕ) : Type 0 where
+  pub header : Header
   pub events : List Event
-  pub all : AreExplainedBefore bytes events []
+  pub all : AreExplainedBefore bytes header events []
   pub count : calls ≡ calls_in events
 
 -- so many events are explained, and what comes behind them is bad
-pub record IsBadAt (bytes : List ℕ) (k : ℕ) (IsBad : List Event → List ℕ → Type 0) : Type 0 where
+pub record IsBadAt (bytes : List ℕ) (k : ℕ) (IsBad : Option ℕ → List Event → List ℕ → Type 0) : Type 0 where
+  pub header : Header
   pub events : List Event
   pub rest : List ℕ
-  pub before : AreExplainedBefore bytes events rest
+  pub before : AreExplainedBefore bytes header events rest
   pub place : k ≡ length events
-  pub bad : IsBad events rest
+  pub bad : IsBad header.width events rest
 
 -- behind this run the event may not come: its lane is none of 64; it begins a call where one is open; it ends one
 -- where none is
@@ -85,60 +97,60 @@ IsMisplacedSo e Lane = 64 ≤ lane_of e
 IsMisplacedSo e Open = (lane_of e ≤ 63) × (is_beginning e ≡ true)
 IsMisplacedSo e Idle = (lane_of e ≤ 63) × (is_beginning e ≡ false)
 
--- the next 16 bytes are those of an event that may not come there, or of none; or fewer come
-pub record BringsMisplaced (why : Misplaced) (run : List Event) (rest : List ℕ) : Type 0 where
+-- the next bytes are those of an event that may not come there, or of none; or fewer come
+pub record BringsMisplaced (why : Misplaced) (width : Option ℕ) (run : List Event) (rest : List ℕ) : Type 0 where
   pub event : Event
-  pub has : HasBytes event (take 16 rest)
+  pub has : HasBytes width event (take (size_of event) rest)
   pub misplaced : IsMisplaced run event why
 
-abbrev pub BringsNoEvent : BadEvent → List Event → List ℕ → Type 0
-BringsNoEvent why run rest = (16 ≤ length rest) × IsNoEvent why (take 16 rest)
+abbrev pub BringsNoEvent : BadEvent → Option ℕ → List Event → List ℕ → Type 0
+BringsNoEvent why width run rest = (16 ≤ length rest) × IsNoEvent width why (take 16 rest)
 
-abbrev pub IsCut : List Event → List ℕ → Type 0
-IsCut run rest = (rest ≢ []) × (length rest < 16)
+abbrev pub IsCut : Option ℕ → List Event → List ℕ → Type 0
+IsCut width run rest = (rest ≢ []) × IsPartOfEvent width rest
 
 -- there are more events than can be numbered
 pub record AreTooMany (bytes : List ℕ) : Type 0 where
-  pub limits : Bounds
+  pub header : Header
   pub events : List Event
   pub rest : List ℕ
-  pub stream : IsStream bytes limits events rest
+  pub stream : IsStream bytes header events rest
   pub many : 2 ^ 64 ≤ length events
 
 -- what is found of a stream of these bytes
 abbrev pub IsFindingOf : ℕ → ℕ → List ℕ → Finding → Type 0
 IsFindingOf most ahead bytes (found.Explained calls) = IsExplained bytes calls
-IsFindingOf most ahead bytes (found.Stuck k) = IsJudged most ahead bytes (Is (Stuck k))
+IsFindingOf most ahead bytes (found.Stuck k) = IsJudged most ahead bytes (Is (Stuck k)) × AreStuckThere bytes k
 IsFindingOf most ahead bytes (found.StuckWithin k m) = IsJudged most ahead bytes (Is (StuckWithin k m))
 IsFindingOf most ahead bytes (found.Undecided k why) = IsJudged most ahead bytes (Is (Undecided k why))
 IsFindingOf most ahead bytes (found.Late k) = IsJudged most ahead bytes (Late k)
 IsFindingOf most ahead bytes (found.Misplaced k why) = IsBadAt bytes k (BringsMisplaced why)
 IsFindingOf most ahead bytes (found.BadEvent k why) = IsBadAt bytes k (BringsNoEvent why)
 IsFindingOf most ahead bytes (found.Cut k) = IsBadAt bytes k IsCut
-IsFindingOf most ahead bytes (found.BadHeader why) = (16 ≤ length bytes) × IsNoHeader why (take 16 bytes)
-IsFindingOf most ahead bytes found.NoHeader = length bytes < 16
+IsFindingOf most ahead bytes (found.BadHeader why) = IsNoHeader why bytes
+IsFindingOf most ahead bytes found.NoHeader = IsShortHeader bytes
 IsFindingOf most ahead bytes found.Full = AreTooMany bytes
 
 -- this is found of a stream that begins with these bytes, whatever comes later
 abbrev pub IsFoundOf : ℕ → ℕ → List ℕ → Finding → Type 0
 IsFoundOf most ahead bytes finding = (more : List ℕ) → IsFindingOf most ahead (bytes ++ more) finding
 
--- as far as it came the stream is a header and events in form, and a rest of fewer than 16 bytes; all but the last
--- events are explained: no more than twice those that are looked at, and 64
+-- as far as it came the stream is a header and events in form, and a part of one; all but the last events are
+-- explained: no more than twice those that are looked at, and 64
 pub record IsInForm (ahead : ℕ) (bytes : List ℕ) : Type 0 where
-  pub limits : Bounds
-  pub events : List Event
+  pub header : Header
+  pub run : List Event
   pub rest : List ℕ
-  pub stream : IsStream bytes limits events rest
-  pub whole : AreOfLock events
-  pub short : length rest < 16
+  pub stream : IsRunIn bytes header run rest
+  pub whole : AreOfLanes run
+  pub short : IsPartOfEvent header.width rest
   pub place : ℕ
-  pub explained : IsExplainedUpTo limits events (2 * ahead + 64) place
+  pub explained : IsExplainedUpTo header.limits run (2 * ahead + 64) place
 
 -- what is found once these bytes came; or the stream is in form so far, and all but its last events are explained
 abbrev pub IsSoFar : ℕ → ℕ → List ℕ → Option Finding → Type 0
 IsSoFar most ahead bytes (Some finding) = IsFoundOf most ahead bytes finding
-IsSoFar most ahead bytes None = (length bytes < 16) ⊎ IsInForm ahead bytes
+IsSoFar most ahead bytes None = IsShortHeader bytes ⊎ IsInForm ahead bytes
 
 -- the verdict says that events in form are not all explained
 abbrev pub IsOfForm : Verdict → Type 0

@@ -5,7 +5,7 @@ use Rattle.stamp_cli.specs.declared.line.Verdict.TheVariants.{Accepted, Bad}
 use Rattle.stamped_watch.specs.declared.event_bytes.BadEvent.{BadEvent}
 use Rattle.stamped_watch.specs.declared.event_bytes.BadEvent.TheVariants.{Kind, Zeros, Number}
 use Rattle.stamped_watch.specs.declared.header.BadHeader.{BadHeader}
-use Rattle.stamped_watch.specs.declared.header.BadHeader.TheVariants.{Letters, Form, Layout, Limits}
+use Rattle.stamped_watch.specs.declared.header.BadHeader.TheVariants.{Letters, Form, Layout, Limits, Width}
 use Rattle.stamped_watch.specs.declared.finding.Finding.{Finding}
 use Rattle.stamped_watch.specs.declared.finding.Finding.TheVariants.{Explained, Stuck, StuckWithin, Undecided}
 use Rattle.stamped_watch.specs.declared.finding.Finding.TheVariants as found
@@ -27,6 +27,7 @@ header_text Letters = codes "letters"
 header_text Form = codes "form"
 header_text Layout = codes "layout"
 header_text Limits = codes "limits"
+header_text Width = codes "width"
 
 abbrev pub bad_text : ℕ → List ℕ → List ℕ
 bad_text k why = codes "bad " ++ decimal k ++ codes " " ++ why

@@ -3,16 +3,17 @@ use Rattle.std.specs.Prelude.{ℕ, ◌≡◌, ◌++◌, List, Option, Some, None
 use Rattle.std.specs.Prelude.{string_bytes}
 use Rattle.std.specs.declared.alloc.AllocError.{AllocError}
 use Rattle.std.specs.declared.alloc.Global.{Global}
-use Rattle.stamp_core.specs.Limits.{Bounds}
 use Rattle.stamp_core.specs.Texts.{call_text, reply_text}
 use Rattle.stamp_core.specs.declared.reply.Reply.{Reply}
 use Rattle.stamp_runs.specs.declared.event.Event.{Event}
 use Rattle.stamp_watch.specs.declared.ended_call.EndedCall.{EndedCall}
 use Rattle.stamped_watch.specs.declared.finding.Finding.{Finding}
 use Rattle.stamped_watch.specs.declared.finding.Finding.TheVariants.{Stuck, StuckWithin, Late}
+use Rattle.stamped_watch.specs.declared.header.Header.{Header}
 use Rattle.stamped_watch.specs.declared.orders.Watching.{Watching}
 use Rattle.stamp_watch.specs.EndedCall.{IsEndedAt}
-use Rattle.stamped_watch.specs.Possible.{AreToldOf, possible_text}
+use Rattle.stamped_watch.specs.Possible.{AreToldOf, items_in, possible_text}
+use Rattle.stamped_watch.specs.declared.stuck_end.StuckEnd.{StuckEnd}
 use Rattle.stamped_watch.specs.Stream.{IsStream}
 
 abbrev pub end_text : Option Reply → List ℕ
@@ -37,20 +38,22 @@ late_text ahead = codes "stamped_watch: a call was open for nearly " ++ (decimal
 
 -- the call ends at the event of this number in the stream
 pub record EndsThere (bytes : List ℕ) (k : ℕ) (ended : EndedCall) : Type 0 where
-  pub limits : Bounds
+  pub header : Header
   pub events : List Event
   pub rest : List ℕ
-  pub stream : IsStream bytes limits events rest
+  pub stream : IsStream bytes header events rest
   pub ends : IsEndedAt events k ended
 
--- the text tells of the call that ends at the event of this number in the stream, and of the replies that it could have
--- had
+-- the call that ends at the event of this number in the stream, and the replies that it could have had
+pub record IsStuckEnd (most ahead : ℕ) (bytes : List ℕ) (k : ℕ) (end : StuckEnd) : Type 0 where
+  pub there : EndsThere bytes k end.ended
+  pub told : AreToldOf most ahead bytes k end.ended (items_in end.replies)
+
+-- the text tells of those
 pub record IsStuckNote (most ahead : ℕ) (bytes : List ℕ) (k : ℕ) (text : List ℕ) : Type 0 where
-  pub ended : EndedCall
-  pub there : EndsThere bytes k ended
-  pub replies : Option (List Reply)
-  pub told : AreToldOf most ahead bytes k ended replies
-  pub says : text ≡ stuck_text k ended replies
+  pub end : StuckEnd
+  pub is : IsStuckEnd most ahead bytes k end
+  pub says : text ≡ stuck_text k end.ended (items_in end.replies)
 
 -- the note of what is found of a stream that is stuck, unexplained, or not judged further for calls that began late. In
 -- its place: memory was refused. Of another there is none

@@ -2,67 +2,68 @@
 use Rattle.std.specs.Prelude.{ℕ, ◌≡◌, ◌≤◌, ◌-◌, ◌++◌, List, [], ◌∷◌, Option, Some, None, Vec, codes}
 use Rattle.std.specs.List.{flat_map}
 use Rattle.std.specs.declared.alloc.Global.{Global}
-use Rattle.stamp_core.specs.Limits.{Bounds}
 use Rattle.stamp_core.specs.Texts.{reply_text}
 use Rattle.stamp_core.specs.declared.call.Call.{Call}
-use Rattle.stamp_core.specs.declared.lock_decision.LockReply.{LockReply}
 use Rattle.stamp_core.specs.declared.reply.Reply.{Reply}
 use Rattle.stamp_runs.specs.declared.event.Event.{Event}
+use Rattle.stamp_sets.specs.declared.small_call.SmallReply.{SmallReply}
 use Rattle.stamp_watch.specs.declared.ended_call.EndedCall.{EndedCall}
-use Rattle.stamp_watch.specs.declared.late.LateJudge.{LateJudge}
 use Rattle.stamp_watch.specs.Possible.{ArePossibleAmong, AreTooManyWith, plain_replies}
 use Rattle.stamp_watch.specs.PossibleLate.{KeepsLater}
 use Rattle.stamp_watch.specs.Verdict.{IsOpenFor}
-use Rattle.stamped_watch.specs.Stream.{IsStream}
+use Rattle.stamped_watch.specs.declared.header.Header.{Header}
+use Rattle.stamped_watch.specs.declared.run_judge.RunJudge.{RunJudge}
+use Rattle.stamped_watch.specs.Stream.{IsRunBy, IsRunIn}
 
--- the bytes are a header, events and a rest; what the judge of the events keeps is of those. More than so many
--- configurations are too many for it, and a call begins later that is open for all but 64 of so many events
-pub record KeepsOf (most ahead : ℕ) (bytes : List ℕ) (inner : LateJudge) : Type 0 where
-  pub limits : Bounds
-  pub events : List Event
+-- the bytes are a header, events and a rest; what the judge of the run keeps is of those. More than so many positions
+-- are too many for it, and a call begins later that is open for all but 64 of so many events
+pub record KeepsOf (most ahead : ℕ) (bytes : List ℕ) (inner : RunJudge) : Type 0 where
+  pub header : Header
+  pub run : List Event
   pub rest : List ℕ
-  pub stream : IsStream bytes limits events rest
-  pub keeps : KeepsLater limits events inner
-  pub most_is : inner.delay.judge.most ≡ most
-  pub window : inner.delay.ahead ≡ ahead - 64
+  pub stream : IsRunBy inner.names bytes header run rest
+  pub width_is : inner.width ≡ header.width
+  pub keeps : KeepsLater header.limits run inner.judge
+  pub most_is : inner.judge.delay.judge.most ≡ most
+  pub window : inner.judge.delay.ahead ≡ ahead - 64
 
 -- of all replies that the call may be given these are the possible ones, at the event of this number in the stream
 pub record ArePossibleAt (bytes : List ℕ) (k : ℕ) (call : Call) (found : List Reply) : Type 0 where
-  pub limits : Bounds
-  pub events : List Event
+  pub header : Header
+  pub run : List Event
   pub rest : List ℕ
-  pub stream : IsStream bytes limits events rest
-  pub tried : List LockReply
-  pub are : plain_replies limits call ≡ Some tried
-  pub among : ArePossibleAmong limits events k tried found
+  pub stream : IsRunIn bytes header run rest
+  pub tried : List SmallReply
+  pub are : plain_replies header.limits call ≡ Some tried
+  pub among : ArePossibleAmong header.limits run k tried found
 
 -- the call is given stamps
 pub record IsGivenStamps (bytes : List ℕ) (call : Call) : Type 0 where
-  pub limits : Bounds
-  pub events : List Event
+  pub header : Header
+  pub run : List Event
   pub rest : List ℕ
-  pub stream : IsStream bytes limits events rest
-  pub not_plain : plain_replies limits call ≡ None
+  pub stream : IsRunIn bytes header run rest
+  pub not_plain : plain_replies header.limits call ≡ None
 
 -- a call that begins no later than at the event of this number is open for all but 64 of so many events: it began late
 pub record BeganLate (ahead : ℕ) (bytes : List ℕ) (k : ℕ) : Type 0 where
-  pub limits : Bounds
-  pub events : List Event
+  pub header : Header
+  pub run : List Event
   pub rest : List ℕ
-  pub stream : IsStream bytes limits events rest
+  pub stream : IsRunIn bytes header run rest
   pub first : ℕ
   pub by : first ≤ k
-  pub open_for : IsOpenFor events first (ahead - 64)
+  pub open_for : IsOpenFor run first (ahead - 64)
 
 -- with one of the replies that the call may be given more than so many configurations are possible
 pub record AreTooManyAt (most : ℕ) (bytes : List ℕ) (k : ℕ) (call : Call) : Type 0 where
-  pub limits : Bounds
-  pub events : List Event
+  pub header : Header
+  pub run : List Event
   pub rest : List ℕ
-  pub stream : IsStream bytes limits events rest
-  pub tried : List LockReply
-  pub are : plain_replies limits call ≡ Some tried
-  pub too_many : AreTooManyWith limits events k most tried
+  pub stream : IsRunIn bytes header run rest
+  pub tried : List SmallReply
+  pub are : plain_replies header.limits call ≡ Some tried
+  pub too_many : AreTooManyWith header.limits run k most tried
 
 -- why no replies are told of the call that ends at the event of this number
 pub data AreUntold (most ahead : ℕ) (bytes : List ℕ) (k : ℕ) (ended : EndedCall) : Type 0 where

@@ -9,15 +9,15 @@ use Rattle.stamp_cli.specs.Results.{EachTakes, Results, taken_since}
 use Rattle.stamp_cli.specs.Sink.{AppendsFront}
 use Rattle.stamp_cli.specs.TakesNone.{takes_none}
 use Rattle.stamp_cli.specs.declared.faults.ServeFault.{ServeFault}
-use Rattle.stamp_core.specs.Limits.{Bounds}
 use Rattle.stamp_watch.specs.SoFar.{IsExplainedUpTo, open_calls}
 use Rattle.stamped_watch.specs.declared.finding.Finding.{Finding}
+use Rattle.stamped_watch.specs.declared.header.Header.{Header}
 use Rattle.stamped_watch.specs.declared.orders.Watching.{Watching}
 use Rattle.stamped_watch.specs.declared.so_far.SoFar.{SoFar}
 use Rattle.stamped_watch.specs.declared.stream_judge.StreamJudge.{StreamJudge}
 use Rattle.stamped_watch.specs.declared.telling.Telling.{Telling}
 use Rattle.stamped_watch.specs.Finding.{IsFoundOf, calls_in}
-use Rattle.stamped_watch.specs.Stream.{IsStream}
+use Rattle.stamped_watch.specs.Stream.{IsPartOfEvent, IsRunIn}
 use Rattle.stamped_watch.specs.StreamJudge.{IsFed}
 
 abbrev pub progress_text : ℕ → ℕ → ℕ → List ℕ
@@ -25,17 +25,17 @@ progress_text calls explained under_way = codes "stamped_watch: " ++ (decimal ca
     (codes " calls, explained up to event " ++ (decimal explained ++ (codes ", " ++ (decimal under_way ++
     codes " open\n")))))
 
--- a stream of these bytes is judged so far: it is a header and events, and fewer than 16 bytes. So many calls began
--- and were not withdrawn, so many are open, and the events are explained up to the one of this number
+-- a stream of these bytes is judged so far: it is a header and events, and a part of one. So many calls began and were
+-- not withdrawn, so many are open, and the events are explained up to the one of this number
 pub record IsSoFarOf (ahead : ℕ) (bytes : List ℕ) (so_far : SoFar) : Type 0 where
-  pub limits : Bounds
-  pub events : List Event
+  pub header : Header
+  pub run : List Event
   pub rest : List ℕ
-  pub stream : IsStream bytes limits events rest
-  pub short : length rest < 16
-  pub calls_are : so_far.calls ≡ calls_in events
-  pub explained_is : IsExplainedUpTo limits events (2 * ahead + 64) so_far.explained
-  pub under_way_are : so_far.under_way ≡ open_calls events
+  pub stream : IsRunIn bytes header run rest
+  pub short : IsPartOfEvent header.width rest
+  pub calls_are : so_far.calls ≡ calls_in run
+  pub explained_is : IsExplainedUpTo header.limits run (2 * ahead + 64) so_far.explained
+  pub under_way_are : so_far.under_way ≡ open_calls run
 
 -- the line of that
 pub record IsLineOf (ahead : ℕ) (bytes line : List ℕ) : Type 0 where
@@ -43,7 +43,7 @@ pub record IsLineOf (ahead : ℕ) (bytes line : List ℕ) : Type 0 where
   pub is : IsSoFarOf ahead bytes so_far
   pub text : line ≡ progress_text so_far.calls so_far.explained so_far.under_way
 
--- the bytes of a header and of n times 2^24 events
+-- behind the first 16 bytes and n times 2^28: without data, behind the header and n times 2^24 events
 abbrev pub mark : ℕ → ℕ
 mark n = 16 + n * 268435456
 

@@ -38,7 +38,7 @@ pub record IsFoundAtEnd (asked : Watching) (left : Option (List ℕ)) (old new :
   pub at_end : IsAtEnd left
   pub found : IsFindingOf asked.most asked.ahead bytes finding
 
--- before the last read nothing was found of the bytes: they were fewer than 16, or all but their last events were
+-- before the last read nothing was found of the bytes: they were part of a header, or all but their last events were
 -- explained
 pub record IsReadInNeed (asked : Watching) (old new : Results) (bytes : List ℕ) : Type 0 where
   pub earlier : Results

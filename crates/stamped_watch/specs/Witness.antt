@@ -1,5 +1,6 @@
 -- Witnesses: small histories that are stuck where a run is.
 use Rattle.std.specs.Prelude.{ℕ, ◌≡◌, ◌+◌, ◌-◌, ◌++◌, ◌∷◌, [], List, length, take, min, Option, Some, None, Bool, true}
+use Rattle.std.specs.Prelude.{IsSome}
 use Rattle.std.specs.Prelude.{Result, Ok, Err, Vec}
 use Rattle.std.specs.declared.alloc.Global.{Global}
 use Rattle.stamp_runs.specs.declared.event.Event.{Event}
@@ -16,14 +17,15 @@ use Rattle.stamp_observed.specs.Behind.{IsSought, IsStuckWith}
 use Rattle.stamp_observed.specs.declared.behind.Sought.{Sought}
 use Rattle.stamp_observed.specs.ObservedText.{observed_text}
 use Rattle.stamp_watch.specs.declared.ended_call.EndedCall.{EndedCall}
-use Rattle.stamp_watch.specs.declared.late.LateJudge.{LateJudge}
 use Rattle.stamp_watch.specs.declared.online.Judge.{Judge}
 use Rattle.stamp_watch.specs.EndedCall.{ended_at, ended_from}
-use Rattle.stamp_sets.specs.Positions.{waiting_of, word_of}
+use Rattle.stamp_watch.specs.Start.{starts_of, waiting_of, word_of}
 use Rattle.stamped_watch.specs.Calls.{Told, told_along, told_beside, told_end}
 use Rattle.stamped_watch.specs.declared.finding.Finding.{Finding}
 use Rattle.stamped_watch.specs.declared.finding.Finding.TheVariants.{Stuck}
+use Rattle.stamped_watch.specs.declared.header.Header.{Header}
 use Rattle.stamped_watch.specs.declared.orders.Watching.{Watching}
+use Rattle.stamped_watch.specs.declared.run_judge.RunJudge.{RunJudge}
 use Rattle.stamped_watch.specs.declared.witness.NoWitness.{NoWitness}
 use Rattle.stamped_watch.specs.declared.witness.NoWitness.TheVariants as lack
 use Rattle.stamped_watch.specs.declared.witness.Shown.{Shown}
@@ -32,6 +34,7 @@ use Rattle.stamped_watch.specs.Note.{EndsThere}
 use Rattle.stamped_watch.specs.Possible.{BeganLate, KeepsOf}
 use Rattle.stamped_watch.specs.Progress.{IsWritten}
 use Rattle.stamped_watch.specs.Stream.{IsStream}
+use Rattle.stamped_watch.specs.StreamJudge.{ended_of}
 
 -- so many starts are tried at most
 abbrev pub most_starts : ℕ
@@ -93,12 +96,13 @@ AreSoughtOn judge number ended most start (sought ∷ others) =
 -- none was found from the first 64 starts, or from all
 pub record AreInVain (judge : Judge) (number : ℕ) (ended : EndedCall) (most : ℕ) (sought : List Sought) : Type 0 where
   pub each : AreSoughtOn judge number ended most 0 sought
-  pub all : length sought ≡ min (length judge.course.base.positions.items) most_starts
+  pub all : length sought ≡ min (starts_of judge.course.base) most_starts
 
 -- why there is no witness of the call that ended at the event of this number
 abbrev pub IsLackingHere : Judge → ℕ → EndedCall → ℕ → NoWitness → Type 0
 IsLackingHere judge number ended most lack.BeganLate = ⊥
 IsLackingHere judge number ended most lack.Withdrawn = ended.reply ≡ None
+IsLackingHere judge number ended most lack.OfData = ⊥
 IsLackingHere judge number ended most (lack.NotFound sought) = AreInVain judge number ended most sought.items
 IsLackingHere judge number ended most lack.Memory = Unit {0}
 
@@ -109,13 +113,13 @@ IsTextHere judge number ended most (Err why) = IsLackingHere judge number ended 
 
 -- the call is the one that the event with this number ends in the stream of these bytes
 pub record IsWitnessIn (bytes : List ℕ) (number : ℕ) (small : ObservedHistory) : Type 0 where
-  pub limits : Bounds
+  pub header : Header
   pub events : List Event
   pub rest : List ℕ
-  pub stream : IsStream bytes limits events rest
+  pub stream : IsStream bytes header events rest
   pub ended : EndedCall
   pub ended_is : ended_at events number ≡ Some ended
-  pub witness : IsWitnessOf limits ended small
+  pub witness : IsWitnessOf header.limits ended small
 
 -- its text, with a line feed
 pub record IsTextIn (bytes : List ℕ) (number : ℕ) (text : List ℕ) : Type 0 where
@@ -126,12 +130,12 @@ pub record IsTextIn (bytes : List ℕ) (number : ℕ) (text : List ℕ) : Type 0
 -- what the judge keeps is of these bytes, with the call that ends at the event of this number: a witness was sought
 -- from its starts, and none was found
 pub record IsSoughtInVain (asked : Watching) (bytes : List ℕ) (k : ℕ) (sought : List Sought) : Type 0 where
-  pub inner : LateJudge
+  pub inner : RunJudge
   pub keeps : KeepsOf asked.most asked.ahead bytes inner
   pub ended : EndedCall
-  pub kept : ended_from inner.delay.judge.course.first inner.delay.judge.course.events.items k ≡ Some ended
+  pub kept : ended_of inner.judge k ≡ Some ended
   pub there : EndsThere bytes k ended
-  pub in_vain : AreInVain inner.delay.judge k ended (min asked.most most_searched) sought
+  pub in_vain : AreInVain inner.judge.delay.judge k ended (min asked.most most_searched) sought
 
 -- the call that ends there was withdrawn
 pub record IsWithdrawnAt (bytes : List ℕ) (k : ℕ) : Type 0 where
@@ -139,10 +143,19 @@ pub record IsWithdrawnAt (bytes : List ℕ) (k : ℕ) : Type 0 where
   pub there : EndsThere bytes k ended
   pub no_reply : ended.reply ≡ None
 
+-- the stream has data
+pub record HasData (bytes : List ℕ) : Type 0 where
+  pub header : Header
+  pub events : List Event
+  pub rest : List ℕ
+  pub stream : IsStream bytes header events rest
+  pub width : IsSome header.width
+
 -- why there is no witness that the stream is stuck at the event of this number
 abbrev pub IsLacking : Watching → List ℕ → ℕ → NoWitness → Type 0
 IsLacking asked bytes k lack.BeganLate = BeganLate asked.ahead bytes k
 IsLacking asked bytes k lack.Withdrawn = IsWithdrawnAt bytes k
+IsLacking asked bytes k lack.OfData = HasData bytes
 IsLacking asked bytes k (lack.NotFound sought) = IsSoughtInVain asked bytes k sought.items
 IsLacking asked bytes k lack.Memory = Unit {0}
 
@@ -176,5 +189,6 @@ abbrev pub lack_of : Result Shown NoWitness → Option Lack
 lack_of (Ok shown) = None
 lack_of (Err lack.BeganLate) = Some told.BeganLate
 lack_of (Err lack.Withdrawn) = Some told.Withdrawn
+lack_of (Err lack.OfData) = Some told.OfData
 lack_of (Err (lack.NotFound sought)) = Some told.NotFound
 lack_of (Err lack.Memory) = Some told.Memory

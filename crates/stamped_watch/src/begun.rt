@@ -1,6 +1,6 @@
 //! The calls of a run as an observer tells them, up to one of its events.
 ghost use Rattle.std.specs.Prelude.{◌≡◌, ◌+◌, ◌++◌, IfOk, None, Some, fold, length, option_map, slice_set};
-ghost use Rattle.stamp_sets.specs.Positions.{waiting_of};
+ghost use Rattle.stamp_watch.specs.Start.{waiting_of};
 ghost use Rattle.stamped_watch.specs.Calls.{Told, begun, open_in, return, returned_in, told_first, told_with};
 ghost use Rattle.stamped_watch.specs.Calls.{IsTold, under_way};
 

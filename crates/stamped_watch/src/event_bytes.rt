@@ -1,16 +1,17 @@
 //! The bytes of an event.
 
-ghost use Rattle.std.specs.Prelude.{◌≡◌, ◌↔◌, IfErr, IfOk, IsTrue};
+ghost use Rattle.std.specs.Prelude.{◌≡◌, ◌≤◌, ◌*◌, ◌++◌, ◌↔◌, IfErr, IfOk, IsTrue, Some, length};
 ghost use Rattle.std.specs.List.{All};
-ghost use Rattle.stamp_core.specs.LockDecision.{reply_as};
-ghost use Rattle.stamp_core.specs.LockCall.{call_as};
-ghost use Rattle.stamped_watch.specs.EventBytes.{call_number, HasBytes, IsNoEvent, number_in, number_of, reply_number};
-ghost use Rattle.stamped_watch.specs.inner.EventBytes.{IsCallOf, IsEventOf, IsReplyOf};
+ghost use Rattle.stamp_sets.specs.SmallCall.{call_of, reply_of};
+ghost use Rattle.stamped_watch.specs.EventBytes.{call_number, HasBytes, IsNoEvent, number_in, number_of, reply_number, words_in};
+ghost use Rattle.stamped_watch.specs.inner.EventBytes.{front_number, IsCallOf, IsEventOf, IsFrontAs, IsReplyOf};
+ghost use Rattle.stamped_watch.specs.EventBytes.{IsFrontIn, IsWidth};
+ghost use Rattle.stamped_watch.specs.declared.event_bytes.Front.TheVariants.{Longer};
 
-use stamp_core::{Call, LockCall, LockReply, Reply};
-use stamp_watch::{Event, StreamEvent};
+use stamp_core::{Call, LockCall, LockReply, MOST_WORDS, Reply, Words};
+use stamp_watch::{Event, SmallCall, SmallEvent, SmallReply, StreamEvent};
 
-/// Why 16 bytes are no event.
+/// Why 16 bytes are no event's first ones.
 #[derive(Clone, Copy, Debug, PartialEq, Eq)]
 pub(crate) enum BadEvent {
     /// No event has their kind.
@@ -19,6 +20,15 @@ pub(crate) enum BadEvent {
     Zeros,
     /// Events of their kind have no number, and they have one.
     Number,
+}
+
+/// What the first 16 bytes of an event tell.
+#[derive(Clone, Copy)]
+pub(crate) enum Front {
+    /// The event, which has no words behind them.
+    Whole(StreamEvent),
+    /// Contents of so many words stand behind them, in so many bytes.
+    Longer(usize, usize),
 }
 
 /// The number of the last eight bytes.
@@ -72,15 +82,15 @@ fn reply_of(kind: u8, number: u64) -> Option<LockReply>
     }
 }
 
-/// The event of this kind in the lane, with this number if it has one.
+/// The event of the lock with this kind in the lane, with this number if it has one; or the withdrawal of a call.
 fn event_of(kind: u8, lane: u8, number: u64) -> Option<StreamEvent>
     ensures { IsEventOf kind lane number result }
 {
     if let Some(call) = call_of(kind, number) {
-        return Some(StreamEvent::begins(lane, call));
+        return Some(StreamEvent::begins(lane, SmallCall::OfLock(call)));
     }
     if let Some(reply) = reply_of(kind, number) {
-        return Some(StreamEvent::returns(lane, reply));
+        return Some(StreamEvent::returns(lane, SmallReply::OfLock(reply)));
     }
     if kind == 48 {
         Some(StreamEvent::withdraws(lane))
@@ -89,28 +99,49 @@ fn event_of(kind: u8, lane: u8, number: u64) -> Option<StreamEvent>
     }
 }
 
-/// The stamp of the call, or 0.
-fn stamp_of(call: &Call) -> u64
-    ensures { result ≡ call_number call.now }
+/// What an event of this kind in the lane begins with, if there is one. A record of this width has events, too.
+fn front_of(width: Option<usize>, kind: u8, lane: u8, number: u64) -> Option<Front>
+    requires { IsWidth width }
+    ensures { IsFrontAs width kind lane number result }
 {
-    match call {
-        Call::Validate(stamp)
-        | Call::UnlockWrite(stamp)
-        | Call::UnlockRead(stamp)
-        | Call::Unlock(stamp)
-        | Call::ToWrite(stamp)
-        | Call::ToRead(stamp)
-        | Call::ToOptimistic(stamp) => *stamp,
+    if let Some(event) = event_of(kind, lane, number) {
+        return Some(Front::Whole(event));
+    }
+    let width = width?;
+    match kind {
+        17 => Some(Front::Whole(StreamEvent::begins(lane, SmallCall::Get))),
+        18 => Some(Front::Longer(width, 8 * width)),
+        19 => Some(Front::Longer(width, 16 * width)),
+        38 => Some(Front::Longer(width, 8 * width)),
+        _ => None,
+    }
+}
+
+/// The stamp of the call, or 0.
+fn stamp_of(call: SmallCall) -> u64
+    ensures { result ≡ call_number (call_of call) }
+{
+    let SmallCall::OfLock(own) = call else {
+        return 0;
+    };
+    match own {
+        LockCall::Validate(stamp)
+        | LockCall::UnlockWrite(stamp)
+        | LockCall::UnlockRead(stamp)
+        | LockCall::Unlock(stamp)
+        | LockCall::ToWrite(stamp)
+        | LockCall::ToRead(stamp)
+        | LockCall::ToOptimistic(stamp) => stamp,
         _ => 0,
     }
 }
 
 /// The stamp or the count that is returned, or 0.
-fn returned_of(reply: &Reply) -> u64
-    ensures { result ≡ reply_number reply.now }
+fn returned_of(reply: SmallReply) -> u64
+    ensures { result ≡ reply_number (reply_of reply) }
 {
     match reply {
-        Reply::Stamp(number) | Reply::Count(number) => *number,
+        SmallReply::OfLock(LockReply::Stamp(number) | LockReply::Count(number)) => number,
         _ => 0,
     }
 }
@@ -119,33 +150,89 @@ fn returned_of(reply: &Reply) -> u64
 fn number_of(event: &StreamEvent) -> u64
     ensures { result ≡ number_of event.now }
 {
-    match event.as_event() {
-        Event::Begins(_, call) => stamp_of(&call),
-        Event::Returns(_, reply) => returned_of(&reply),
-        Event::Withdraws(_) => 0,
+    match event.small() {
+        SmallEvent::Begins(_, call) => stamp_of(call),
+        SmallEvent::Returns(_, reply) => returned_of(reply),
+        SmallEvent::Withdraws(_) => 0,
     }
 }
 
-fn are_zeros(bytes: &[u8]) -> bool
+/// Whether all these bytes are zero.
+pub(crate) fn are_zeros(bytes: &[u8]) -> bool
     ensures { IsTrue result ↔ All (λ byte. byte ≡ 0) bytes.now }
 {
     bytes.iter().all(|byte| *byte == 0)
 }
 
-/// The event that has these bytes, or the first thing that is wrong with them.
-pub(crate) fn event_in(bytes: &[u8; 16]) -> Result<StreamEvent, BadEvent>
-    ensures event { IfOk result (λ event. HasBytes event bytes.now) }
-    ensures fault { IfErr result (λ fault. IsNoEvent fault bytes.now) }
+/// The number that the event must have.
+fn number_behind(front: &Front) -> u64
+    ensures { result ≡ front_number front.now }
+{
+    match front {
+        Front::Whole(event) => number_of(event),
+        Front::Longer(_, _) => 0,
+    }
+}
+
+/// What these bytes tell as the first ones of an event, or the first thing that is wrong with them.
+pub(crate) fn event_front(width: Option<usize>, bytes: &[u8; 16]) -> Result<Front, BadEvent>
+    requires { IsWidth width }
+    ensures front { IfOk result (λ front. IsFrontIn width bytes.now front) }
+    ensures fault { IfErr result (λ fault. IsNoEvent width fault bytes.now) }
+    ensures many { length bytes.now ≡ 16 }
 {
     let number = number_in(bytes);
-    let Some(event) = event_of(bytes[0], bytes[1], number) else {
+    let Some(front) = front_of(width, bytes[0], bytes[1], number) else {
         return Err(BadEvent::Kind);
     };
     if !are_zeros(&bytes[2..8]) {
         return Err(BadEvent::Zeros);
     }
-    if number_of(&event) != number {
+    if number_behind(&front) != number {
         return Err(BadEvent::Number);
     }
-    Ok(event)
+    Ok(front)
+}
+
+/// So many words.
+fn words_in(bytes: &[u8], len: usize) -> Words
+    requires many { length bytes.now ≡ 8 * len }
+    requires some { 1 ≤ len }
+    requires few { len ≤ 16 }
+    ensures { result ≡ words_in len bytes.now }
+{
+    let mut words = [0; MOST_WORDS];
+    let mut rest = bytes;
+    for i in 0..len {
+        let Some((word, behind)) = rest.split_first_chunk::<8>() else {
+            unreachable!();
+        };
+        words[i] = u64::from_le_bytes(*word);
+        rest = behind;
+    }
+    match Words::new(&words[..len]) {
+        Some(words) => words,
+        None => unreachable!(),
+    }
+}
+
+/// The event of a record of this width that has these first bytes, and these words behind them.
+pub(crate) fn event_behind(width: usize, front: &[u8; 16], behind: &[u8]) -> Event
+    requires some { 1 ≤ width }
+    requires few { width ≤ 16 }
+    requires front { IsFrontIn (Some width) front.now (Longer width (length behind.now)) }
+    ensures { HasBytes (Some width) result (front.now ++ behind.now) }
+{
+    let lane = front[1] as u64;
+    match front[0] {
+        18 => Event::Begins(lane, Call::Put(words_in(behind, width))),
+        19 => {
+            let (expected, words) = behind.split_at(8 * width);
+            Event::Begins(
+                lane,
+                Call::PutIf(words_in(expected, width), words_in(words, width)),
+            )
+        }
+        _ => Event::Returns(lane, Reply::Content(words_in(behind, width))),
+    }
 }

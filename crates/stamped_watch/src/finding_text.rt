@@ -53,6 +53,7 @@ impl fmt::Display for HeaderText {
             BadHeader::Form => write!(f, "form"),
             BadHeader::Layout => write!(f, "layout"),
             BadHeader::Limits => write!(f, "limits"),
+            BadHeader::Width => write!(f, "width"),
         }
     }
 }

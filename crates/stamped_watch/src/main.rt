@@ -15,9 +15,11 @@ mod misplaced;
 mod note;
 mod orders;
 mod possible;
+mod run_judge;
 mod serving;
 mod so_far;
 mod stream_judge;
+mod stuck_end;
 mod telling;
 mod witness;
 
@@ -85,6 +87,7 @@ impl Program for StampedWatch {
         match lack {
             Lack::BeganLate => "stamped_watch: no witness where a call began late",
             Lack::Withdrawn => "stamped_watch: no witness of a withdrawn call",
+            Lack::OfData => "stamped_watch: no witness of a stream with data yet",
             Lack::NotFound => "stamped_watch: no witness was found",
             Lack::Memory => "stamped_watch: no memory for the witness",
         }

@@ -11,6 +11,7 @@ use crate::finding::Finding;
 use crate::orders::Watching;
 use crate::possible::possible_text;
 use crate::stream_judge::StreamJudge;
+use crate::stuck_end::StuckEnd;
 use stamp_core::Reply;
 use stamp_watch::EndedCall;
 use std::alloc::{AllocError, Global};
@@ -84,8 +85,7 @@ fn stuck_note(alloc: Global, judge: &StreamJudge, number: u64) -> Result<String,
     ensures { IfOk result (λ text. (most ahead : ℕ) (fed : List ℕ) → KeepsFed most ahead fed judge.now
         → EndsInStream fed judge.now.judge (Stuck number) → IsStuckNote most ahead fed number (string_bytes text)) }
 {
-    let ended = judge.ended_at(number);
-    let replies = judge.possible_at(number, &ended)?;
+    let StuckEnd { ended, replies } = judge.stuck_at(number)?;
     stuck_text(alloc, number, &ended, &replies)
 }
 

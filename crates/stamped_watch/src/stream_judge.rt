@@ -1,37 +1,40 @@
 //! Judging a stream while its bytes come.
 //!
-//! Bytes are taken 16 by 16: the header, by which the judge of the events is made, and then event after event. Those
+//! The bytes of the header are taken, by which the judge of the run is made, and then those of event after event. Those
 //! of a header or an event that is not whole yet are kept.
 
 ghost use Rattle.std.specs.Prelude.{◌≡◌, ◌+◌, ◌^◌, ◌<◌, ◌++◌, ◌∷◌, [], ⊤, IfOk, IsSome, MatchOption, OnOk, List, None, Some, length, ℕ};
-ghost use Rattle.stamp_core.specs.Limits.{Bounds};
-ghost use Rattle.stamp_runs.specs.declared.event.Event.{Event};
-ghost use Rattle.stamp_watch.specs.LateJudge.{HasFoundNothingLater, IsLateJudge, IsLateJudgeOfSome};
-ghost use Rattle.stamped_watch.specs.EventBytes.{kind_of};
 ghost use Rattle.stamped_watch.specs.Finding.{IsFindingOf, IsSoFar};
-ghost use Rattle.stamped_watch.specs.declared.orders.Watching.{Watching};
-ghost use Rattle.stamped_watch.specs.declared.finding.Finding.TheVariants.{Stuck};
-ghost use Rattle.stamped_watch.specs.Possible.{AreToldOf, items_in};
+ghost use Rattle.stamped_watch.specs.Header.{IsShortHeader};
+ghost use Rattle.stamped_watch.specs.Note.{IsStuckEnd};
 ghost use Rattle.stamped_watch.specs.Progress.{IsSoFarOf};
-ghost use Rattle.stamped_watch.specs.StreamJudge.{EndsInStream, ended_in, HasTaken, IsFed, IsFedSome, KeepsCall, KeepsEndAt, KeepsFed, KeepsFedSome};
+ghost use Rattle.stamped_watch.specs.StreamJudge.{EndsInStream, HasTaken, IsFed, IsFedSome, KeepsCall, KeepsEndAt, KeepsFed, KeepsFedSome};
+ghost use Rattle.stamped_watch.specs.inner.StreamJudge.{ended_in};
 ghost use Rattle.stamped_watch.specs.Witness.{IsText};
-ghost use Rattle.stamped_watch.specs.inner.StreamJudge.{AreCounted, EndsInRunOf, HasTakenSome, IsFoundUnless, IsGivenOne, IsOneMore, KeepsPart, KeepsSoFar, KeepsStill};
+ghost use Rattle.stamped_watch.specs.declared.event_bytes.Front.TheVariants.{Longer};
+ghost use Rattle.stamped_watch.specs.declared.finding.Finding.TheVariants.{Stuck};
+ghost use Rattle.stamped_watch.specs.declared.orders.Watching.{Watching};
+ghost use Rattle.stamped_watch.specs.EventBytes.{IsWidth};
+ghost use Rattle.stamped_watch.specs.inner.StreamJudge.{AreCounted, HasTakenNone, HasTakenOne, HasTakenSome, HasTakenWidth, IsFrontFor, IsOpened, KeepsPart, TakesEvent, TakesNoEvent};
+ghost use Rattle.stamped_watch.specs.StreamJudge.{IsSmallEvent};
 
-use crate::event_bytes::event_in;
-use crate::finding::{Finding, broken_at, finding_of, is_explained};
-use crate::header::header_in;
-use crate::misplaced::why_misplaced;
+use crate::event_bytes::{BadEvent, Front, event_front};
+use crate::finding::Finding;
+use crate::header::{BadHeader, Header, front_in, width_in};
+use crate::run_judge::RunJudge;
 use crate::so_far::SoFar;
+use crate::stuck_end::StuckEnd;
 use crate::witness::{NoWitness, witness_text};
-use stamp_core::Reply;
-use stamp_watch::{EndedCall, Event, LateJudge, StreamEvent};
+use stamp_core::Limits;
+use stamp_watch::{EndedCall, SmallEvent, StreamEvent};
 use std::alloc::{AllocError, Global};
+use std::mem::replace;
 
 /// Judges a stream of a lock's events while its bytes come, in pieces of any length. It judges as a `LateJudge` does:
 /// an event waits as long as a call before it hasn't ended, unless that is open for long, and is looked at once it is
 /// known how each call ends that began before it.
-/// Once something is found of the stream it looks no further. It keeps few events, and fewer than 16 bytes. After an
-/// `Err` it is of no more use.
+/// Once something is found of the stream it looks no further. It keeps few events, each content that was told, and fewer
+/// bytes than the longest event has. After an `Err` it is of no more use.
 #[derive(Drop)]
 pub(crate) struct StreamJudge {
     alloc: Global,
@@ -39,60 +42,13 @@ pub(crate) struct StreamJudge {
     ahead: usize,
     /// The bytes of a header or an event that is not whole.
     part: Vec<u8>,
-    /// The judge of the events, once there is a header.
-    judge: Option<LateJudge>,
+    /// The judge of the run, once there is a header.
+    judge: Option<RunJudge>,
     /// So many calls began,
     begun: u64,
     /// and so many were withdrawn.
     withdrawn: u64,
     found: Option<Finding>,
-}
-
-/// Gives one more event to the judge: what is found then.
-fn given(judge: &mut LateJudge, event: &StreamEvent) -> Result<Option<Finding>, AllocError>
-    requires some { IsLateJudgeOfSome judge.old }
-    requires none { HasFoundNothingLater judge.old }
-    requires kind { IsSome (kind_of event.now) }
-    ensures found { IfOk result (λ found. (limits : Bounds) (most ahead : ℕ) (run : List Event)
-        → IsLateJudge limits most ahead run judge.old
-        → IsGivenOne limits most ahead run event.now judge.new found) }
-    ensures tells { IfOk result (λ found. MatchOption found ⊤ (KeepsCall (Some judge.new))) }
-    ensures there { IfOk result (λ found. (limits : Bounds) (most ahead : ℕ) (run : List Event)
-        → IsLateJudge limits most ahead run judge.old
-        → MatchOption found ⊤ (EndsInRunOf (run ++ event.now ∷ []) judge.new)) }
-    ensures kept { IfOk result (λ _. KeepsSoFar event.now judge.old judge.new) }
-{
-    if judge.is_full() {
-        return Ok(Some(Finding::Full));
-    }
-    let found = judge.push(event)?;
-    let Some(verdict) = found else {
-        return Ok(None);
-    };
-    match broken_at(verdict) {
-        Some(number) => Ok(Some(Finding::Misplaced(number, why_misplaced(event)))),
-        None => Ok(Some(finding_of(verdict))),
-    }
-}
-
-/// What is found where no more events come: this, if all of them are explained.
-fn found_unless(judge: &mut LateJudge, explained: Finding) -> Result<Finding, AllocError>
-    requires some { IsLateJudgeOfSome judge.old }
-    requires none { HasFoundNothingLater judge.old }
-    ensures found { IfOk result (λ finding. (limits : Bounds) (most ahead : ℕ) (run : List Event)
-        → IsLateJudge limits most ahead run judge.old
-        → IsFoundUnless limits most ahead run explained finding) }
-    ensures kept { IfOk result (λ _. KeepsStill judge.old judge.new) }
-    ensures tells { IfOk result (λ finding. KeepsCall (Some judge.new) explained → KeepsCall (Some judge.new) finding) }
-    ensures there { IfOk result (λ finding. (limits : Bounds) (most ahead : ℕ) (run : List Event)
-        → IsLateJudge limits most ahead run judge.old
-        → EndsInRunOf run judge.new explained → EndsInRunOf run judge.new finding) }
-{
-    let verdict = judge.finish()?;
-    if is_explained(verdict) {
-        return Ok(explained);
-    }
-    Ok(finding_of(verdict))
 }
 
 impl StreamJudge {
@@ -115,22 +71,68 @@ impl StreamJudge {
         }
     }
 
-    /// Takes the bytes of the header.
-    fn begin(&mut self, bytes: &[u8; 16]) -> Result<(), AllocError>
+    /// Makes the judge of the run by what the header says.
+    fn open(&mut self, header: Header) -> Result<(), AllocError>
+        requires width { IsWidth header.width }
+        ensures opened { OnOk result (IsOpened header self.old self.new) }
+    {
+        let judge = RunJudge::new(self.alloc, header, self.most, self.ahead)?;
+        self.judge = Some(judge);
+        Ok(())
+    }
+
+    /// Takes the rest of the header of a stream with data, of a lock with these limits.
+    fn begin_with_data<'a>(
+        &mut self,
+        limits: Limits,
+        bytes: &'a [u8],
+    ) -> Result<Option<&'a [u8]>, AllocError>
+        ensures { IfOk result (λ left. MatchOption left ((length bytes.now < 8) × (self.new ≡ self.old))
+            (λ rest. HasTakenWidth limits bytes.now rest.now self.old self.new)) }
+    {
+        let Some((words, behind)) = bytes.split_first_chunk::<8>() else {
+            return Ok(None);
+        };
+        let Some(width) = width_in(words) else {
+            self.found = Some(Finding::BadHeader(BadHeader::Width));
+            return Ok(Some(behind));
+        };
+        self.open(Header {
+            limits,
+            width: Some(width),
+        })?;
+        Ok(Some(behind))
+    }
+
+    /// Takes the header of which these are the first bytes, unless they end within it.
+    fn begin<'a>(
+        &mut self,
+        front: &[u8; 16],
+        behind: &'a [u8],
+    ) -> Result<Option<&'a [u8]>, AllocError>
         requires first { HasTakenSome self.old }
         requires none { self.old.found ≡ None }
         requires no_judge { self.old.judge ≡ None }
-        ensures taken { OnOk result (IsOneMore bytes.now self.old self.new) }
+        ensures taken { IfOk result (λ left. MatchOption left
+            (HasTakenNone (front.now ++ behind.now) self.old self.new)
+            (λ rest. HasTakenOne (front.now ++ behind.now) rest.now self.old self.new)) }
         ensures part { OnOk result (KeepsPart self.old self.new) }
     {
-        match header_in(bytes) {
-            Ok(limits) => {
-                let judge = LateJudge::new(self.alloc, limits, self.most, self.ahead)?;
-                self.judge = Some(judge);
+        let told = match front_in(front) {
+            Ok(told) => told,
+            Err(fault) => {
+                self.found = Some(Finding::BadHeader(fault));
+                return Ok(Some(behind));
             }
-            Err(fault) => self.found = Some(Finding::BadHeader(fault)),
+        };
+        if told.has_data {
+            return self.begin_with_data(told.limits, behind);
         }
-        Ok(())
+        self.open(Header {
+            limits: told.limits,
+            width: None,
+        })?;
+        Ok(Some(behind))
     }
 
     /// Counts a call that begins or is withdrawn.
@@ -139,39 +141,123 @@ impl StreamJudge {
         requires withdrawn { self.old.withdrawn + 1 < 2 ^ 64 }
         ensures { AreCounted event.now self.old self.new }
     {
-        match event.as_event() {
-            Event::Begins(_, _) => self.begun += 1,
-            Event::Returns(_, _) => {}
-            Event::Withdraws(_) => self.withdrawn += 1,
+        match event.small() {
+            SmallEvent::Begins(_, _) => self.begun += 1,
+            SmallEvent::Returns(_, _) => {}
+            SmallEvent::Withdraws(_) => self.withdrawn += 1,
         }
     }
 
-    /// Takes the next 16 bytes: those of the header, or of an event.
-    fn take(&mut self, bytes: &[u8; 16]) -> Result<(), AllocError>
+    /// Gives an event of the run to its judge.
+    fn give(&mut self, event: &StreamEvent) -> Result<(), AllocError>
         requires some { HasTakenSome self.old }
         requires none { self.old.found ≡ None }
-        ensures taken { OnOk result (IsOneMore bytes.now self.old self.new) }
+        requires judge { IsSome self.old.judge }
+        requires small { IsSmallEvent event.now }
+        ensures taken { OnOk result (TakesEvent event.now self.old self.new) }
         ensures part { OnOk result (KeepsPart self.old self.new) }
     {
-        let Some(judge) = &mut self.judge else {
-            return self.begin(bytes);
+        let Some(inner) = &mut self.judge else {
+            unreachable!();
         };
-        match event_in(bytes) {
-            Ok(event) => {
-                self.found = given(judge, &event)?;
-                if self.found.is_none() {
-                    self.count(&event);
-                }
-            }
-            Err(fault) => {
-                let bad = Finding::BadEvent(judge.count(), fault);
-                self.found = Some(found_unless(judge, bad)?);
-            }
+        self.found = inner.given(event)?;
+        if self.found.is_none() {
+            self.count(event);
         }
         Ok(())
     }
 
-    /// Takes bytes 16 by 16, until something is found, and keeps those that are left.
+    /// What is found where the next bytes are no event's.
+    fn refuse(&mut self, fault: BadEvent) -> Result<(), AllocError>
+        requires some { HasTakenSome self.old }
+        requires none { self.old.found ≡ None }
+        requires judge { IsSome self.old.judge }
+        ensures taken { OnOk result (TakesNoEvent fault self.old self.new) }
+        ensures part { OnOk result (KeepsPart self.old self.new) }
+    {
+        let Some(inner) = &mut self.judge else {
+            unreachable!();
+        };
+        let bad = Finding::BadEvent(inner.count(), fault);
+        self.found = Some(inner.found_unless(bad)?);
+        Ok(())
+    }
+
+    /// Takes an event with words behind its first bytes, unless the bytes end within those.
+    fn take_data<'a>(
+        &mut self,
+        front: &[u8; 16],
+        width: usize,
+        many: usize,
+        behind: &'a [u8],
+    ) -> Result<Option<&'a [u8]>, AllocError>
+        requires some { HasTakenSome self.old }
+        requires none { self.old.found ≡ None }
+        requires front { IsFrontFor self.old.judge front.now (Longer width many) }
+        ensures taken { IfOk result (λ left. MatchOption left
+            (HasTakenNone (front.now ++ behind.now) self.old self.new)
+            (λ rest. HasTakenOne (front.now ++ behind.now) rest.now self.old self.new)) }
+        ensures part { OnOk result (KeepsPart self.old self.new) }
+    {
+        let Some((words, rest)) = behind.split_at_checked(many) else {
+            return Ok(None);
+        };
+        let Some(inner) = &mut self.judge else {
+            unreachable!();
+        };
+        let event = inner.event(width, front, words)?;
+        self.give(&event)?;
+        Ok(Some(rest))
+    }
+
+    /// Takes the next event, unless the bytes end within it.
+    fn take_event<'a>(
+        &mut self,
+        front: &[u8; 16],
+        told: Front,
+        behind: &'a [u8],
+    ) -> Result<Option<&'a [u8]>, AllocError>
+        requires some { HasTakenSome self.old }
+        requires none { self.old.found ≡ None }
+        requires front { IsFrontFor self.old.judge front.now told }
+        ensures taken { IfOk result (λ left. MatchOption left
+            (HasTakenNone (front.now ++ behind.now) self.old self.new)
+            (λ rest. HasTakenOne (front.now ++ behind.now) rest.now self.old self.new)) }
+        ensures part { OnOk result (KeepsPart self.old self.new) }
+    {
+        match told {
+            Front::Whole(event) => {
+                self.give(&event)?;
+                Ok(Some(behind))
+            }
+            Front::Longer(width, many) => self.take_data(front, width, many, behind),
+        }
+    }
+
+    /// Takes the header or the next event of these bytes, unless they end within it: those behind it.
+    fn take<'a>(&mut self, bytes: &'a [u8]) -> Result<Option<&'a [u8]>, AllocError>
+        requires some { HasTakenSome self.old }
+        requires none { self.old.found ≡ None }
+        ensures taken { IfOk result (λ left. MatchOption left (HasTakenNone bytes.now self.old self.new)
+            (λ rest. HasTakenOne bytes.now rest.now self.old self.new)) }
+        ensures part { OnOk result (KeepsPart self.old self.new) }
+    {
+        let Some((front, behind)) = bytes.split_first_chunk::<16>() else {
+            return Ok(None);
+        };
+        let Some(inner) = &self.judge else {
+            return self.begin(front, behind);
+        };
+        match event_front(inner.width, front) {
+            Ok(told) => self.take_event(front, told, behind),
+            Err(fault) => {
+                self.refuse(fault)?;
+                Ok(Some(behind))
+            }
+        }
+    }
+
+    /// Takes bytes event by event, until something is found, and keeps those that are left.
     fn take_units(&mut self, bytes: &[u8]) -> Result<(), AllocError>
         requires some { HasTakenSome self.old }
         requires empty { self.old.part.items ≡ [] }
@@ -180,30 +266,24 @@ impl StreamJudge {
     {
         let mut rest = bytes;
         'units: while self.found.is_none() {
-            let Some((unit, behind)) = rest.split_first_chunk::<16>() else {
+            let Some(behind) = self.take(rest)? else {
                 self.part.extend_from_slice(rest)?;
                 return Ok(());
             };
-            self.take(unit)?;
             rest = behind;
         }
         Ok(())
     }
 
-    /// Takes the bytes that were kept, which are 16.
-    fn take_part(&mut self) -> Result<(), AllocError>
+    /// Takes the bytes that were kept, and these behind them.
+    fn take_with_part(&mut self, bytes: &[u8]) -> Result<(), AllocError>
         requires some { HasTakenSome self.old }
-        requires none { self.old.found ≡ None }
-        requires whole { length self.old.part.items ≡ 16 }
-        ensures taken { OnOk result (IsOneMore self.old.part.items self.old self.new) }
-        ensures empty { OnOk result (self.new.part.items ≡ []) }
+        ensures { OnOk result ((most ahead : ℕ) (taken : List ℕ) → HasTaken most ahead taken self.old
+            → IsFed most ahead (taken ++ self.old.part.items ++ bytes.now) self.new) }
     {
-        let unit = match self.part.first_chunk::<16>() {
-            Some(unit) => *unit,
-            None => unreachable!(),
-        };
-        self.part.clear();
-        self.take(&unit)
+        let mut whole = replace(&mut self.part, Vec::new(self.alloc));
+        whole.extend_from_slice(bytes)?;
+        self.take_units(&whole)
     }
 
     /// The next bytes of the stream: what is found of it, whatever comes later, if anything is.
@@ -219,14 +299,11 @@ impl StreamJudge {
         if self.found.is_some() {
             return Ok(self.found);
         }
-        let missing = 16 - self.part.len();
-        if bytes.len() < missing {
-            self.part.extend_from_slice(bytes)?;
-            return Ok(None);
+        if self.part.is_empty() {
+            self.take_units(bytes)?;
+            return Ok(self.found);
         }
-        self.part.extend_from_slice(&bytes[..missing])?;
-        self.take_part()?;
-        self.take_units(&bytes[missing..])?;
+        self.take_with_part(bytes)?;
         Ok(self.found)
     }
 
@@ -244,15 +321,15 @@ impl StreamJudge {
         if let Some(finding) = self.found {
             return Ok(finding);
         }
-        let Some(judge) = &mut self.judge else {
+        let Some(inner) = &mut self.judge else {
             return Ok(Finding::NoHeader);
         };
         if !self.part.is_empty() {
-            let number = judge.count();
-            return found_unless(judge, Finding::Cut(number));
+            let number = inner.count();
+            return inner.found_unless(Finding::Cut(number));
         }
         let calls = self.begun.saturating_sub(self.withdrawn);
-        found_unless(judge, Finding::Explained(calls))
+        inner.found_unless(Finding::Explained(calls))
     }
 
     /// How far the stream is judged, once there is a header.
@@ -260,9 +337,9 @@ impl StreamJudge {
         requires some { IsFedSome self.now }
         requires none { self.now.found ≡ None }
         ensures { (most ahead : ℕ) (fed : List ℕ) → IsFed most ahead fed self.now
-            → MatchOption result (length fed < 16) (λ so_far. IsSoFarOf ahead fed so_far) }
+            → MatchOption result (IsShortHeader fed) (λ so_far. IsSoFarOf ahead fed so_far) }
     {
-        let judge = self.judge.as_ref()?;
+        let judge = &self.judge.as_ref()?.judge;
         Some(SoFar {
             calls: self.begun.saturating_sub(self.withdrawn),
             explained: judge.explained(),
@@ -270,38 +347,38 @@ impl StreamJudge {
         })
     }
 
-    /// The call that the event with this number ends, at which the stream was found stuck.
-    pub(crate) fn ended_at(&self, number: u64) -> EndedCall
+    /// The call that the event with this number ends, at which the stream was found stuck, by the numbers of its
+    /// contents.
+    fn ended_by_numbers(&self, number: u64) -> EndedCall
         requires { KeepsEndAt self.now.judge number }
         ensures { ended_in self.now.judge number ≡ Some result }
     {
-        let Some(judge) = &self.judge else {
+        let Some(inner) = &self.judge else {
             unreachable!();
         };
-        match judge.ended_at(number) {
+        match inner.judge.ended_at(number) {
             Some(ended) => ended,
             None => unreachable!(),
         }
     }
 
-    /// Which replies the call could have had that ends at the event with this number, at which the stream was found
-    /// stuck. Nothing where the call is given stamps or was withdrawn, a call before began late, or with one of the
-    /// replies too many configurations are possible.
-    pub(crate) fn possible_at(
-        &self,
-        number: u64,
-        ended: &EndedCall,
-    ) -> Result<Option<Vec<Reply>>, AllocError>
+    /// The call that the event with this number ends, at which the stream was found stuck, and the replies that it could
+    /// have had.
+    pub(crate) fn stuck_at(&self, number: u64) -> Result<StuckEnd, AllocError>
         requires keeps { KeepsFedSome self.now }
         requires end { KeepsEndAt self.now.judge number }
-        requires ended { ended_in self.now.judge number ≡ Some ended.now }
-        ensures { IfOk result (λ told. (most ahead : ℕ) (fed : List ℕ) → KeepsFed most ahead fed self.now
-            → AreToldOf most ahead fed number ended.now (items_in told)) }
+        ensures { IfOk result (λ end. (most ahead : ℕ) (fed : List ℕ) → KeepsFed most ahead fed self.now
+            → EndsInStream fed self.now.judge (Stuck number) → IsStuckEnd most ahead fed number end) }
     {
-        match &self.judge {
-            Some(judge) => judge.possible_at(number, &ended.call),
-            None => unreachable!(),
-        }
+        let ended = self.ended_by_numbers(number);
+        let Some(inner) = &self.judge else {
+            unreachable!();
+        };
+        let replies = inner.judge.possible_at(number, &ended.call)?;
+        Ok(StuckEnd {
+            ended: inner.in_words(&ended),
+            replies,
+        })
     }
 
     /// The text of a witness that the stream is stuck at the event with this number, or why there is none. A search
@@ -312,12 +389,15 @@ impl StreamJudge {
         ensures { (asked : Watching) (fed : List ℕ) → asked.most ≡ most → KeepsFed asked.most asked.ahead fed self.now
             → EndsInStream fed self.now.judge (Stuck number) → IsText asked fed number result }
     {
-        let ended = self.ended_at(number);
-        let Some(judge) = &self.judge else {
+        let ended = self.ended_by_numbers(number);
+        let Some(inner) = &self.judge else {
             unreachable!();
         };
-        match judge.judge_up_to(number) {
-            Some(inner) => witness_text(self.alloc, inner, number, &ended, most),
+        if inner.width.is_some() {
+            return Err(NoWitness::OfData);
+        }
+        match inner.judge.judge_up_to(number) {
+            Some(judge) => witness_text(self.alloc, judge, number, &ended, most),
             None => Err(NoWitness::BeganLate),
         }
     }

@@ -6,6 +6,7 @@ ghost use Rattle.stamp_observed.specs.ObservedText.{observed_text};
 ghost use Rattle.stamp_watch.specs.Course.{KeepsEnd};
 ghost use Rattle.stamp_watch.specs.EndedCall.{ended_from};
 ghost use Rattle.stamp_watch.specs.Possible.{KeepsSome};
+ghost use Rattle.stamp_watch.specs.Start.{starts_of};
 ghost use Rattle.stamped_watch.specs.Calls.{ended_call, return};
 ghost use Rattle.stamped_watch.specs.Witness.{IsCallOf, IsTextHere, lack_of};
 ghost use Rattle.stamped_watch.specs.inner.Witness.{IsSearchedFrom, IsSearchedHere};
@@ -31,6 +32,8 @@ pub enum NoWitness {
     BeganLate,
     /// The call that ends there was withdrawn.
     Withdrawn,
+    /// The stream has data, for which none is made yet.
+    OfData,
     /// None was found, from each of these starts.
     NotFound(Vec<Sought>),
     /// Memory for it was refused.
@@ -70,6 +73,7 @@ pub(crate) fn lack_of(shown: &Result<Shown, NoWitness>) -> Option<Lack>
         Ok(_) => None,
         Err(NoWitness::BeganLate) => Some(Lack::BeganLate),
         Err(NoWitness::Withdrawn) => Some(Lack::Withdrawn),
+        Err(NoWitness::OfData) => Some(Lack::OfData),
         Err(NoWitness::NotFound(_)) => Some(Lack::NotFound),
         Err(NoWitness::Memory) => Some(Lack::Memory),
     }
@@ -100,7 +104,7 @@ fn witness_from(
     most: u64,
 ) -> Result<SearchEnd, AllocError>
     requires keeps { KeepsSome judge.now }
-    requires start { start < length judge.now.course.base.positions.items }
+    requires start { start < starts_of judge.now.course.base }
     requires end { KeepsEnd judge.now.course number }
     requires reply { ended.now.reply ≢ None }
     ensures { IfOk result (λ end. IsSearchedFrom judge.now number ended.now most start end) }

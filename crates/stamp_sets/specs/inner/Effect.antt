@@ -6,53 +6,55 @@ use Rattle.stamp_runs.specs.Position.{Overwrites, OverwritesNever}
 use Rattle.stamp_runs.specs.Run.{AreAlike}
 use Rattle.stamp_sets.specs.declared.small_call.SmallCall.{SmallCall}
 use Rattle.stamp_sets.specs.declared.small_call.SmallReply.{SmallReply}
-use Rattle.stamp_sets.specs.declared.ending.SmallEnding.TheVariants.{Never, Returns}
+use Rattle.stamp_sets.specs.declared.ending.Ending.TheVariants.{Never, Returns}
 use Rattle.stamp_sets.specs.declared.open_call.OpenCall.{OpenCall}
 use Rattle.stamp_sets.specs.declared.position.Position.{Position}
 use Rattle.stamp_sets.specs.Judged.{Judged}
+use Rattle.stamp_sets.specs.SmallCall.{call_of, reply_of}
 use Rattle.stamp_sets.specs.Kept.{IsFreeCall}
 use Rattle.stamp_sets.specs.Told.{MayGet, open_at}
 use Rattle.stamp_sets.specs.Lanes.{SetsBit}
+use Rattle.stamp_sets.specs.Unchanging.{reads_only}
 
 -- in this state the call may take effect so, and leaves a state of this number
 pub record TakesEffectTo {S : Type 0} (o : Judged S) (begun : OpenCall) (s : S) (number : ℕ) : Type 0 where
   pub reply : Reply
   pub next : S
-  pub may : MayGet o.reply begun.ends reply
-  pub step : o.step s (o.call begun.asks) reply next
+  pub may : MayGet begun.ends reply
+  pub step : o.step s (call_of begun.asks) reply next
   pub holds : o.holds number next
 
 -- the number tells what the call leaves, in whatever state of the first number it takes effect
 pub record Leaves {S : Type 0} (o : Judged S) (number : ℕ) (begun : OpenCall) (then : ℕ) : Type 0 where
   pub some : (s : S) → o.holds number s → TakesEffectTo o begun s then
-  pub each : (s next : S) (reply : Reply) → o.holds number s → MayGet o.reply begun.ends reply →
-      o.step s (o.call begun.asks) reply next → o.holds then next
+  pub each : (s next : S) (reply : Reply) → o.holds number s → MayGet begun.ends reply →
+      o.step s (call_of begun.asks) reply next → o.holds then next
 
 -- it overwrites, with a reply that it may get, and leaves a state of this number
 pub record IsOverwriting {S : Type 0} (o : Judged S) (begun : OpenCall) (number : ℕ) : Type 0 where
   pub reply : Reply
   pub next : S
-  pub may : MayGet o.reply begun.ends reply
-  pub overwrites : Overwrites o.step (o.call begun.asks) reply next
+  pub may : MayGet begun.ends reply
+  pub overwrites : Overwrites o.step (call_of begun.asks) reply next
   pub holds : o.holds number next
 
 -- what was found of an open call: the number of the state that it leaves wherever it takes effect; or it does not
 -- overwrite
 abbrev pub IsOverwritingTo : {S : Type 0} → Judged S → OpenCall → Option ℕ → Type 0
-IsOverwritingTo {S} o begun None = (reply : Reply) (t : S) → MayGet o.reply begun.ends reply →
-    ¬ Overwrites o.step (o.call begun.asks) reply t
+IsOverwritingTo {S} o begun None = (reply : Reply) (t : S) → MayGet begun.ends reply →
+    ¬ Overwrites o.step (call_of begun.asks) reply t
 IsOverwritingTo o begun (Some number) = IsOverwriting o begun number
 
 -- what was found of a call in a state: the number of the one that it leaves; or it gets no reply that it may get, but
 -- one by which it would change nothing and never end, and does not overwrite
 abbrev pub IsEffect : {S : Type 0} → Judged S → ℕ → OpenCall → Option ℕ → Type 0
-IsEffect {S} o number begun None = (s next : S) (reply : Reply) → o.holds number s → MayGet o.reply begun.ends reply →
-    o.step s (o.call begun.asks) reply next → (begun.ends ≡ Never) × (next ≡ s) × (o.overwrites begun ≡ None)
+IsEffect {S} o number begun None = (s next : S) (reply : Reply) → o.holds number s → MayGet begun.ends reply →
+    o.step s (call_of begun.asks) reply next → (begun.ends ≡ Never) × (next ≡ s) × (o.overwrites begun ≡ None)
 IsEffect {S} o number begun (Some then) = Leaves o number begun then
 
 -- the call changes nothing where it has this reply
 abbrev pub ChangesNothing : {S : Type 0} → Judged S → SmallCall → SmallReply → Type 0
-ChangesNothing {S} o call reply = (s next : S) → o.step s (o.call call) (o.reply reply) next → next ≡ s
+ChangesNothing {S} o call reply = (s next : S) → o.step s (call_of call) (reply_of reply) next → next ≡ s
 
 -- the reply that is told of the call is one by which it changes nothing, and it overwrites in no case
 pub record IsUnchanging {S : Type 0} (o : Judged S) (begun : OpenCall) : Type 0 where
@@ -60,7 +62,7 @@ pub record IsUnchanging {S : Type 0} (o : Judged S) (begun : OpenCall) : Type 0 
   pub place : ℕ
   pub ends : begun.ends ≡ Returns told place
   pub unchanging : ChangesNothing o begun.asks told
-  pub never : OverwritesNever o.step (o.call begun.asks)
+  pub never : OverwritesNever o.step (call_of begun.asks)
 
 -- the lane's call takes effect, from the one position to the other
 pub record Takes {S : Type 0} (o : Judged S) (table : List (Option OpenCall)) (lane : ℕ) (p q : Position) : Type 0 where
@@ -90,14 +92,14 @@ pub data Settles {S : Type 0} (o : Judged S) (table : List (Option OpenCall)) (L
 pub record SettlesOne {S : Type 0} (o : Judged S) (begun : OpenCall) (lane : ℕ) (p q : Position) : Type 0 where
   pub settles : (table : List (Option OpenCall)) → open_at table lane ≡ Some begun →
       Settles o table (λ l. l ≡ lane) p q
-  pub whole : o.reads begun ≡ true → (bit_at q.in_effect lane ≡ 1) ⊎ IsEffect o p.state begun None
+  pub whole : reads_only begun ≡ true → (bit_at q.in_effect lane ≡ 1) ⊎ IsEffect o p.state begun None
 
 -- so do the calls of all of these lanes
 pub record AreSettled {S : Type 0} (o : Judged S) (table : List (Option OpenCall)) (lanes : ℕ) (p q : Position) :
     Type 0 where
   pub settles : Settles o table (λ l. bit_at lanes l ≡ 1) p q
   pub whole : (lane : ℕ) (begun : OpenCall) → bit_at lanes lane ≡ 1 → open_at table lane ≡ Some begun →
-      o.reads begun ≡ true → (bit_at q.in_effect lane ≡ 1) ⊎ IsEffect o p.state begun None
+      reads_only begun ≡ true → (bit_at q.in_effect lane ≡ 1) ⊎ IsEffect o p.state begun None
 
 -- an open call is not in effect, is not awaited, and may be free
 pub record IsFreed {S : Type 0} (o : Judged S) (table : List (Option OpenCall)) (awaited in_effect lane : ℕ) : Type 0
@@ -151,7 +153,7 @@ pub record IsAhead {S : Type 0} (o : Judged S) (first other : OpenCall) : Type 0
   pub other_is : other.ends ≡ Returns answer later
   pub sooner : place < later
   pub same : reply ≡ answer
-  pub alike : AreAlike o.step (o.call first.asks) (o.call other.asks)
+  pub alike : AreAlike o.step (call_of first.asks) (call_of other.asks)
 
 -- two calls are one call, and neither ends
 pub record AreEndless (first other : OpenCall) : Type 0 where
@@ -170,7 +172,7 @@ pub record GivesWay {S : Type 0} (o : Judged S) (table : List (Option OpenCall))
   pub first : OpenCall
   pub is_first : open_at table first_lane ≡ Some first
   pub free : bit_at in_effect first_lane ≡ 0
-  pub changes : o.reads first ≡ false
+  pub changes : reads_only first ≡ false
   pub goes : GoesBefore o first_lane lane first begun
 
 -- so it is in one of these lanes
@@ -183,7 +185,7 @@ pub record GivesWayAmong {S : Type 0} (o : Judged S) (table : List (Option OpenC
 -- told to return, and is not awaited; or it ends, and gets no reply there that it may get
 abbrev pub IsPassedOver : {S : Type 0} → Judged S → ℕ → ℕ → OpenCall → ℕ → Type 0
 IsPassedOver o awaited lane begun number = ((left : ℕ) × (o.overwrites begun ≡ Some left)) ⊎
-    (((o.reads begun ≡ true) × (lane ≢ awaited)) ⊎ ((begun.ends ≢ Never) × IsEffect o number begun None))
+    (((reads_only begun ≡ true) × (lane ≢ awaited)) ⊎ ((begun.ends ≢ Never) × IsEffect o number begun None))
 
 -- so does each call that is not in effect: a call that overwrites and leaves that state is as good as hidden
 pub record IsUnseen {S : Type 0} (o : Judged S) (table : List (Option OpenCall)) (awaited in_effect number : ℕ) :

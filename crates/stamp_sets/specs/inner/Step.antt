@@ -1,9 +1,7 @@
--- One event on, by the parts of a watch.
-use Rattle.std.specs.Prelude.{ℕ, ◌≡◌, ◌≢◌, ◌<◌, List, [], length, slice_index_or}
+-- One event on, by the parts of a half.
+use Rattle.std.specs.Prelude.{ℕ, ◌≡◌, ◌<◌, List, length, slice_index_or}
 use Rattle.stamp_sets.specs.declared.open_call.OpenCall.{OpenCall}
 use Rattle.stamp_sets.specs.declared.position.Position.{Position}
-use Rattle.stamp_sets.specs.declared.progress.Progress.{Progress}
-use Rattle.stamp_sets.specs.declared.progress.Progress.TheVariants.{Going, Dead, TooMany, Refused}
 use Rattle.stamp_sets.specs.Judged.{Judged}
 use Rattle.stamp_sets.specs.Lanes.{SetsBit}
 use Rattle.stamp_sets.specs.inner.Effect.{SettlesOne}
@@ -27,10 +25,3 @@ pub record AreBegun {S : Type 0} (o : Judged S) (begun : OpenCall) (lane : ℕ) 
   pub many : length new ≡ length old
   pub each : (k : ℕ) (d : Position) → k < length old →
       BeginsIn o begun lane (slice_index_or old k d) (slice_index_or new k d)
-
--- the answer to an event that was taken
-abbrev pub IsAnswer : List Position → Progress → Type 0
-IsAnswer kept Going = kept ≢ []
-IsAnswer kept Dead = kept ≡ []
-IsAnswer kept TooMany = ⊥
-IsAnswer kept Refused = ⊥

@@ -10,7 +10,7 @@ use Rattle.stamp_watch.specs.Delay.{AreLate, AreNear, IsDelayed, IsHandedOn, IsS
 use Rattle.stamp_watch.specs.Issued.{LosesNothing}
 use Rattle.stamp_watch.specs.Judge.{IsJudge}
 use Rattle.stamp_watch.specs.Possible.{KeepsBase}
-use Rattle.stamp_watch.specs.Verdict.{AreOfLock}
+use Rattle.stamp_watch.specs.Verdict.{AreOfLanes}
 use Rattle.stamp_watch.specs.Waiting.{IsCounted}
 use Rattle.stamp_watch.specs.Ahead.{IsSpared}
 use Rattle.stamp_watch.specs.declared.delay.Delay.{Delay}
@@ -51,7 +51,7 @@ pub record IsReady (delay : Delay) : Type 0 where
 -- this event may come next
 pub record IsReadyFor (e : Event) (delay : Delay) : Type 0 where
   pub ready : IsReady delay
-  pub whole : AreOfLock (ready.run ++ e ∷ [])
+  pub whole : AreOfLanes (ready.run ++ e ∷ [])
 
 -- the event at this place is of the lane
 abbrev pub IsOfLaneAt : List Event → ℕ → ℕ → Type 0
@@ -149,5 +149,5 @@ IsLateRest limits run most ahead (Late k) = (later : List Event) → IsOver run 
 
 -- what is found of a run whose next event may not come there, whatever comes later
 abbrev pub IsLateBreak : Bounds → List Event → ℕ → ℕ → LateVerdict → Type 0
-IsLateBreak limits run most ahead finding = (e : Event) → ¬ AreOfLock (run ++ e ∷ []) →
+IsLateBreak limits run most ahead finding = (e : Event) → ¬ AreOfLanes (run ++ e ∷ []) →
     IsLateFound limits (run ++ e ∷ []) most ahead finding

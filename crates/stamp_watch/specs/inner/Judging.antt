@@ -3,10 +3,10 @@ use Rattle.std.specs.Prelude.{ℕ, ◌≡◌, ◌≢◌, ◌+◌, ◌<◌, ◌�
 use Rattle.std.specs.Prelude.{Option, Some, None, IsTrue}
 use Rattle.std.specs.Int.{bit_at}
 use Rattle.stamp_core.specs.Limits.{Bounds}
-use Rattle.stamp_core.specs.Call.{is_lock_call}
 use Rattle.stamp_runs.specs.declared.event.Event.{Event}
 use Rattle.stamp_runs.specs.declared.event.Event.TheVariants as event
-use Rattle.stamp_runs.specs.LockRun.{AreExplained}
+use Rattle.stamp_runs.specs.BothRun.{AreExplained}
+use Rattle.stamp_runs.specs.OneWord.{is_small_call, is_small_reply}
 use Rattle.stamp_sets.specs.declared.ending.Ending.{Ending}
 use Rattle.stamp_watch.specs.declared.judge.Outcome.{Outcome}
 use Rattle.stamp_watch.specs.declared.judge.Outcome.TheVariants.{Explained, Unexplained, TooMany}
@@ -16,9 +16,9 @@ use Rattle.stamp_watch.specs.declared.verdict.Verdict.{Verdict}
 use Rattle.stamp_watch.specs.declared.verdict.Verdict.TheVariants as verdict
 use Rattle.stamp_sets.specs.declared.watch.Watch.{Watch}
 use Rattle.stamp_watch.specs.AsObserved.{ending_of}
-use Rattle.stamp_watch.specs.inner.Foretold.{ends_as}
+use Rattle.stamp_watch.specs.Foretold.{told_as}
 use Rattle.stamp_watch.specs.Judging.{IsJudging}
-use Rattle.stamp_watch.specs.Verdict.{AreTooMany, IsInFormUpTo, is_lock_reply}
+use Rattle.stamp_watch.specs.Verdict.{AreTooMany, IsInFormUpTo}
 use Rattle.stamp_sets.specs.Lanes.{SetsBit}
 
 abbrev pub IsFreeLane : ℕ → ℕ → Type 0
@@ -27,10 +27,10 @@ IsFreeLane busy lane = (lane < 64) × (bit_at busy lane ≢ 1)
 abbrev pub IsTakenLane : ℕ → ℕ → Type 0
 IsTakenLane busy lane = (lane < 64) × (bit_at busy lane ≡ 1)
 
--- the event is one of the lock that may come where the lanes of this number have an open call
+-- the event is one that may come where the lanes of this number have an open call
 abbrev pub MayComeIn : ℕ → Event → Type 0
-MayComeIn busy (event.Begins lane call) = IsFreeLane busy lane × IsTrue (is_lock_call call)
-MayComeIn busy (event.Returns lane reply) = IsTakenLane busy lane × IsTrue (is_lock_reply reply)
+MayComeIn busy (event.Begins lane call) = IsFreeLane busy lane × IsTrue (is_small_call call)
+MayComeIn busy (event.Returns lane reply) = IsTakenLane busy lane × IsTrue (is_small_reply reply)
 MayComeIn busy (event.Withdraws lane) = IsTakenLane busy lane
 
 -- the lanes that have one then
@@ -51,7 +51,7 @@ pub record AreTaken (events taken : List Event) : Type 0 where
 
 -- the event with this number ends the call of the lane so; or it does not, and what comes then tells
 abbrev pub IsEndBy : Event → ℕ → ℕ → Option Ending → Type 0
-IsEndBy e lane n (Some ends) = (events : List Event) → ending_of lane n (e ∷ events) ≡ ends_as ends
+IsEndBy e lane n (Some ends) = (events : List Event) → ending_of lane n (e ∷ events) ≡ told_as ends
 IsEndBy e lane n None = (events : List Event) → ending_of lane n (e ∷ events) ≡ ending_of lane (n + 1) events
 
 -- behind some events a watch judges these, of which the first has this number
@@ -62,7 +62,7 @@ pub record IsJudgingOn (n : ℕ) (events : List Event) (watch : Watch) : Type 0 
 
 -- how the call that begins by this event ends among those that come, the first of which has this number
 abbrev pub IsEndTold : Event → ℕ → List Event → Ending → Type 0
-IsEndTold (event.Begins lane call) n ahead ends = ends_as ends ≡ ending_of lane n ahead
+IsEndTold (event.Begins lane call) n ahead ends = told_as ends ≡ ending_of lane n ahead
 IsEndTold (event.Returns lane reply) n ahead ends = Unit {0}
 IsEndTold (event.Withdraws lane) n ahead ends = Unit {0}
 

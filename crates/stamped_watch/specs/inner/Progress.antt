@@ -43,4 +43,4 @@ pub record IsBehindHeader (judge : StreamJudge) : Type 0 where
   pub fed : List ℕ
   pub is : IsFed most ahead fed judge
   pub none : judge.found ≡ None
-  pub many : 16 ≤ length fed
+  pub many : 24 ≤ length fed

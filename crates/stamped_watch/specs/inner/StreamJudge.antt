@@ -1,89 +1,52 @@
--- How a stream's bytes are taken, 16 by 16.
-use Rattle.std.specs.Prelude.{ℕ, ◌≡◌, ◌+◌, ◌^◌, ◌≤◌, ◌⊎◌, ◌++◌, List, [], ◌∷◌, length}
-use Rattle.std.specs.Prelude.{Option, Some, None}
+-- How a stream's bytes are taken, event by event.
+use Rattle.std.specs.Prelude.{ℕ, ◌≡◌, ◌+◌, ◌^◌, ◌≤◌, ◌⊎◌, ◌++◌, true, List, [], ◌∷◌, length}
+use Rattle.std.specs.Prelude.{Option, Some, None, IfSome, option_map}
+use Rattle.stamp_core.specs.Content.{zeros}
 use Rattle.stamp_core.specs.Limits.{Bounds}
 use Rattle.stamp_runs.specs.declared.event.Event.{Event}
 use Rattle.stamp_runs.specs.declared.event.Event.TheVariants.{Begins, Returns, Withdraws}
-use Rattle.stamp_runs.specs.LockRun.{AreExplained}
+use Rattle.stamp_runs.specs.BothRun.{AreExplained}
+use Rattle.stamp_runs.specs.Names.{call_by, reply_by}
+use Rattle.stamp_runs.specs.OneWord.{is_small_call, is_small_reply}
 use Rattle.stamp_watch.specs.declared.ended_call.EndedCall.{EndedCall}
 use Rattle.stamp_watch.specs.declared.late.LateJudge.{LateJudge}
 use Rattle.stamp_watch.specs.declared.late_verdict.LateVerdict.{LateVerdict}
 use Rattle.stamp_watch.specs.EndedCall.{IsEndedAt}
 use Rattle.stamp_watch.specs.Late.{IsLateFound, IsLateVerdict}
 use Rattle.stamp_watch.specs.LateJudge.{HasFoundNothingLater, IsLateJudge}
+use Rattle.stamp_watch.specs.Names.{EachOfCall, EachOfReply, IsEventBy, IsGrown, IsNamed, StaysWide, name_in}
 use Rattle.stamp_watch.specs.PossibleLate.{KeepsLater}
-use Rattle.stamp_watch.specs.Verdict.{AreOfLock}
+use Rattle.stamp_watch.specs.Verdict.{AreOfLanes}
+use Rattle.stamped_watch.specs.declared.event_bytes.BadEvent.{BadEvent}
+use Rattle.stamped_watch.specs.declared.event_bytes.Front.{Front}
 use Rattle.stamped_watch.specs.declared.finding.Finding.{Finding}
 use Rattle.stamped_watch.specs.declared.finding.Finding.TheVariants as found
+use Rattle.stamped_watch.specs.declared.header.BadHeader.TheVariants.{Width}
+use Rattle.stamped_watch.specs.declared.header.Header.{Header}
 use Rattle.stamped_watch.specs.declared.misplaced.Misplaced.{Misplaced}
+use Rattle.stamped_watch.specs.declared.run_judge.RunJudge.{RunJudge}
 use Rattle.stamped_watch.specs.declared.stream_judge.StreamJudge.{StreamJudge}
+use Rattle.stamped_watch.specs.EventBytes.{HasBytes, IsNoEvent}
 use Rattle.stamped_watch.specs.Finding.{IsMisplaced, verdict_of}
-use Rattle.stamped_watch.specs.StreamJudge.{HasTaken, ended_in}
+use Rattle.stamped_watch.specs.Header.{HasWidth}
+use Rattle.stamped_watch.specs.Stream.{words_of_record}
+use Rattle.stamped_watch.specs.EventBytes.{IsFrontIn}
+use Rattle.stamped_watch.specs.StreamJudge.{HasTaken, IsPart, ended_of}
+use Rattle.std.specs.Prelude.{ℕ, ◌≡◌, ◌++◌, List, [], Option, Some, None, MatchOption, ⊤}
+use Rattle.std.specs.List.{count_by}
+use Rattle.stamp_watch.specs.Course.{KeepsEnd}
+use Rattle.stamp_watch.specs.EndedCall.{IsEndedAt, ended_from}
+use Rattle.stamped_watch.specs.declared.finding.Finding.TheVariants.{Stuck}
+use Rattle.stamped_watch.specs.Finding.{IsFoundOf, is_beginning, is_withdrawal}
+use Rattle.stamped_watch.specs.Header.{IsShortHeader}
+use Rattle.stamped_watch.specs.Possible.{KeepsOf}
+use Rattle.stamped_watch.specs.Stream.{IsPartOfEvent, IsRunBy}
+use Rattle.stamped_watch.specs.StreamJudge.{ended_of}
+use Rattle.stamped_watch.specs.StreamJudge.{IsNewRunJudge}
 
--- a verdict on this run is found, which holds whatever comes later
-pub record IsFoundSo (limits : Bounds) (run : List Event) (most ahead : ℕ) (finding : Finding) : Type 0 where
-  pub verdict : LateVerdict
-  pub is : verdict_of finding ≡ Some verdict
-  pub holds : IsLateFound limits run most ahead verdict
-
--- a verdict is found on this run as it ends here
-pub record IsVerdictHere (limits : Bounds) (run : List Event) (most ahead : ℕ) (finding : Finding) : Type 0 where
-  pub verdict : LateVerdict
-  pub is : verdict_of finding ≡ Some verdict
-  pub holds : IsLateVerdict limits run most ahead verdict
-
--- the run is explained, and the event with this number may not come behind it
-pub record IsMisplacedAt (limits : Bounds) (run : List Event) (e : Event) (k : ℕ) (why : Misplaced) : Type 0 where
-  pub place : k ≡ length run
-  pub whole : AreOfLock run
-  pub explained : AreExplained limits run
-  pub misplaced : IsMisplaced run e why
-
--- what is found of a run that goes on with this event
-abbrev pub IsFoundWith : Bounds → ℕ → ℕ → List Event → Event → Finding → Type 0
-IsFoundWith limits most ahead run e found.Full = 2 ^ 64 ≤ length run + 1
-IsFoundWith limits most ahead run e (found.Misplaced k why) = IsMisplacedAt limits run e k why
-IsFoundWith limits most ahead run e finding = IsFoundSo limits (run ++ e ∷ []) most ahead finding
-
--- nothing was found, and the judge was given the event
-pub record IsGoingOn (limits : Bounds) (most ahead : ℕ) (run : List Event) (judge : LateJudge) : Type 0 where
-  pub judge_of : IsLateJudge limits most ahead run judge
-  pub none : HasFoundNothingLater judge
-
--- what comes of the event
-abbrev pub IsGivenOne : Bounds → ℕ → ℕ → List Event → Event → LateJudge → Option Finding → Type 0
-IsGivenOne limits most ahead run e judge None = IsGoingOn limits most ahead (run ++ e ∷ []) judge
-IsGivenOne limits most ahead run e judge (Some finding) = IsFoundWith limits most ahead run e finding
-
--- what the judge keeps is of the run, and for it as many configurations are too many, and calls begin later, as before
-pub record KeepsRun (limits : Bounds) (run : List Event) (old new : LateJudge) : Type 0 where
-  pub keeps : KeepsLater limits run new
-  pub most_is : new.delay.judge.most ≡ old.delay.judge.most
-  pub window : new.delay.ahead ≡ old.delay.ahead
-
--- so it is of the run, or of the run with the event
-abbrev pub KeepsSoFar : Event → LateJudge → LateJudge → Type 0
-KeepsSoFar e old new = (limits : Bounds) (most ahead : ℕ) (run : List Event) → IsLateJudge limits most ahead run old →
-    KeepsRun limits run old new ⊎ KeepsRun limits (run ++ e ∷ []) old new
-
--- it keeps what is of the run
-abbrev pub KeepsStill : LateJudge → LateJudge → Type 0
-KeepsStill old new = (limits : Bounds) (most ahead : ℕ) (run : List Event) → IsLateJudge limits most ahead run old →
-    KeepsRun limits run old new
-
--- the call that is kept as the one which ends where the run is stuck ends there in the run
-abbrev pub EndsInRunOf : List Event → LateJudge → Finding → Type 0
-EndsInRunOf run inner finding = (k : ℕ) → finding ≡ found.Stuck k → (ended : EndedCall) →
-    ended_in (Some inner) k ≡ Some ended → IsEndedAt run k ended
-
--- the run is explained, and this is found; or a verdict is
-pub record IsExplainedRun (limits : Bounds) (run : List Event) : Type 0 where
-  pub whole : AreOfLock run
-  pub explained : AreExplained limits run
-
-abbrev pub IsFoundUnless : Bounds → ℕ → ℕ → List Event → Finding → Finding → Type 0
-IsFoundUnless limits most ahead run explained finding =
-    (IsExplainedRun limits run × (finding ≡ explained)) ⊎ IsVerdictHere limits run most ahead finding
+abbrev pub ended_in : Option RunJudge → ℕ → Option EndedCall
+ended_in None number = None
+ended_in (Some inner) number = ended_of inner.judge number
 
 -- a judge has taken some bytes
 pub record HasTakenSome (judge : StreamJudge) : Type 0 where
@@ -105,6 +68,17 @@ pub record HasTakenFront (bytes rest : List ℕ) (old new : StreamJudge) : Type 
   pub some : HasTakenSome new
   pub empty : new.part.items ≡ []
 
+-- it has taken the bytes of a header or an event, and these are left; or they end within it, and nothing has changed
+pub record HasTakenOne (bytes rest : List ℕ) (old new : StreamJudge) : Type 0 where
+  pub unit : List ℕ
+  pub some : 1 ≤ length unit
+  pub parts : bytes ≡ unit ++ rest
+  pub more : IsOneMore unit old new
+
+pub record HasTakenNone (bytes : List ℕ) (old new : StreamJudge) : Type 0 where
+  pub is_part : IsPart old.judge bytes
+  pub same : new ≡ old
+
 -- the bytes that it keeps are the same
 abbrev pub KeepsPart : StreamJudge → StreamJudge → Type 0
 KeepsPart old new = new.part ≡ old.part
@@ -120,3 +94,34 @@ abbrev pub AreCounted : Event → StreamJudge → StreamJudge → Type 0
 AreCounted (Begins lane call) old new = Counts 1 0 old new
 AreCounted (Returns lane reply) old new = Counts 0 0 old new
 AreCounted (Withdraws lane) old new = Counts 0 1 old new
+
+-- the judge of the run was made by this header
+pub record IsOpened (header : Header) (old new : StreamJudge) : Type 0 where
+  pub inner : RunJudge
+  pub is : IsNewRunJudge header old.most old.ahead inner
+  pub new_is : new ≡ record old { judge = Some inner }
+
+-- the last eight bytes of a header are taken: they say how many words the record has, or not
+pub record HasTakenWidth (limits : Bounds) (bytes rest : List ℕ) (old new : StreamJudge) : Type 0 where
+  pub unit : List ℕ
+  pub many : length unit ≡ 8
+  pub parts : bytes ≡ unit ++ rest
+  pub then_is : ((width : ℕ) × HasWidth width unit × IsOpened (record { limits = limits; width = Some width }) old
+      new) ⊎
+      (((width : ℕ) → ¬ HasWidth width unit) × (new ≡ record old { found = Some (found.BadHeader Width) }))
+
+-- the bytes of an event are taken once this one, which is the same by the numbers of its contents, was given to the
+-- judge
+abbrev pub TakesEvent : Event → StreamJudge → StreamJudge → Type 0
+TakesEvent small old new = (inner : RunJudge) (e : Event) (bytes : List ℕ) → old.judge ≡ Some inner →
+    HasBytes inner.width e bytes → IsEventBy inner.names e small → IsOneMore bytes old new
+
+-- so are 16 that are no event's first ones
+abbrev pub TakesNoEvent : BadEvent → StreamJudge → StreamJudge → Type 0
+TakesNoEvent fault old new = (inner : RunJudge) (bytes : List ℕ) → old.judge ≡ Some inner → length bytes ≡ 16 →
+    IsNoEvent inner.width fault bytes → IsOneMore bytes old new
+
+-- the bytes are the first ones of events of the stream
+abbrev pub IsFrontFor : Option RunJudge → List ℕ → Front → Type 0
+IsFrontFor None bytes told = ⊥
+IsFrontFor (Some inner) bytes told = IsFrontIn inner.width bytes told

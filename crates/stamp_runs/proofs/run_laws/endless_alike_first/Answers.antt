@@ -1,3 +1,4 @@
+use Rattle.stamp_runs.specs.BothRun.{Both}
 use Rattle.stamp_runs.specs.Object.{LockStep, RecordStep}
 use Rattle.stamp_runs.proofs.Laws.{endless_alike_first}
 use Rattle.stamp_runs.proofs.run_laws.endless_alike_first.Goals as goal
@@ -7,3 +8,6 @@ returns-clause-of_lock c limits = endless_alike_first (LockStep limits)
 
 pub returns-clause-of_record : goal.returns-clause-of_record
 returns-clause-of_record c = endless_alike_first RecordStep
+
+pub returns-clause-of_both : goal.returns-clause-of_both
+returns-clause-of_both c limits = endless_alike_first (Both limits)

@@ -1,4 +1,4 @@
-use Rattle.stamp_sets.specs.inner.Objects.{judged}
+use Rattle.stamp_sets.specs.Judged.{judged}
 use Rattle.std.proofs.Common.{ℕ, ◌≡◌}
 use Rattle.std.specs.Int.{bit_at}
 use Rattle.stamp_sets.proofs.Effects.{settles_among, state_left}

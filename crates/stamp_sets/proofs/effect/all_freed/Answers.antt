@@ -1,4 +1,4 @@
-use Rattle.stamp_sets.specs.inner.Objects.{judged}
+use Rattle.stamp_sets.specs.Judged.{judged}
 use Rattle.stamp_sets.proofs.CountingLanes.{lanes_in_less}
 use Rattle.stamp_sets.proofs.Freeing.{frees_all, frees_more, frees_none}
 use Rattle.stamp_sets.proofs.effect.all_freed.Goals as goal

@@ -1,6 +1,6 @@
 use Rattle.std.proofs.Common.{ℕ, ◌≢◌}
 use Rattle.std.specs.Int.{bit_at}
-use Rattle.stamp_sets.specs.inner.Objects.{judged}
+use Rattle.stamp_sets.specs.Judged.{judged}
 use Rattle.stamp_sets.specs.inner.Effect.{Frees}
 use Rattle.stamp_sets.specs.inner.Lanes.{lanes_in}
 use Rattle.stamp_sets.proofs.effect.all_freed.Given as goal

@@ -1,6 +1,6 @@
 use Rattle.std.proofs.Common.{refl, sym, ◌∙◌, inl, inr}
 use Rattle.std.proofs.lemmas.Bool.{false≢true}
-use Rattle.stamp_sets.specs.inner.Objects.{judged}
+use Rattle.stamp_sets.specs.Judged.{judged}
 use Rattle.stamp_sets.specs.inner.Effect.Settles.{as_it_is}
 use Rattle.stamp_sets.proofs.CountingLanes.{bit_free}
 use Rattle.stamp_sets.proofs.Effects.{none_found, takes_at_once}
@@ -16,7 +16,7 @@ pub returns-then-not-is_unchanging : goal.returns-then-not-is_unchanging
 returns-then-not-is_unchanging c = record {
   settles = λ table is_open. as_it_is;
   whole = λ reads. absurd (false≢true (sym c.if-not-is_unchanging.true ∙
-      c.is_unchanging.ensures.reads c.args.object.now ∙ reads));
+      c.is_unchanging.ensures.value ∙ reads));
 }
 
 pub returns-then-not-is_some : goal.returns-then-not-is_some

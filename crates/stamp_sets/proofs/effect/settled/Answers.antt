@@ -1,7 +1,7 @@
 use Rattle.std.proofs.Common.{◌≡◌, sym, ◌∙◌, subst}
 use Rattle.std.specs.Int.{bit_at}
 use Rattle.stamp_sets.specs.declared.position.Position.{Position}
-use Rattle.stamp_sets.specs.inner.Objects.{judged}
+use Rattle.stamp_sets.specs.Judged.{judged}
 use Rattle.stamp_sets.proofs.CountingLanes.{lanes_in_less}
 use Rattle.stamp_sets.proofs.Effects.{SettledSoFar, so_far_settled_all, so_far_settled_idle, so_far_settled_none}
 use Rattle.stamp_sets.proofs.Effects.{so_far_settled_one, state_settled}

@@ -1,4 +1,4 @@
-use Rattle.stamp_sets.specs.inner.Objects.{judged}
+use Rattle.stamp_sets.specs.Judged.{judged}
 use Rattle.stamp_sets.proofs.Effects.{SettledSoFar}
 use Rattle.stamp_sets.specs.inner.Lanes.{lanes_in}
 use Rattle.stamp_sets.proofs.effect.settled.Given as goal

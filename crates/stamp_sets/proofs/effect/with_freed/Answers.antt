@@ -1,5 +1,5 @@
 use Rattle.std.proofs.Common.{sym, ◌∙◌}
-use Rattle.stamp_sets.specs.inner.Objects.{judged}
+use Rattle.stamp_sets.specs.Judged.{judged}
 use Rattle.stamp_sets.proofs.CountingLanes.{bit_free}
 use Rattle.stamp_sets.proofs.Freeing.{frees_not, frees_one, not_awaited, not_kind, not_open, not_waiting}
 use Rattle.stamp_sets.proofs.effect.with_freed.Goals as goal

@@ -1,7 +1,7 @@
 use Rattle.std.proofs.Common.{sym, ◌∙◌, subst, arith}
 use Rattle.std.proofs.lemmas.Option.{none-some, same_Some}
 use Rattle.stamp_sets.specs.declared.open_call.OpenCall.{OpenCall}
-use Rattle.stamp_sets.specs.inner.Objects.{judged}
+use Rattle.stamp_sets.specs.Judged.{judged}
 use Rattle.stamp_sets.specs.inner.Effect.{IsPassedOver}
 use Rattle.stamp_sets.proofs.layers.is_lane_passed_over.Goals as goal
 

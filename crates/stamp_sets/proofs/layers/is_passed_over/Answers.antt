@@ -1,5 +1,5 @@
 use Rattle.std.proofs.Common.{sym, ◌∙◌, inl, inr}
-use Rattle.stamp_sets.specs.inner.Objects.{judged}
+use Rattle.stamp_sets.specs.Judged.{judged}
 use Rattle.stamp_sets.proofs.Effects.{none_found, not_true, some_number}
 use Rattle.stamp_sets.proofs.layers.is_passed_over.Goals as goal
 
@@ -9,7 +9,7 @@ returns-then-is_some c is = let some = some_number c.overwrites.result (sym c.is
 
 pub returns-then-is_unchanging : goal.returns-then-is_unchanging
 returns-then-is_unchanging c is = inr (inl (
-  sym (c.is_unchanging.ensures.reads c.args.object.now) ∙ c.if-is_unchanging.true,
+  sym (c.is_unchanging.ensures.value) ∙ c.if-is_unchanging.true,
   c.if-lane-awaited.true,
 ))
 

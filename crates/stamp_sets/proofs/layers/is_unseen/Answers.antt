@@ -1,4 +1,4 @@
-use Rattle.stamp_sets.specs.inner.Objects.{judged}
+use Rattle.stamp_sets.specs.Judged.{judged}
 use Rattle.stamp_sets.proofs.CountingLanes.{lanes_in_less}
 use Rattle.stamp_sets.proofs.Effects.{unseen_all, unseen_more, unseen_none}
 use Rattle.stamp_sets.proofs.layers.is_unseen.Goals as goal

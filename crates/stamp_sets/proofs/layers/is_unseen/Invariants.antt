@@ -1,4 +1,4 @@
-use Rattle.stamp_sets.specs.inner.Objects.{judged}
+use Rattle.stamp_sets.specs.Judged.{judged}
 use Rattle.stamp_sets.specs.inner.Lanes.{lanes_in}
 use Rattle.stamp_sets.proofs.Effects.{UnseenSoFar}
 use Rattle.stamp_sets.proofs.layers.is_unseen.Given as goal

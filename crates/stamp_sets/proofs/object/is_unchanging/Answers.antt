@@ -2,7 +2,7 @@ use Rattle.std.proofs.Common.{sym, ◌∙◌, subst}
 use Rattle.stamp_sets.specs.declared.small_call.SmallCall.{SmallCall}
 use Rattle.stamp_sets.specs.declared.small_call.SmallCall.TheVariants.{OfLock, PutIf}
 use Rattle.stamp_sets.specs.declared.small_call.SmallReply.{SmallReply}
-use Rattle.stamp_sets.specs.inner.Objects.{judged}
+use Rattle.stamp_sets.specs.Judged.{judged}
 use Rattle.stamp_sets.specs.inner.Effect.{ChangesNothing}
 use Rattle.stamp_sets.proofs.Judging.{get_changes_nothing, put_if_changes_nothing, unchanging_of_lock}
 use Rattle.stamp_sets.proofs.object.is_unchanging.Goals as goal

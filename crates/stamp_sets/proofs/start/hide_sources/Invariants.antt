@@ -1,14 +1,18 @@
-use Rattle.std.proofs.Common.{ℕ, ◌<◌, ◌≢◌}
+use Rattle.std.proofs.Common.{◌≡◌, ℕ, ◌<◌, ◌≢◌}
 use Rattle.std.specs.Int.{bit_at}
-use Rattle.stamp_sets.specs.inner.Objects.{judged}
+use Rattle.stamp_sets.specs.declared.position.Position.{Position}
+use Rattle.stamp_sets.specs.Judged.{judged}
 use Rattle.stamp_sets.specs.inner.Lanes.{lanes_in}
 use Rattle.stamp_sets.specs.inner.Start.{Hides}
+use Rattle.stamp_sets.specs.inner.Trail.{AreNoted}
 use Rattle.stamp_sets.proofs.CountingLanes.{AreWithin}
 use Rattle.stamp_sets.proofs.start.hide_sources.Given as goal
 
 abbrev pub invariant-loop-rest : goal.invariant-loop-rest
 invariant-loop-rest l = AreWithin l.rest l.position.free × Hides (judged l.object) l.table l.lane l.position
-    (λ (k : ℕ). (k < 64) × (bit_at l.rest k ≢ 1)) l.initial.first.items l.first.items
+    (λ (k : ℕ). (k < 64) × (bit_at l.rest k ≢ 1)) l.initial.first.items l.first.items ×
+    AreNoted (judged l.object) l.table (λ (p : Position). p ≡ l.position) l.initial.trail l.trail
+    l.initial.first.items l.first.items
 
 abbrev pub decreases-loop-rest : goal.decreases-loop-rest
 decreases-loop-rest l = lanes_in l.rest

@@ -1,8 +1,5 @@
-use Rattle.std.proofs.Common.{ℕ, ◌+◌, ◌∙◌, Option, Some, sym, ap, subst, add-zero}
-use Rattle.std.proofs.lemmas.List.Elements.{All-get_or}
-use Rattle.stamp_runs.specs.declared.event.Event.{Event}
+use Rattle.std.proofs.Common.{ℕ, ◌+◌, Option, ap, subst, add-zero}
 use Rattle.stamp_watch.specs.AsObserved.{ending_of}
-use Rattle.stamp_watch.specs.Verdict.{IsOfLock}
 use Rattle.stamp_sets.specs.declared.ending.Ending.{Ending}
 use Rattle.stamp_watch.specs.inner.Judging.{IsEndBy}
 use Rattle.stamp_watch.proofs.EndingAhead.{ending_more, ending_here, ending_none}
@@ -11,23 +8,15 @@ use Rattle.stamp_watch.proofs.ahead.end_ahead.Goals as goal
 pub loop-k-init : goal.loop-k-init
 loop-k-init c = ap (λ (n : ℕ). ending_of c.args.lane n c.args.events.now) (add-zero c.args.first)
 
-pub end_by-requires : goal.end_by-requires
-end_by-requires c = subst IsOfLock (sym (c.as_event.ensures ∙ c.index-events-k.is)) (All-get_or IsOfLock
-    c.args.events.now c.loop-k.k c.index-events-k.result c.loop-k-test.true c.requires.lock)
-
 pub returns-in-Some : goal.returns-in-Some
 returns-in-Some c = ending_here c.args.events.now c.args.lane c.args.first c.loop-k.k c.index-events-k.result
-    c.in-Some.end c.loop-k-test.true c.index-events-k.is c.loop-k.invariant
-    (subst (λ (e : Event). IsEndBy e c.args.lane (c.args.first + c.loop-k.k) (Some c.in-Some.end)) c.as_event.ensures
-    c.in-Some.ensures)
+    c.in-Some.end c.loop-k-test.true c.index-events-k.is c.loop-k.invariant c.in-Some.ensures
 
 pub loop-k-preserved : goal.loop-k-preserved
 loop-k-preserved c = ending_more c.args.events.now c.args.lane c.args.first c.loop-k.k c.index-events-k.result
     c.loop-k-test.true c.index-events-k.is c.loop-k.invariant
     (subst (λ (o : Option Ending). IsEndBy c.index-events-k.result c.args.lane (c.args.first + c.loop-k.k) o)
-    c.in_default.is
-    (subst (λ (e : Event). IsEndBy e c.args.lane (c.args.first + c.loop-k.k) c.end_by.result) c.as_event.ensures
-    c.end_by.ensures))
+    c.in_default.is c.end_by.ensures)
 
 pub returns : goal.returns
 returns c = ending_none c.args.events.now c.args.lane c.args.first c.loop-k.k c.loop-k-test.false c.loop-k.invariant

@@ -1,14 +1,10 @@
-use Rattle.std.proofs.Common.{List, ◌+◌, ◌++◌, subst, sym}
-use Rattle.std.specs.List.{All}
+use Rattle.std.proofs.Common.{List, ◌+◌, ◌++◌, subst}
 use Rattle.std.proofs.lemmas.List.{take_rest}
 use Rattle.std.specs.Prelude.{take, drop}
-use Rattle.std.proofs.lemmas.List.Elements.{All-drop}
 use Rattle.stamp_core.specs.Limits.{Bounds}
 use Rattle.stamp_runs.specs.declared.event.Event.{Event}
-use Rattle.stamp_watch.specs.Verdict.{IsOfLock}
 use Rattle.stamp_watch.specs.Judging.{IsJudging}
 use Rattle.stamp_watch.specs.inner.Judging.{IsEndTold, IsStep}
-use Rattle.stamp_watch.proofs.Forming.{rest_of_lock}
 use Rattle.stamp_watch.proofs.Judged.{judging_start, judging_here, judging_more, unexplained_here, too_many_here}
 use Rattle.stamp_watch.proofs.Judged.{never_refused, all_explained}
 use Rattle.stamp_watch.proofs.judge.judge_rest.Goals as goal
@@ -16,11 +12,6 @@ use Rattle.stamp_watch.proofs.judge.judge_rest.Goals.{In_ok-progress}
 
 pub loop-k-init : goal.loop-k-init
 loop-k-init c limits past judging = judging_start limits c.args.first past c.args.events.now c.args.start judging
-
-pub end_told-ends-requires-clause-lock : goal.end_told-ends-requires-clause-lock
-end_told-ends-requires-clause-lock c = subst (All IsOfLock) (sym (take_rest c.args.events.now (c.loop-k.k + 1)))
-    (All-drop IsOfLock (c.loop-k.k + 1) c.args.events.now
-    (rest_of_lock c.requires.judging.past c.args.events.now c.requires.judging.judging.followed.whole))
 
 pub step-requires : goal.step-requires
 step-requires c = record {

@@ -4,7 +4,7 @@ use Rattle.std.proofs.lemmas.Result.{IfOk-weaker}
 use Rattle.stamp_runs.specs.declared.event.Event.{Event}
 use Rattle.stamp_watch.specs.Judging.{IsFound}
 use Rattle.stamp_watch.specs.inner.Judging.{IsOutcome}
-use Rattle.stamp_watch.specs.Verdict.{AreOfLock, IsInFormUpTo}
+use Rattle.stamp_watch.specs.Verdict.{AreOfLanes, IsInFormUpTo}
 use Rattle.stamp_watch.proofs.Judged.{broken_at, explained_whole, found_in_whole, undecided_at, base_first}
 use Rattle.stamp_watch.proofs.Judged.{judging_from_first, stuck_behind}
 use Rattle.stamp_watch.proofs.Taking.{taken_whole}
@@ -22,7 +22,7 @@ same_here : (c : In_ok-outcome) → c.as_slice-taken.result.now ≡ take (length
 same_here c = c.as_slice-taken.ensures.value ∙ c.in_ok-held.ensures.same ∙
     ap (λ (n : ℕ). take n c.args.events.now) (sym (many_here c))
 
-whole_here : (c : In_ok-outcome) → AreOfLock c.as_slice-taken.result.now
+whole_here : (c : In_ok-outcome) → AreOfLanes c.as_slice-taken.result.now
 whole_here c = taken_whole c.args.events.now c.in_ok-held.held.items c.as_slice-taken.result.now c.in_ok-held.ensures
     c.as_slice-taken.ensures.value
 

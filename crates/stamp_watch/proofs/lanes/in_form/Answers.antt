@@ -1,7 +1,7 @@
 use Rattle.std.proofs.Common.{List, [], ◌∷◌, ◌++◌, ◌∙◌, ap, sym, subst}
 use Rattle.stamp_runs.specs.declared.event.Event.{Event}
 use Rattle.stamp_watch.specs.inner.Judging.{MayComeIn, SetsBusy}
-use Rattle.stamp_watch.proofs.Forming.{form_first, of_lock_more, busy_more}
+use Rattle.stamp_watch.proofs.Forming.{form_first, of_lanes_more, busy_more}
 use Rattle.stamp_watch.proofs.Reading.{take_read}
 use Rattle.stamp_watch.proofs.Taking.{taken_all, taken_stops, no_stream}
 use Rattle.stamp_watch.proofs.lanes.in_form.Goals as goal
@@ -27,7 +27,7 @@ loop-event-preserved c = record {
       ap (λ (before : List Event). before ++ c.event-item.result ∷ []) c.loop-event.invariant.taken_is ∙
       sym (take_read c.args.events.now c.loop-event.event-index c.event-item.result c.loop-event-test.true
       c.event-item.is);
-  whole = of_lock_more c.args.events.now c.loop-event.event-index c.loop-event.busy c.event-item.result
+  whole = of_lanes_more c.args.events.now c.loop-event.event-index c.loop-event.busy c.event-item.result
       c.loop-event-test.true c.event-item.is c.loop-event.invariant.lanes c.loop-event.invariant.whole
       (subst (λ (e : Event). MayComeIn c.loop-event.busy e) c.in-Some.ensures c.in-Some-busy_with.ensures.0);
   lanes = busy_more c.args.events.now c.loop-event.event-index c.loop-event.busy c.event-item.result

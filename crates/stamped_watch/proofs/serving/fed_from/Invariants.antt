@@ -10,4 +10,4 @@ invariant-source g l = IsFedAndTold l.fn.asked (g.S.Source.left l.fn.source) (g.
 
 -- a judge that has found nothing was fed fewer bytes
 abbrev pub decreases-source : goal.decreases-source
-decreases-source g l = 16 * 2 ^ 64 + 16 - taken_since (g.S.Source.reads l.fn.source) (g.S.Source.reads l.source)
+decreases-source g l = 272 * 2 ^ 64 + 296 - taken_since (g.S.Source.reads l.fn.source) (g.S.Source.reads l.source)

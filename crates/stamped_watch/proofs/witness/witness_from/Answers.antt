@@ -2,13 +2,12 @@ use Rattle.std.proofs.Common.{ℕ, ◌≡◌, ◌+◌, ◌-◌, ◌++◌, List, 
 use Rattle.std.proofs.Common.{subst, sym, ◌∙◌}
 use Rattle.std.proofs.lemmas.Bool.{false≢true}
 use Rattle.std.specs.Prelude.{fold, min, option_map, slice_set, unwrap_or}
-use Rattle.std.proofs.lemmas.List.{take_min}
+use Rattle.std.proofs.lemmas.List.{length-take-le, take_min}
 use Rattle.stamp_core.specs.Limits.{Bounds}
 use Rattle.stamp_core.specs.Word.{IsAdmitted, word_at}
 use Rattle.stamp_explain.specs.declared.observed.Observation.{Observation}
 use Rattle.stamp_runs.specs.declared.event.Event.{Event}
-use Rattle.stamp_sets.specs.Positions.{waiting_of}
-use Rattle.stamp_watch.proofs.Configurations.{each_possible}
+use Rattle.stamp_watch.specs.Start.{waiting_of}
 use Rattle.stamped_watch.specs.Calls.{Told, ended_call, first_in, open_in, return, told_beside, told_end, told_first}
 use Rattle.stamped_watch.specs.Calls.{IsTold, told_with, under_way}
 use Rattle.stamped_watch.specs.declared.begun.Begun.{Begun}
@@ -21,11 +20,20 @@ use Rattle.stamped_watch.proofs.witness.witness_from.Goals as goal
 pub unreachable-requires-in_default-word_from_bits : goal.unreachable-requires-in_default-word_from_bits
 unreachable-requires-in_default-word_from_bits c =
     let base = c.args.judge.now.course.base in
-    let possible = each_possible _ base c.requires.keeps.keeps.from_base.judging.watching in
-    let admitted = is_admitted base.limits _ base.table.items base.positions.items c.args.start possible
-    c.in-Some-word_at.bits (sym c.in-Some-word_at.ensures) in
+    let admitted = is_admitted _ base c.requires.keeps.keeps.from_base.judging.watching c.in-Some-word_at.bits
+    c.args.start (sym c.in-Some-word_at.ensures.word) in
     false≢true (c.in_default-word_from_bits.ensures.some.1
     (subst (λ (l : Bounds). IsAdmitted l (word_at l c.in-Some-word_at.bits)) (sym c.limits.ensures) admitted))
+
+pub overflow_add-before : goal.overflow_add-before
+overflow_add-before c =
+    let items : List Event = c.args.judge.now.course.events.items in
+    let events : List Event = c.kept_events-events.result.now in
+    let kept : length events ≡ length items = ap (λ (xs : List Event). length xs) c.kept_events-events.ensures in
+    let less : c.min.result ≡ min (c.args.number - c.args.judge.now.course.first) (length items) = search rules in
+    let long : length (take c.min.result events) ≡ c.min.result =
+    length-take-le c.min.result events (omega (arith, kept, less)) in
+    omega (arith, long, less, c.args.judge.now.course.events.ok.0)
 
 pub returns : goal.returns
 returns c =

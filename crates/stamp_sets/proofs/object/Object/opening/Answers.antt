@@ -1,7 +1,6 @@
-use Rattle.std.proofs.Common.{[], sym, subst}
-use Rattle.std.proofs.lemmas.Option.{slice_get-get_or}
+use Rattle.std.proofs.Common.{refl, sym, subst}
 use Rattle.stamp_sets.specs.declared.object.Object.{Object}
-use Rattle.stamp_sets.specs.inner.Objects.{judged}
+use Rattle.stamp_sets.specs.Judged.{judged}
 use Rattle.stamp_sets.proofs.object.Object.opening.Goals as goal
 
 pub returns-in-Lock : goal.returns-in-Lock
@@ -9,5 +8,4 @@ returns-in-Lock c = subst (λ (o : Object). (judged o).holds c.lock_opening.resu
     c.lock_opening.ensures
 
 pub returns-in-Record : goal.returns-in-Record
-returns-in-Record c = subst (λ (o : Object). (judged o).holds 0 (judged o).start) (sym c.in-Record.is)
-    (slice_get-get_or c.in-Record.contents 0 [] c.known.ensures.first)
+returns-in-Record c = subst (λ (o : Object). (judged o).holds 0 (judged o).start) (sym c.in-Record.is) refl

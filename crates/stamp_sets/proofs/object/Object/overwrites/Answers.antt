@@ -1,8 +1,8 @@
 use Rattle.std.proofs.Common.{◌≡◌, ℕ, Option, None, refl, sym, subst}
 use Rattle.stamp_sets.specs.declared.object.Object.{Object}
 use Rattle.stamp_sets.specs.declared.object.Object.TheVariants.{Lock, Record}
-use Rattle.stamp_sets.specs.inner.Guarded.{guarded}
-use Rattle.stamp_sets.specs.inner.Objects.{judged}
+use Rattle.stamp_sets.specs.Judged.{guarded}
+use Rattle.stamp_sets.specs.Judged.{judged}
 use Rattle.stamp_sets.specs.inner.Effect.{IsOverwritingTo}
 use Rattle.stamp_sets.proofs.Overwriting.{judged_lawful}
 use Rattle.stamp_sets.proofs.object.Object.overwrites.Goals as goal
@@ -24,5 +24,5 @@ returns-in-Record-clause-value c = subst
 pub returns-in-Record-clause-leaves : goal.returns-in-Record-clause-leaves
 returns-in-Record-clause-leaves c = subst
     (λ (o : Object). IsOverwritingTo (judged o) c.args.begun.now c.put_leaves.result) (sym c.in-Record.is)
-    (subst (λ (found : Option ℕ). IsOverwritingTo (guarded c.in-Record.contents) c.args.begun.now found)
-    (sym c.put_leaves.ensures) ((judged_lawful (Record c.in-Record.contents)).overwriting c.args.begun.now))
+    (subst (λ (found : Option ℕ). IsOverwritingTo guarded c.args.begun.now found)
+    (sym c.put_leaves.ensures) ((judged_lawful Record).overwriting c.args.begun.now))

@@ -17,7 +17,7 @@ returns-then-not-is_unchanging c is = record {
     is_first = sym c.open_in.ensures ∙ c.in-Some.is;
     free = bit_free c.args.in_effect c.first_lane-other.result c.has_lane.result c.has_lane.ensures
         c.if-not-has_lane.true;
-    changes = sym (c.is_unchanging.ensures.reads c.args.object.now) ∙ c.if-not-is_unchanging.true;
+    changes = sym (c.is_unchanging.ensures.value) ∙ c.if-not-is_unchanging.true;
     goes = c.goes_before.ensures c.if-goes_before.true;
   };
   among = c.loop-rest.invariant c.first_lane-other.result c.first_lane-other.ensures.among;

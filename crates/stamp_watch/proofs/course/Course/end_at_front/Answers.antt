@@ -1,12 +1,8 @@
-use Rattle.std.proofs.Common.{List, ◌≡◌, ◌+◌, ℕ, arith, subst, sym}
+use Rattle.std.proofs.Common.{List, ◌≡◌, ◌+◌, ℕ, arith, subst}
 use Rattle.std.specs.Prelude.{drop}
-use Rattle.std.specs.List.{All}
 use Rattle.std.proofs.lemmas.List.{take_rest}
-use Rattle.std.proofs.lemmas.List.Elements.{All-drop}
 use Rattle.stamp_runs.specs.declared.event.Event.{Event}
-use Rattle.stamp_watch.specs.Verdict.{IsOfLock}
 use Rattle.stamp_watch.specs.inner.Judging.{IsEndTold}
-use Rattle.stamp_watch.proofs.Forming.{rest_of_lock}
 use Rattle.stamp_watch.proofs.Looking.{looked_within, told_at_front}
 use Rattle.stamp_watch.proofs.course.Course.end_at_front.Goals as goal
 
@@ -20,14 +16,6 @@ overflow_add-from-2 c = omega (
       c.requires.front.less c.requires.front.read c.args.self.now.looked c.requires.on.course_of.looked,
   c.args.self.now.events.ok.0,
 )
-
-pub end_told-requires-clause-lock : goal.end_told-requires-clause-lock
-end_told-requires-clause-lock c =
-    subst (All IsOfLock) (sym (take_rest c.as_slice-events.result.now
-    (c.args.self.now.seen + 1 + c.args.self.now.looked)))
-    (All-drop IsOfLock (c.args.self.now.seen + 1 + c.args.self.now.looked) c.as_slice-events.result.now
-    (subst (All IsOfLock) (sym c.as_slice-events.ensures.value)
-    (rest_of_lock c.requires.on.course_of.on.past c.args.self.now.events.items c.requires.on.course_of.on.whole)))
 
 pub returns : goal.returns
 returns c =

@@ -3,14 +3,14 @@ use Rattle.std.proofs.lemmas.Result.{IfOk-weaker}
 use Rattle.stamp_core.specs.Limits.{Bounds}
 use Rattle.stamp_runs.specs.declared.event.Event.{Event}
 use Rattle.stamp_watch.specs.Delay.{IsDelayed}
-use Rattle.stamp_watch.specs.Verdict.{AreOfLock}
+use Rattle.stamp_watch.specs.Verdict.{AreOfLanes}
 use Rattle.stamp_watch.proofs.Delaying.{delayed_waits, ready_then}
 use Rattle.stamp_watch.proofs.delay.Delay.push.Goals as goal
 use Rattle.stamp_watch.proofs.delay.Delay.push.Goals.{In_ok-push}
 
 -- one more event waits
 pub delayed_here : (c : In_ok-push) (limits : Bounds) (most ahead : ℕ) (run : List Event) →
-    IsDelayed limits most ahead run c.args.self.now → AreOfLock (run ++ c.args.event.now ∷ []) →
+    IsDelayed limits most ahead run c.args.self.now → AreOfLanes (run ++ c.args.event.now ∷ []) →
     IsDelayed limits most ahead (run ++ c.args.event.now ∷ []) (record {
       alloc = c.begin_aside.new.self.alloc;
       limits = c.begin_aside.new.self.limits;

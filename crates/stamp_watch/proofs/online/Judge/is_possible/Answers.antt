@@ -2,7 +2,7 @@ use Rattle.std.proofs.Common.{◌++◌, ◌∷◌, [], List, refl, sym, subst}
 use Rattle.std.specs.Prelude.{take}
 use Rattle.std.proofs.lemmas.Bool.{false≢true}
 use Rattle.stamp_core.specs.Limits.{Bounds}
-use Rattle.stamp_core.specs.LockDecision.{reply_as}
+use Rattle.stamp_sets.specs.SmallCall.{reply_of}
 use Rattle.stamp_runs.specs.declared.event.Event.{Event}
 use Rattle.stamp_runs.specs.declared.event.Event.TheVariants.{Returns}
 use Rattle.stamp_watch.specs.Possible.{KeepsBase}
@@ -27,7 +27,7 @@ outcome_here : (c : In_ok-outcome) (limits : Bounds) (run : List Event) (keeps :
     →
     IsOutcome limits c.args.self.now.course.first keeps.past (take c.args.kept.place
     c.args.self.now.course.events.items
-    ++ Returns c.args.kept.lane (reply_as c.args.reply) ∷ []) c.args.self.now.most c.in_ok-outcome.outcome
+    ++ Returns c.args.kept.lane (reply_of c.args.reply) ∷ []) c.args.self.now.most c.in_ok-outcome.outcome
 outcome_here c limits run keeps = subst (λ (e : Event). IsOutcome limits c.args.self.now.course.first keeps.past
     (take c.args.kept.place c.args.self.now.course.events.items ++ e ∷ []) c.args.self.now.most
     c.in_ok-outcome.outcome) c.returns-event.ensures (c.in_ok-outcome.ensures limits run keeps)

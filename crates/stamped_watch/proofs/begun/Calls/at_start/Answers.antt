@@ -2,7 +2,7 @@ use Rattle.std.proofs.Common.{ℕ, ◌≡◌, ◌++◌, ◌∷◌, [], Option, L
 use Rattle.std.specs.Prelude.{map, option_map}
 use Rattle.std.specs.List.{range_with_len}
 use Rattle.std.proofs.lemmas.List.FromFn.{map-range_with_len_more}
-use Rattle.stamp_sets.specs.Positions.{waiting_of}
+use Rattle.stamp_watch.specs.Start.{waiting_of}
 use Rattle.stamped_watch.specs.Calls.{begun}
 use Rattle.stamped_watch.specs.declared.begun.Begun.{Begun}
 use Rattle.stamped_watch.proofs.begun.Calls.at_start.Goals as goal

@@ -1,6 +1,6 @@
 use Rattle.std.specs.Prelude.{◌≡◌, map, option_map}
 use Rattle.std.specs.List.{range_with_len}
-use Rattle.stamp_sets.specs.Positions.{waiting_of}
+use Rattle.stamp_watch.specs.Start.{waiting_of}
 use Rattle.stamped_watch.specs.Calls.{begun}
 use Rattle.stamped_watch.proofs.begun.Calls.at_start.Given as goal
 

@@ -1,38 +1,37 @@
-use Rattle.stamped_watch.proofs.Taking.{counted_taken, found_taken, no_event_taken, room_taken}
+use Rattle.std.proofs.Common.{ℕ, List, ◌≡◌, ◌++◌, Some, rules, subst, sym}
+use Rattle.std.specs.Prelude.{MatchOption}
+use Rattle.std.proofs.lemmas.List.{take-append-drop}
+use Rattle.std.proofs.lemmas.Result.{IfOk-weaker}
+use Rattle.stamped_watch.specs.inner.StreamJudge.{HasTakenNone, HasTakenOne}
+use Rattle.stamped_watch.proofs.TakingEvent.{none_taken}
 use Rattle.stamped_watch.proofs.stream_judge.StreamJudge.take.Goals as goal
 
-pub count-requires-clause-begun : goal.count-requires-clause-begun
-count-requires-clause-begun c =
-    let some = c.requires.some in
-    (room_taken some.most some.ahead some.taken c.args.bytes.now c.args.self.now some.has c.requires.none
-    c.in-Some.judge c.in-Some.is c.in-Ok.event c.given.new.judge c.in_ok-self-in-Ok.field-0 c.in-Ok.ensures.event
-    c.in_ok-self-in-Ok.ensures.found c.in_ok-self-in-Ok.ensures.kept c.if-is_none.ensures).0
+pub returns-in_default-judge-clause-taken : goal.returns-in_default-judge-clause-taken
+returns-in_default-judge-clause-taken c =
+    let cases = c.in-Some.ensures.cases in
+    let parts : c.in-Some.front.now ++ c.in-Some.behind.now ≡ c.args.bytes.now =
+    rw (cases.0, cases.1) (take-append-drop 16 c.args.bytes.now) in
+    IfOk-weaker c.begin.result _ _ (λ left is. subst (λ (bytes : List ℕ).
+    MatchOption left (HasTakenNone bytes c.args.self.now c.begin.new.self) (λ rest. HasTakenOne bytes rest.now
+    c.args.self.now c.begin.new.self)) parts is) c.begin.ensures.taken
 
-pub count-requires-clause-withdrawn : goal.count-requires-clause-withdrawn
-count-requires-clause-withdrawn c =
-    let some = c.requires.some in
-    (room_taken some.most some.ahead some.taken c.args.bytes.now c.args.self.now some.has c.requires.none
-    c.in-Some.judge c.in-Some.is c.in-Ok.event c.given.new.judge c.in_ok-self-in-Ok.field-0 c.in-Ok.ensures.event
-    c.in_ok-self-in-Ok.ensures.found c.in_ok-self-in-Ok.ensures.kept c.if-is_none.ensures).1
+pub returns-in-Ok-clause-taken : goal.returns-in-Ok-clause-taken
+returns-in-Ok-clause-taken c =
+    let cases = c.in-Some.ensures.cases in
+    let parts : c.in-Some.front.now ++ c.in-Some.behind.now ≡ c.args.bytes.now =
+    rw (cases.0, cases.1) (take-append-drop 16 c.args.bytes.now) in
+    IfOk-weaker c.take_event.result _ _ (λ left is. subst (λ (bytes : List ℕ).
+    MatchOption left (HasTakenNone bytes c.args.self.now c.take_event.new.self) (λ rest. HasTakenOne bytes rest.now
+    c.args.self.now c.take_event.new.self)) parts is)
+    c.take_event.ensures.taken
 
-pub returns-then-is_none-clause-taken : goal.returns-then-is_none-clause-taken
-returns-then-is_none-clause-taken c most ahead taken has =
-    counted_taken most ahead taken c.args.bytes.now c.args.self.now has c.requires.none c.in-Some.judge c.in-Some.is
-    c.in-Ok.event c.given.new.judge c.in_ok-self-in-Ok.field-0 c.in-Ok.ensures.event c.in_ok-self-in-Ok.ensures.found
-    c.in_ok-self-in-Ok.ensures.kept
-    c.if-is_none.ensures c.count.new.self c.count.ensures
-
-pub returns-else-is_none-clause-taken : goal.returns-else-is_none-clause-taken
-returns-else-is_none-clause-taken c most ahead taken has =
-    found_taken most ahead taken c.args.bytes.now c.args.self.now has c.requires.none c.in-Some.judge c.in-Some.is
-    c.in-Ok.event c.given.new.judge c.in_ok-self-in-Ok.field-0 c.in-Ok.ensures.event c.in_ok-self-in-Ok.ensures.found
-    c.in_ok-self-in-Ok.ensures.kept
-    c.if-is_none.ensures c.in_ok-self-in-Ok.ensures.tells c.in_ok-self-in-Ok.ensures.there
-
-pub returns-in_ok-found_unless-in-Err-clause-taken : goal.returns-in_ok-found_unless-in-Err-clause-taken
-returns-in_ok-found_unless-in-Err-clause-taken c most ahead taken has =
-    no_event_taken most ahead taken c.args.bytes.now c.args.self.now has c.requires.none c.in-Some.judge c.in-Some.is
-    c.count-in-Err.result c.in-Err.fault c.in_ok-found_unless-in-Err.field-0 c.found_unless.new.judge c.told-bytes
-    c.in-Err.ensures.fault c.count-in-Err.ensures c.in_ok-found_unless-in-Err.ensures.found
-    c.in_ok-found_unless-in-Err.ensures.kept (c.in_ok-found_unless-in-Err.ensures.tells tt)
-    c.in_ok-found_unless-in-Err.ensures.there
+pub returns-in_ok-refuse-in-Err-clause-taken : goal.returns-in_ok-refuse-in-Err-clause-taken
+returns-in_ok-refuse-in-Err-clause-taken c =
+    let cases = c.in-Some.ensures.cases in
+    let parts : c.in-Some.front.now ++ c.in-Some.behind.now ≡ c.args.bytes.now =
+    rw (cases.0, cases.1) (take-append-drop 16 c.args.bytes.now) in
+    let some : c.args.self.now.judge ≡ Some c.in-Some-judge.inner = search rules in
+    subst (λ (bytes : List ℕ). HasTakenOne bytes c.in-Some.behind.now c.args.self.now c.refuse.new.self) parts
+    (none_taken c.in-Some.front.now c.event_front.ensures.many c.args.self.now c.requires.none c.in-Some-judge.inner
+    some
+    c.in-Some.behind.now c.in-Err.fault c.refuse.new.self c.in-Err.ensures.fault c.in_ok-refuse-in-Err.ensures.taken)
