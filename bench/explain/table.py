@@ -4,9 +4,9 @@
 
 FOLDER holds runs, N.json of N calls; N.faulty, the same with one more entry, which is over before it began;
 and NAME.case. Times are seconds of the processor that whole processes took, medians of the rounds; memory is
-the most that one was resident. Reading is what N.faulty takes: it is read to its end, and nothing is searched.
-In the cases both look at MOST configurations at most in a search; the search in C++ knows no record. (This
-process stays small: what it starts is charged with its size.)"""
+the most that one was resident. Reading is what N.faulty takes: it is read to its end, and nothing is judged.
+In the cases ours keeps MOST positions at most, and the search in C++ looks at MOST configurations at most; it knows
+no record. (This process stays small: what it starts is charged with its size.)"""
 import glob
 import json
 import os

@@ -179,7 +179,7 @@ def main():
         ([explain], OBSERVED % b"384", (0, FOUND, b""), untold),
         ([explain, "--most", "9"], OBSERVED % b"385", (1, b"stuck 1\n", STUCK_LINE),
          [*untold, (1, b"stuck 1\n", no_note(explain))]),
-        ([explain, "--most", "1"], OBSERVED % b"384", (1, b"undecided 0\n", b""), untold),
+        ([explain, "--most", "0"], OBSERVED % b"384", (1, b"undecided 1\n", b""), untold),
         ([explain], OVERLAPPING, (1, b"bad 1 overlap\n", b""), untold),
         ([explain], NO_THREAD, (1, b"", b"stamped_explain: not a history: top\n"), untold),
         ([explain, "--judge"], OBSERVED % b"384", (0, b"ok 2\n", b""), untold),

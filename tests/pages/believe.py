@@ -29,7 +29,7 @@ PROMISES = [
                            ("stamped_lock", "RecordHandle::update_once"), ("stamped_lock", "RecordHandle::put_if"),
                            ("stamped_lock", "WideHandle::update_in"), ("stamped_lock", "CellHandle::update")]),
     ("The judge of recorded histories", [("stamp_check", "check")]),
-    ("The judge of observed histories", [("stamp_explain", "explain")]),
+    ("The judge of observed histories", [("stamp_watch", "explain")]),
 ]
 # What the prover's language and the code have of their own.
 WORDS = {*"record let in where data module abbrev unfoldable pub do λ → × ¬ ⊥ ← _ = : *".split(),

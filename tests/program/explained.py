@@ -2,6 +2,7 @@
 
     explained.py STAMPED_EXPLAIN"""
 import itertools
+import json
 import subprocess
 import sys
 
@@ -16,11 +17,12 @@ FOUND = ('{"entries":[{"call":["try_write"],"first":0,"last":191,"point":0,"repl
          '{"call":["optimistic"],"first":64,"last":319,"point":64,"reply":0,"thread":1},'
          '{"call":["unlock",384],"first":192,"last":383,"point":192,"reply":"done","thread":0}],'
          '"format":1,"readers":1,"versions":1,"width":0}')
-# Three readers at once, of which the first to return has a stamp of no reader.
+# A reader with a stamp of none, beside a writer and a reader. One position is possible when the first returns; of the
+# calls up to there alone two are, since the others' replies aren't known then.
 UNEXPLAINED = """{"entries":[
     {"call":["try_read"],"first":0,"last":10,"reply":600,"thread":0},
-    {"call":["try_read"],"first":0,"last":11,"reply":257,"thread":1},
-    {"call":["try_read"],"first":0,"last":12,"reply":258,"thread":2}],
+    {"call":["try_write"],"first":0,"last":11,"reply":384,"thread":1},
+    {"call":["try_read"],"first":0,"last":12,"reply":0,"thread":2}],
     "format":1,"readers":3,"versions":1,"width":0}"""
 # A write and its release, each alone; an optimistic read that a write overlaps; and what fails then: a validation, a
 # conversion, and each of the three that ask for a stamp.
@@ -43,8 +45,8 @@ STUCK_NOTE = "entry 2 of thread 1: optimistic answered 768; possible: 256, 0, 51
 ANSWERS = [
     ("an explained history", SEEN, None, FOUND, "", 0),
     ("a stuck one, with all possible replies", STUCK, None, "stuck 2", STUCK_NOTE, 1),
-    ("an undecided one", SEEN, 1, "undecided 2", "", 1),
-    ("one that no order explains", UNEXPLAINED, 2, "undecided 0",
+    ("an undecided one", SEEN, 0, "undecided 1", "", 1),
+    ("one that no order explains", UNEXPLAINED, 1, "undecided 0",
      "no order explains the history; from which return on is undecided", 1),
     ("calls of a thread that overlap", SEEN.replace('"thread":1', '"thread":0'), None, "bad 2 overlap", "", 1),
     ("a call that ends before it begins", SEEN.replace('"first":3', '"first":6'), None, "bad 0 interval", "", 1),
@@ -122,8 +124,8 @@ SMALL = [
      '{"call":["try_write"],"first":5,"last":8,"reply":768,"thread":1}],'
      '"format":1,"readers":1,"versions":9,"width":0}'),
 ]
-# With 25 configurations the return of entry 5 is stuck. The calls by their beginnings would want more, since then the
-# readers are tried before the writer: so no small history is found, and it is what was seen when entry 5 returned.
+# With two positions the return of entry 5 is stuck: a reader or the writer took effect first. Where entry 5 may have
+# been that reader, there are three, so what it could have answered is undecided.
 LONG = """{"entries":[
     {"call":["try_write"],"first":1,"thread":7},
     {"call":["try_read"],"first":0,"last":8,"reply":0,"thread":1},
@@ -134,12 +136,7 @@ LONG = """{"entries":[
     {"call":["read_count"],"first":7,"last":9,"reply":{"count":0},"thread":5}],
     "format":1,"readers":127,"versions":100,"width":0}"""
 LONG_NOTE = "entry 5 of thread 4: try_read answered 999; what was possible is undecided"
-CUT = ('{"entries":[{"call":["try_write"],"first":1,"thread":7},{"call":["try_read"],"first":0,"thread":1},'
-       '{"call":["try_read"],"first":0,"thread":2},{"call":["try_read"],"first":0,"thread":3},'
-       '{"call":["optimistic"],"first":0,"last":5,"reply":0,"thread":0},'
-       '{"call":["try_read"],"first":0,"last":6,"reply":999,"thread":4}],'
-       '"format":1,"readers":127,"versions":100,"width":0}')
-# What the program tells of itself: each of its options, and how many configurations it looks at without `--most`.
+# What the program tells of itself: each of its options, and how many positions it keeps without `--most`.
 HELPED = ["stamped_explain [--judge] [--told] [--small] [--most N]", "4000000", "--judge  ", "--told  ", "--small  ",
           "stamped_explain --help\n"]
 # The words that may stand in any order: which ask for a judgement, for what was tried, and for a small history.
@@ -154,12 +151,23 @@ BAD = [
 ]
 
 
+def ended(program, words, text):
+    """What the program writes and says, and its status."""
+    run = subprocess.run([program, *words], input=text.encode(), capture_output=True, timeout=3600)
+    return run.stdout.decode(), run.stderr.decode(), run.returncode
+
+
+def sorted_note(said):
+    """What is said, with the possible replies, which come in any order, in one."""
+    rest, possible, replies = said.partition("; possible: ")
+    return rest + possible + ", ".join(sorted(replies.rstrip("\n").split(", ")))
+
+
 def expect(program, words, text, written, said, status):
     """The program writes this line and says that one, if they are not empty, and ends so."""
-    run = subprocess.run([program, *words], input=text.encode(), capture_output=True, timeout=3600)
-    found = (run.stdout.decode(), run.stderr.decode(), run.returncode)
+    found = ended(program, words, text)
     wanted = (written + "\n" * bool(written), f"stamped_explain: {said}\n" * bool(said), status)
-    if found != wanted:
+    if (found[0], sorted_note(found[1]), found[2]) != (wanted[0], sorted_note(wanted[1]), wanted[2]):
         sys.exit(f"{words} {text[:300]}\ngives {found}\nand not {wanted}")
 
 
@@ -205,9 +213,12 @@ def try_small(program):
     for text, note, small in SMALL:
         expect(program, ["--small"], text, small, note, 1)
         expect(program, [], small, "stuck 2", note.replace("entry 3", "entry 2"), 1)
-    expect(program, ["--small", "--most", "25"], LONG, CUT, LONG_NOTE, 1)
-    for text in (LONG, CUT):
-        expect(program, ["--most", "25"], text, "stuck 5", LONG_NOTE, 1)
+    expect(program, ["--most", "1"], LONG, "undecided 4", "", 1)
+    expect(program, ["--most", "2"], LONG, "stuck 5", LONG_NOTE, 1)
+    small = ended(program, ["--small", "--most", "2"], LONG)[0]
+    calls = json.loads(small)["entries"]
+    if len(calls) > 6 or not ended(program, ["--most", "2"], small)[0].startswith(f"stuck {len(calls) - 1}\n"):
+        sys.exit(f"small of {LONG}\ngives {small}")
     print(f"small histories: {len(SMALL) + 1} as they are to be")
 
 
@@ -219,7 +230,7 @@ def forms_with(*option):
 
 
 def try_forms(program):
-    """Five configurations are enough for these calls. With none the first return is undecided, that of entry 1."""
+    """Five positions are enough for these calls. With none the first return is undecided, that of entry 1."""
     tried = 0
     for most, words in ((most, words) for most in [None, *MOST]
                         for words in forms_with(*(["--most", most] if most else []))):

@@ -266,8 +266,6 @@ LACKS = [
     # Its effect was seen.
     (event(2) + event(14, 1) + event(YES, 1) + event(WITHDRAWN), [], "stuck 3", "no witness of a withdrawn call",
      "event 3, lane 0: write_lock was withdrawn"),
-    # A witness has another call, so that a search looks at more than one configuration.
-    (STUCK[3][0], ["--most", "1"], "stuck 4", "no witness was found", f"event {STUCK[3][1]}"),
 ]
 NOT_STUCK = [
     (SEEN, [], "ok 1"), (LATE[1][0], ["--ahead", "66"], "undecided 1"), (READ + READ, [], "bad 1 open"),

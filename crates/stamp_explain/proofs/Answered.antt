@@ -1,25 +1,19 @@
 -- What is seen when a call has returned, with another reply of it.
-use Rattle.std.proofs.Common.{◌≡◌, ℕ, ◌+◌, ◌<◌, ◌≤◌, List, [], ◌∷◌, length, get_or, set, refl, sym, ◌∙◌, ap}
+use Rattle.std.proofs.Common.{◌≡◌, ℕ, ◌+◌, ◌<◌, ◌≤◌, List, [], ◌∷◌, length, set, refl, sym, ◌∙◌, ap}
 use Rattle.std.proofs.Common.{subst, arith, Option, None, Some, Bool, true, false, zero, suc}
 use Rattle.std.specs.Prelude.{slice_get, MatchOption, take, cond, not, nat_lt, if◌then◌else◌, ◌==◌, ◌&&◌, ◌||◌}
 use Rattle.std.proofs.lemmas.Bool.Decides.{nat_tests}
-use Rattle.std.proofs.lemmas.List.Elements.{Contains-get_or}
 use Rattle.std.proofs.lemmas.Option.{none-some, same_Some}
 use Rattle.stamp_core.specs.declared.reply.Reply.{Reply}
 use Rattle.stamp_explain.specs.declared.observed.Observation.{Observation}
 use Rattle.stamp_explain.specs.declared.observed.Returned.{Returned}
-use Rattle.stamp_explain.specs.Observed.{ObservedHistory, IsObserved, IsInterval, IsReturnAt}
-use Rattle.stamp_explain.specs.Explained.{IsExplained}
-use Rattle.stamp_explain.specs.Cut.{returned_by, cut_entry, cut_entries, begun_by, seen_at, index_then}
-use Rattle.stamp_explain.specs.Possible.{ArePossible, AreAllPossible, GetsBeside, IsUndecidedAtGotten}
-use Rattle.stamp_explain.specs.Possible.{IsUndecidedAtReply, IsUndecidedAtSome, IsUndecidedWithout, returned_with}
+use Rattle.stamp_explain.specs.Observed.{ObservedHistory, IsObserved, IsInterval}
+use Rattle.stamp_explain.specs.Cut.{returned_by, cut_entry, cut_entries, begun_by, seen_at}
+use Rattle.stamp_explain.specs.inner.Cut.{index_then}
+use Rattle.stamp_explain.specs.Possible.{returned_with}
 use Rattle.stamp_explain.specs.Possible.{with_reply}
-use Rattle.stamp_explain.specs.Configuration.{ReachesMoreBeside}
-use Rattle.stamp_explain.specs.inner.Asking.{AreReplies, AreRepliesAt, Gets}
-use Rattle.stamp_explain.proofs.Replying.{possible_is_seen}
-use Rattle.stamp_explain.proofs.Expanding.{at_index}
-use Rattle.stamp_explain.proofs.Seeing.{seen_explains_as_much}
-use Rattle.stamp_explain.proofs.Beside.{is_begun}
+use Rattle.stamp_explain.proofs.Lists.{at_index}
+use Rattle.stamp_explain.proofs.Entries.{is_begun}
 
 -- a call that returned at this position is known so
 known_kept : (e : Observation) (r : Returned) (b m : ℕ) → e.returned ≡ Some r → m < b → cut_entry r.last b m e ≡ e
@@ -130,121 +124,3 @@ pub ended : (h : ObservedHistory) (i : ℕ) (e : Observation) (r : Returned) →
     slice_get h.entries i ≡ Some e → e.returned ≡ Some r → e.first ≤ r.last
 ended h i e r observed at returned = subst (λ (o : Option Returned). MatchOption o (Unit {0})
     (λ (q : Returned). e.first ≤ q.last)) returned (at_index IsInterval h.entries i e observed.intervals at)
-
--- what is seen when the call of an entry has returned, and its index there
-pub record IsSeenAt (h : ObservedHistory) (i : ℕ) (e : Observation) (r : Returned) (seen : ObservedHistory)
-    (index : ℕ) : Type 0 where
-  pub observed : IsObserved h
-  pub is_entry : slice_get h.entries i ≡ Some e
-  pub returned : e.returned ≡ Some r
-  pub is_seen : seen ≡ seen_at r.last (i + 1) h
-  pub is_index : index ≡ index_then r.last i h.entries
-
-module _ {h : ObservedHistory} {i : ℕ} {e : Observation} {r : Returned} {seen : ObservedHistory} {index : ℕ}
-    (is : IsSeenAt h i e r seen index) where
-  pub seen_observed : IsObserved seen
-  seen_observed = subst IsObserved (sym is.is_seen) (seen_explains_as_much h r.last (i + 1) is.observed).0
-
-  abbrev returned_here : IsReturnAt h.entries i
-  returned_here = record { entry = e; return = r; is_entry = is.is_entry; returned = is.returned }
-
-  pub seen_return : IsReturnAt seen.entries index
-  seen_return = record {
-    entry = e;
-    return = r;
-    is_entry = ap (λ (g : ObservedHistory). slice_get g.entries index) is.is_seen ∙
-        ap (λ (k : ℕ). slice_get (seen_at r.last (i + 1) h).entries k) is.is_index ∙
-        asked_there h i e r is.is_entry is.returned (ended h i e r is.observed is.is_entry is.returned);
-    returned = is.returned;
-  }
-
-  pub seen_replies : (replies : List Reply) → AreReplies seen (Some index) replies → AreRepliesAt h i replies
-  seen_replies replies are = record {
-    at = returned_here;
-    are = subst (λ (k : ℕ). AreReplies (seen_at r.last (i + 1) h) (Some k) replies) is.is_index
-        (subst (λ (g : ObservedHistory). AreReplies g (Some index) replies) is.is_seen are);
-  }
-
-  pub seen_undecided : (most : ℕ) → ReachesMoreBeside seen index most → IsUndecidedWithout h i most
-  seen_undecided most many = record {
-    at = returned_here;
-    many = subst (λ (k : ℕ). ReachesMoreBeside (seen_at r.last (i + 1) h) k most) is.is_index
-        (subst (λ (g : ObservedHistory). ReachesMoreBeside g index most) is.is_seen many);
-  }
-
--- so the replies that were tried and are possible are all the possible ones
-pub all_possible : (h : ObservedHistory) (i : ℕ) (tried found : List Reply) → IsObserved h → AreRepliesAt h i tried →
-    ArePossible h i tried found → AreAllPossible h i found
-all_possible h i tried found observed replies possible = record {
-  each = λ k d lt. ((possible.each (get_or found k d)).0 (Contains-get_or found k d lt)).1;
-  whole = λ reply misses may. replies.are.whole (with_reply index e r reply (seen_at r.last (i + 1) h))
-      (record {
-        at = record {
-          entry = e;
-          return = r;
-          is_entry = asked_there h i e r at.is_entry at.returned le;
-          returned = at.returned;
-        };
-        reply = reply;
-        other = λ has. misses ((possible.each reply).1 (has, may));
-        is = refl;
-      })
-      (subst IsExplained (seen_answered h i e r reply at.is_entry at.returned le)
-      (possible_is_seen e r at.is_entry at.returned observed may));
-  once = possible.once replies.are.gotten.once;
-}
-  where
-    at : IsReturnAt h.entries i
-    at = replies.at
-
-    e : Observation
-    e = at.entry
-
-    r : Returned
-    r = at.return
-
-    index : ℕ
-    index = index_then r.last i h.entries
-
-    le : e.first ≤ r.last
-    le = ended h i e r observed at.is_entry at.returned
-
--- a search gives up with a reply that the call gets beside what the others do
-pub undecided_by : (h : ObservedHistory) (i most : ℕ) (replies : List Reply) → IsObserved h →
-    AreRepliesAt h i replies → IsUndecidedAtSome h i most replies → IsUndecidedAtGotten h i most
-undecided_by h i most replies observed are some = record { reply = some.0; undecided = one; gets = seen }
-  where
-    one : IsUndecidedAtReply h i most some.0
-    one = some.1.1
-
-    own : IsReturnAt h.entries i
-    own = one.at
-
-    is_entry : are.at.entry ≡ own.entry
-    is_entry = same_Some are.at.entry own.entry (sym are.at.is_entry ∙ own.is_entry)
-
-    is_return : are.at.return ≡ own.return
-    is_return = same_Some are.at.return own.return (sym are.at.returned ∙ ap
-        (λ (o : Observation). o.returned) is_entry ∙ own.returned)
-
-    seen_by : Returned → ObservedHistory
-    seen_by r = seen_at r.last (i + 1) h
-
-    index : Returned → ℕ
-    index r = index_then r.last i h.entries
-
-    gets : Gets (seen_by own.return) (Some (index own.return)) some.0
-    gets = subst (λ (r : Returned). Gets (seen_by r) (Some (index r)) some.0) is_return
-        (are.are.gotten.gets some.0 some.1.0)
-
-    same : gets.index ≡ index own.return
-    same = sym (same_Some (index own.return) gets.index gets.is_asked)
-
-    entry : gets.entry ≡ own.entry
-    entry = same_Some gets.entry own.entry (sym gets.is_entry ∙ ap (λ (k : ℕ). slice_get
-        (seen_by own.return).entries k) same ∙ asked_there h i own.entry own.return own.is_entry own.returned
-        (ended h i own.entry own.return observed own.is_entry own.returned))
-
-    seen : GetsBeside (seen_by own.return) (index own.return) own.entry some.0
-    seen = subst (λ (o : Observation). GetsBeside (seen_by own.return) (index own.return) o some.0) entry
-        (subst (λ (k : ℕ). GetsBeside (seen_by own.return) k gets.entry some.0) same gets.gets)

@@ -3,7 +3,7 @@ use Rattle.std.proofs.Common.{◌≡◌, ◌⊎◌, ℕ, ◌+◌, ◌<◌, ◌�
 use Rattle.std.proofs.Common.{refl, sym, ◌∙◌, ap, arith, Option, None, Some}
 use Rattle.std.specs.Prelude.{slice_get, if◌then◌else◌, nat_lt, ◌==◌, ◌&&◌, ◌||◌}
 use Rattle.std.specs.List.{All, AllPairs, AllZip, Contains}
-use Rattle.std.proofs.lemmas.List.Elements.{All-head, All-nil, All-tail, All-map}
+use Rattle.std.proofs.lemmas.List.Elements.{All-head, All-tail, All-map}
 use Rattle.std.proofs.lemmas.Option.{get_or_from_slice_get, same_Some, none-some}
 use Rattle.std.proofs.lemmas.Bool.Decides.{nat_tests}
 use Rattle.std.proofs.lemmas.Bool.{false≢true}
@@ -11,12 +11,12 @@ use Rattle.stamp_core.specs.History.{History, IsLegal}
 use Rattle.stamp_core.specs.declared.reply.Reply.{Reply}
 use Rattle.stamp_explain.specs.declared.observed.Observation.{Observation}
 use Rattle.stamp_explain.specs.declared.observed.Returned.{Returned}
-use Rattle.stamp_explain.specs.Observed.{ObservedHistory, IsBefore, AllowsReply, HasReturned, IsReturnAt}
+use Rattle.stamp_explain.specs.Observed.{ObservedHistory, IsBefore, AllowsReply, HasReturned}
 use Rattle.stamp_explain.specs.Explained.{Effect, IsEffectOf, history_of, indices_of, AreOfTwoEntries, RespectsBefore}
 use Rattle.stamp_explain.specs.Explained.{IsExplainedBy, IsExplained}
 use Rattle.stamp_explain.specs.Cut.{returned_by, cut_entries, cut, IsStuck}
 use Rattle.stamp_explain.specs.ExplainLaws.{CutsStayExplained, ExplainedIsNotStuck, OneStuck}
-use Rattle.stamp_explain.proofs.Lists.{contains_from_map, contains_map, pairs_map, pairs_none}
+use Rattle.stamp_explain.proofs.Lists.{contains_from_map, contains_map, pairs_map}
 
 pub before_some : (a b : Observation) (r : Returned) → a.returned ≡ Some r → r.last < b.first → IsBefore a b
 before_some a b r is lt = rw is lt
@@ -67,16 +67,6 @@ explained_by h order part returned = record {
     ordered = part.ordered;
     legal = part.legal;
   };
-}
-
--- where no call returned
-pub explained_by_none : (h : ObservedHistory) → ((i : ℕ) → ¬ IsReturnAt h.entries i) → IsExplainedBy h []
-explained_by_none h none = record {
-  effects = All-nil (IsEffectOf h.entries);
-  once = pairs_none AreOfTwoEntries;
-  returned = λ i e at has. absurd (none i (record { entry = e; return = has.0; is_entry = at; returned = has.1 }));
-  ordered = pairs_none RespectsBefore;
-  legal = tt;
 }
 
 -- the same call, known no better, at an index from which its own is known

@@ -1,11 +1,20 @@
 -- Lists by their first element.
-use Rattle.std.proofs.Common.{◌≡◌, ◌≢◌, ◌⊎◌, ℕ, ◌<◌, zero, suc, List, [], ◌∷◌, ◌++◌, length, get_or, inl, inr, arith}
-use Rattle.std.proofs.Common.{subst, ap, ◌∙◌, map, refl, Bool, true, false}
+use Rattle.std.proofs.Common.{◌≡◌, ◌⊎◌, ℕ, ◌<◌, zero, suc, List, [], ◌∷◌, ◌++◌, length, get_or, inl, inr, arith}
+use Rattle.std.proofs.Common.{subst, ap, ◌∙◌, map, refl, Bool, true, false, Some}
 use Rattle.std.proofs.lemmas.List.{get_or-map, get_or_append_left, length-append, length-map}
-use Rattle.std.proofs.lemmas.List.Elements.{Contains-push_cases, All-nil, All-cons, All-head, All-map, All-tail}
-use Rattle.std.proofs.lemmas.Bool.{cases_eq}
-use Rattle.std.specs.Prelude.{drop, filter, cond}
+use Rattle.std.proofs.lemmas.List.Elements.{All-nil, All-cons, All-head, All-map, All-tail}
+use Rattle.std.proofs.lemmas.Option.{none-some, same_Some, slice_get_within, get_or_from_slice_get}
+use Rattle.std.specs.Prelude.{drop, filter, cond, slice_get}
 use Rattle.std.specs.List.{All, AllPairs, AllZip, Contains}
+use Rattle.stamp_explain.specs.declared.observed.Observation.{Observation}
+use Rattle.std.proofs.Common.{◌≡◌, ◌⊎◌, ℕ, ◌+◌, ◌<◌}
+use Rattle.std.proofs.Common.{arith}
+use Rattle.std.proofs.Common.{◌≡◌, ℕ, List}
+use Rattle.std.proofs.Common.{Some}
+use Rattle.std.specs.Prelude.{slice_get}
+use Rattle.std.specs.List.{Contains}
+use Rattle.std.proofs.lemmas.Option.{slice_get_within}
+use Rattle.std.proofs.lemmas.Option.{get_or_from_slice_get}
 
 pub none_in_empty : {X : Type 0} (x : X) → ¬ Contains [] x
 none_in_empty x (k, lt, e) = absurd (omega arith)
@@ -54,10 +63,6 @@ filter_all p [] all = refl
 filter_all p (x ∷ xs) all =
     rw (all 0 x (omega arith)) (ap (◌∷◌ x) (filter_all p xs (All-tail (λ x. p x ≡ true) x xs all)))
 
-pub filter_none : {X : Type 0} (p : X → Bool) (xs : List X) → All (λ (x : X). p x ≡ false) xs → filter p xs ≡ []
-filter_none p [] all = refl
-filter_none p (x ∷ xs) all = rw (all 0 x (omega arith)) (filter_none p xs (All-tail (λ x. p x ≡ false) x xs all))
-
 pub pairs_head : {X : Type 0} (R : X → X → Type 0) (x : X) (xs : List X) → AllPairs R (x ∷ xs) → All (R x) xs
 pairs_head R x xs all k d lt = all 0 (suc k) d (omega arith) (omega arith)
 
@@ -72,14 +77,6 @@ pairs_cons R x xs first all (suc i) (suc j) d lt within = all i j d (omega arith
 
 pub pairs_none : {X : Type 0} (R : X → X → Type 0) → AllPairs R []
 pairs_none R i j d lt within = absurd (omega arith)
-
-pub each_push : {X : Type 0} (P : X → Type 0) (xs : List X) (x : X) → ((y : X) → Contains xs y → P y) → P x →
-    (y : X) → Contains (xs ++ x ∷ []) y → P y
-each_push P xs x each it y has = by (Contains-push_cases xs x y has)
-  where
-    by : Contains xs y ⊎ (x ≡ y) → P y
-    by (inl was) = each y was
-    by (inr same) = subst P same it
 
 pub pairs_drop : {X : Type 0} (R : X → X → Type 0) (n : ℕ) (xs : List X) → AllPairs R xs → AllPairs R (drop n xs)
 pairs_drop R zero xs all = all
@@ -124,16 +121,20 @@ pairs_map R Q E f (x ∷ xs) step each all =
     (pairs_head R x xs all k d lt)))
     (pairs_map R Q E f xs step (All-tail E x xs each) (pairs_tail R x xs all))
 
--- whether a number is in a list
-pub either_in : (xs : List ℕ) (i : ℕ) → Contains xs i ⊎ (¬ Contains xs i)
-either_in [] i = inr (none_in_empty i)
-either_in (x ∷ xs) i = by (cases_eq x i) (either_in xs i)
-  where
-    by : (x ≡ i) ⊎ (x ≢ i) → Contains xs i ⊎ (¬ Contains xs i) → Contains (x ∷ xs) i ⊎ (¬ Contains (x ∷ xs) i)
-    by (inl e) _ = inl (contains_first x xs i e)
-    by (inr ne) (inl has) = inl (contains_rest x xs i has)
-    by (inr ne) (inr misses) = inr (λ has. neither (contains_cases x xs i has))
-      where
-        neither : (x ≡ i) ⊎ Contains xs i → ⊥
-        neither (inl e) = ne e
-        neither (inr has) = misses has
+-- what an element of a mapped list comes of
+pub from_map : {A B : Type 0} (f : A → B) (xs : List A) (k : ℕ) (y : B) → slice_get (map f xs) k ≡ Some y →
+    (x : A) × ((slice_get xs k ≡ Some x) × (f x ≡ y))
+from_map f [] k y at = absurd (none-some y at)
+from_map f (x ∷ xs) zero y at = (x, (refl, same_Some (f x) y at))
+from_map f (x ∷ xs) (suc k) y at = from_map f xs k y at
+
+-- what holds of each holds of the one at an index
+pub at_index : (P : Observation → Type 0) (es : List Observation) (i : ℕ) (e : Observation) → All P es →
+    slice_get es i ≡ Some e → P e
+at_index P es i e all at = subst P (get_or_from_slice_get es i e e at) (all i e (slice_get_within es i e at))
+
+pub earlier_or_last : (i k : ℕ) → i < k + 1 → (i < k) ⊎ (i ≡ k)
+earlier_or_last i k lt = grind arith
+
+pub contains_at : {X : Type 0} (xs : List X) (k : ℕ) (x : X) → slice_get xs k ≡ Some x → Contains xs x
+contains_at xs k x at = (k, slice_get_within xs k x at, get_or_from_slice_get xs k x x at)

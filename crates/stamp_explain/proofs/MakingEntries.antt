@@ -1,28 +1,28 @@
 -- The recorded history of an order.
-use Rattle.std.proofs.Common.{◌≡◌, ◌⊎◌, ℕ, ◌+◌, ◌*◌, ◌<◌, ◌≤◌, zero}
-use Rattle.std.proofs.Common.{suc, List, [], ◌∷◌, ◌++◌, length, get_or, map, refl}
+use Rattle.std.proofs.Common.{◌≡◌, ◌⊎◌, ℕ, ◌+◌, ◌*◌, ◌<◌, ◌≤◌}
+use Rattle.std.proofs.Common.{List, [], ◌∷◌, ◌++◌, length, get_or, map, refl}
 use Rattle.std.proofs.Common.{sym, ◌∙◌, ap, arith, inl, inr, Option, None, Some}
 use Rattle.std.specs.Prelude.{drop, take, slice_get, IsTrue, max}
 use Rattle.std.specs.List.{All, AllZip}
 use Rattle.std.proofs.lemmas.List.{append_assoc, append-nil, drop_all, drop_more, length-map, map_more}
 use Rattle.std.proofs.lemmas.List.Elements.{All-nil, All-head, All-map, All-tail, All-weaker, All-more}
 use Rattle.std.proofs.lemmas.List.Elements.{Contains-push, Contains-append_left}
-use Rattle.std.proofs.lemmas.Option.{get_or_from_slice_get, none-some, same_Some, slice_get_read, slice_get_within}
+use Rattle.std.proofs.lemmas.Option.{get_or_from_slice_get, same_Some, slice_get_read, slice_get_within}
 use Rattle.stamp_core.specs.Call.{call_suits}
 use Rattle.stamp_core.specs.Record.{recorded, IsRecorded, EntrySuits}
 use Rattle.stamp_core.specs.declared.entry.Entry.{Entry}
 use Rattle.stamp_explain.specs.declared.observed.Observation.{Observation}
 use Rattle.stamp_explain.specs.declared.observed.Returned.{Returned}
-use Rattle.stamp_explain.specs.declared.linearization.OrderedCall.{OrderedCall}
+use Rattle.stamp_explain.specs.declared.points.OrderedCall.{OrderedCall}
 use Rattle.stamp_explain.specs.Observed.{ObservedHistory, IsObserved, IsSmall}
 use Rattle.stamp_explain.specs.Explained.{Effect, IsEffectOf, indices_of}
-use Rattle.stamp_explain.specs.inner.Linearization.{IsLinearizationOf}
+use Rattle.stamp_explain.specs.inner.Points.{IsLinearizationOf}
 use Rattle.stamp_explain.specs.Points.{IsEntryOf, IsRecordOfObserved, HasPoints, IsLastTold, EndsAsTold, told_until}
 use Rattle.stamp_explain.specs.Points.{told_last_by, ends_at}
 use Rattle.stamp_explain.specs.inner.Points.{entry_with_point, position_at, earlier_at}
-use Rattle.stamp_explain.proofs.Completing.{same_entry}
-use Rattle.stamp_explain.proofs.Expanding.{at_index}
-use Rattle.stamp_explain.proofs.Lists.{zip_all}
+use Rattle.stamp_explain.proofs.Entries.{same_entry}
+use Rattle.stamp_explain.proofs.Lists.{at_index}
+use Rattle.stamp_explain.proofs.Lists.{from_map, zip_all}
 use Rattle.stamp_explain.proofs.Spreading.{IsReady, TakesEffect, points_from, takes_effect, ready_of, points_are_of}
 use Rattle.stamp_explain.proofs.Spreading.{points_are_linearized}
 use Rattle.stamp_explain.proofs.Threads.{few_threads}
@@ -69,12 +69,6 @@ begun_by_end entries end is = All-weaker (λ (e : Observation). told_until e ≤
 abbrev as_call : Effect → OrderedCall
 as_call x = record { index = x.index; reply = x.reply }
 
-from_map : (order : List Effect) (k : ℕ) (t : OrderedCall) → slice_get (map as_call order) k ≡ Some t →
-    (x : Effect) × ((slice_get order k ≡ Some x) × (as_call x ≡ t))
-from_map [] k t at = absurd (none-some t at)
-from_map (x ∷ order) zero t at = (x, (refl, same_Some (as_call x) t at))
-from_map (x ∷ order) (suc k) t at = from_map order k t at
-
 record IsCallAt (h : ObservedHistory) (order : List Effect) (k : ℕ) (t : OrderedCall) : Type 0 where
   effect : Effect
   left : drop k order ≡ effect ∷ drop (k + 1) order
@@ -86,7 +80,7 @@ call_at : (h : ObservedHistory) (calls : List OrderedCall) (o : IsLinearizationO
     k < length calls → t ≡ get_or calls k t → IsCallAt h o.order k t
 call_at h calls o k t lt read =
     let found : (x : Effect) × ((slice_get o.order k ≡ Some x) × (as_call x ≡ t)) =
-    from_map o.order k t (rw o.are at (slice_get_read calls (length calls) k t refl lt read)) in
+    from_map as_call o.order k t (rw o.are at (slice_get_read calls (length calls) k t refl lt read)) in
     let within : k < length o.order = slice_get_within o.order k found.0 found.1.0 in
     let same : get_or o.order k found.0 ≡ found.0 = get_or_from_slice_get o.order k found.0 found.0 found.1.0 in
     record {

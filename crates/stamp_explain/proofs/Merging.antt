@@ -1,8 +1,7 @@
 -- Orders of the lock's calls and of the record's are merged by their beginnings.
-use Rattle.std.proofs.Common.{◌≡◌, ℕ, ◌≤◌, Bool, true, false, List, [], ◌∷◌, ◌++◌, refl, sym, ap, arith, inl, inr}
+use Rattle.std.proofs.Common.{◌≡◌, ℕ, ◌≤◌, Bool, true, false, List, [], ◌∷◌, ◌++◌, refl, sym, arith, inl, inr}
 use Rattle.std.specs.Prelude.{filter, not, nat_lt, cond}
 use Rattle.std.specs.List.{All, AllPairs, Contains}
-use Rattle.std.proofs.lemmas.List.{append-nil}
 use Rattle.std.proofs.lemmas.List.Elements.{All-nil, All-cons, All-head, All-tail, All-weaker}
 use Rattle.std.proofs.lemmas.Bool.Decides.{nat_tests}
 use Rattle.std.proofs.lemmas.Bool.{true≢false}
@@ -12,16 +11,14 @@ use Rattle.stamp_core.specs.Call.{is_lock_call}
 use Rattle.stamp_core.specs.Content.{content_next}
 use Rattle.stamp_core.specs.Transition.{transition}
 use Rattle.stamp_core.specs.History.{IsLegalFrom, appended_by}
-use Rattle.stamp_core.specs.declared.call.Call.{Call}
-use Rattle.stamp_core.specs.declared.call.Call.TheVariants.{Get, Put, PutIf}
-use Rattle.stamp_core.specs.declared.reply.Reply.{Reply}
 use Rattle.stamp_explain.specs.Observed.{IsInterval, is_of_lock, is_of_record}
 use Rattle.stamp_explain.specs.Explained.{Effect, history_of, indices_of, RespectsBefore}
-use Rattle.stamp_explain.specs.Search.{Runs, LockAlone, RecordAlone}
+use Rattle.stamp_explain.specs.inner.States.{Runs, LockAlone, RecordAlone}
 use Rattle.stamp_explain.specs.inner.Apart.{merge_by}
 use Rattle.stamp_explain.proofs.Lists.{contains_cases, contains_first, contains_rest, pairs_cons}
 use Rattle.stamp_explain.proofs.Lists.{pairs_head, pairs_tail}
 use Rattle.stamp_explain.proofs.Cutting.{before_some, some_before}
+use Rattle.stamp_explain.proofs.Replies.{lock_leaves, record_appends}
 use Rattle.stamp_explain.proofs.Seeing.{AllPass}
 
 -- the third list is the first two, each in its order
@@ -143,21 +140,6 @@ merges number [] ys a b p q = (flipped (all_left ys), q)
 merges number (x ∷ xs) ys a b p q = merges_first number x xs ys (All-head (IsTimed number) x xs a) b p q
     (λ zs c r. merges number xs zs (All-tail (IsTimed number) x xs a) c (pairs_tail RespectsBefore x xs p) r)
 
--- lock and record do not touch one another
-pub lock_leaves : (content : List ℕ) (call : Call) (reply : Reply) → is_lock_call call ≡ true →
-    content_next content call reply ≡ content
-lock_leaves content Get reply lock = refl
-lock_leaves content (Put words) reply lock = absurd (true≢false (sym lock))
-lock_leaves content (PutIf expected words) reply lock = absurd (true≢false (sym lock))
-lock_leaves content _ reply lock = refl
-
-pub record_appends : (limits : Bounds) (events : List LockEvent) (call : Call) → is_lock_call call ≡ false →
-    events ++ appended_by (transition limits events call) ≡ events
-record_appends limits events Get guarded = append-nil events
-record_appends limits events (Put words) guarded = append-nil events
-record_appends limits events (PutIf expected words) guarded = append-nil events
-record_appends limits events _ guarded = absurd (true≢false guarded)
-
 -- so the runs of each are legal calls of both, and the other way round
 pub merge_legal : (limits : Bounds) (events : List LockEvent) (content : List ℕ) {xs ys zs : List Effect} →
     IsMerge xs ys zs → Runs (LockAlone limits) events (history_of xs) → Runs RecordAlone content (history_of ys) →
@@ -201,15 +183,3 @@ split_legal limits events content (right {y} {xs} {ys} {zs} m) a b legal =
       rw (record_appends limits events y.entry.call guarded) at rest.0,
       (next, (record { guarded = guarded; replies = rw guarded at legal.0; leaves = refl }, rest.1)),
     )
-
-pub all_locks : (limits : Bounds) (events : List LockEvent) (xs : List Effect) →
-    Runs (LockAlone limits) events (history_of xs) → AllPass is_of_lock xs
-all_locks limits events [] runs = All-nil (λ (x : Effect). is_of_lock x.entry ≡ true)
-all_locks limits events (x ∷ xs) runs = All-cons (λ (x : Effect). is_of_lock x.entry ≡ true) x xs runs.1.0.lock
-    (all_locks limits runs.0 xs runs.1.1)
-
-pub all_records : (content : List ℕ) (xs : List Effect) → Runs RecordAlone content (history_of xs) →
-    AllPass is_of_record xs
-all_records content [] runs = All-nil (λ (x : Effect). is_of_record x.entry ≡ true)
-all_records content (x ∷ xs) runs = All-cons (λ (x : Effect). is_of_record x.entry ≡ true) x xs
-    (ap not runs.1.0.guarded) (all_records runs.0 xs runs.1.1)

@@ -1,6 +1,6 @@
 -- Lock and record are judged apart, each by the history of its own calls, or in a search among all calls.
-use Rattle.std.proofs.Common.{◌≡◌, ◌⊎◌, ℕ, ◌<◌, Bool, true, false, List, [], sym, ap, inl, inr}
-use Rattle.std.proofs.Common.{◌∙◌, get_or}
+use Rattle.std.proofs.Common.{◌≡◌, ℕ, ◌<◌, Bool, true, List, [], sym, ap, inl, inr}
+use Rattle.std.proofs.Common.{◌∙◌}
 use Rattle.std.specs.Prelude.{slice_get, filter, not, IsTrue}
 use Rattle.std.specs.List.{All, Contains}
 use Rattle.std.proofs.lemmas.List.Elements.{All-filter, All-weaker, All-nil, All-contains, filter_passes}
@@ -9,22 +9,20 @@ use Rattle.std.proofs.lemmas.Bool.{cases_Bool, true≢false}
 use Rattle.stamp_core.specs.Call.{is_lock_call, call_suits}
 use Rattle.stamp_core.specs.Content.{zeros}
 use Rattle.stamp_core.specs.History.{IsLegal}
-use Rattle.stamp_core.specs.declared.call.Call.{Call}
-use Rattle.stamp_core.specs.declared.reply.Reply.{Reply}
 use Rattle.stamp_explain.specs.declared.observed.Observation.{Observation}
 use Rattle.stamp_explain.specs.Observed.{ObservedHistory, IsObserved, IsInterval, DoNotOverlap}
 use Rattle.stamp_explain.specs.Observed.{is_of_lock, is_of_record}
-use Rattle.stamp_explain.specs.Explained.{Effect, IsEffectOf, history_of, indices_of, AreOfTwoEntries, RespectsBefore}
+use Rattle.stamp_explain.specs.Explained.{Effect, IsEffectOf, history_of, AreOfTwoEntries, RespectsBefore}
 use Rattle.stamp_explain.specs.Explained.{IsExplained, IsExplainedBy}
-use Rattle.stamp_explain.specs.Search.{Runs, LockAlone, RecordAlone, CanComplete, IsReturnOf, AreReturnsOf}
+use Rattle.stamp_explain.specs.inner.States.{Runs, LockAlone, RecordAlone}
 use Rattle.stamp_explain.specs.inner.Apart.{merge_by, begins_at}
-use Rattle.stamp_explain.specs.ExplainLaws.{JudgedApart, Locality}
-use Rattle.stamp_explain.proofs.Lists.{contains_filter, contains_from_map, contains_map, none_in_empty}
-use Rattle.stamp_explain.proofs.Completing.{same_entry}
-use Rattle.stamp_explain.proofs.Expanding.{at_index}
-use Rattle.stamp_explain.proofs.Merging.{IsTimed, Merges, all_left, all_locks, all_records, filter_merge}
+use Rattle.stamp_explain.specs.ExplainLaws.{JudgedApart}
+use Rattle.stamp_explain.proofs.Lists.{contains_filter, contains_from_map, contains_map}
+use Rattle.stamp_explain.proofs.Entries.{same_entry}
+use Rattle.stamp_explain.proofs.Lists.{at_index}
+use Rattle.stamp_explain.proofs.Merging.{IsTimed, Merges, all_left, filter_merge}
 use Rattle.stamp_explain.proofs.Merging.{split_legal, flipped, left_index, merge_all}
-use Rattle.stamp_explain.proofs.Merging.{merge_legal, merge_pairs, merges, not_is}
+use Rattle.stamp_explain.proofs.Merging.{merge_legal, merge_pairs, merges}
 use Rattle.stamp_explain.proofs.Seeing.{AllPass, IsOrderOf, parted, restored}
 
 -- it may be observed
@@ -149,59 +147,3 @@ judged_apart h observed = (
         (restored h is_of_record both.1.order both.1.by),
   ),
 )
-
--- an order of one of them completes a search for it among all calls
-part_completes : {S : Type 0} (Goes : S → Call × Reply → S → Type 0) (h : ObservedHistory) (p : Observation → Bool)
-    (lock : Bool) (returns : List ℕ) (s : S) (order : List Effect) → IsOrderOf h p order →
-    AreReturnsOf h.entries lock returns → ((e : Observation) → is_lock_call e.call ≡ lock → p e ≡ true) →
-    Runs Goes s (history_of order) → CanComplete Goes h.entries returns s []
-part_completes Goes h p lock returns s order is are pass runs = record {
-  rest = order;
-  by = record {
-    effects = is.by.effects;
-    once = is.by.once;
-    fresh = λ k d lt. none_in_empty (get_or order k d).index;
-    returned = All-weaker (IsReturnOf h.entries lock) (λ (i : ℕ). Contains [] i ⊎ Contains (indices_of order) i)
-        (λ i r. inr (is.returned i r.at.entry r.at.is_entry (r.at.return, r.at.returned) (pass r.at.entry r.kind)))
-        returns are.each;
-    ordered = is.by.ordered;
-    runs = runs;
-  };
-}
-
--- and what completes it is an order
-completed : {S : Type 0} (Goes : S → Call × Reply → S → Type 0) (h : ObservedHistory) (p : Observation → Bool)
-    (lock : Bool) (returns : List ℕ) (s : S) → (can : CanComplete Goes h.entries returns s []) →
-    AreReturnsOf h.entries lock returns → ((e : Observation) → p e ≡ true → is_lock_call e.call ≡ lock) →
-    AllPass p can.rest → IsLegal h.limits h.width (history_of can.rest) → IsOrderOf h p can.rest
-completed Goes h p lock returns s can are kind passes legal = record {
-  by = record { effects = can.by.effects; once = can.by.once; ordered = can.by.ordered; legal = legal };
-  passes = passes;
-  returned = λ i e at has pass. elim (All-contains (λ (j : ℕ). Contains [] j ⊎ Contains (indices_of can.rest) j)
-      returns i can.by.returned (are.whole i e at has (kind e pass))) [
-        | inl none ↦ absurd (none_in_empty i none)
-        | inr has ↦ has
-      ];
-}
-
-pub locality : Locality
-locality h locks records observed are_locks are_records = (apart, back)
-  where
-    apart : IsExplained h → CanComplete (LockAlone h.limits) h.entries locks [] [] ×
-        CanComplete RecordAlone h.entries records (zeros h.width) []
-    apart explained =
-        let both = halves h explained.order explained.by in (
-          part_completes (LockAlone h.limits) h is_of_lock true locks [] _ both.0 are_locks (λ e lock. lock)
-              (lock_runs h _ both.0.passes both.0.by.legal),
-          part_completes RecordAlone h is_of_record false records (zeros h.width) _ both.1 are_records
-              (λ e guarded. ap not guarded) (record_runs h _ both.1.passes both.1.by.legal),
-        )
-
-    back : CanComplete (LockAlone h.limits) h.entries locks [] [] ×
-        CanComplete RecordAlone h.entries records (zeros h.width) [] → IsExplained h
-    back (a, b) = together h a.rest b.rest observed
-        (completed (LockAlone h.limits) h is_of_lock true locks [] a are_locks (λ e lock. lock)
-        (all_locks h.limits [] a.rest a.by.runs) (lock_legal h a.rest a.by.runs))
-        (completed RecordAlone h is_of_record false records (zeros h.width) b are_records
-        (λ e guarded. not_is (is_lock_call e.call) guarded) (all_records (zeros h.width) b.rest b.by.runs)
-        (record_legal h b.rest b.by.runs))

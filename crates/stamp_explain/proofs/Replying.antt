@@ -14,18 +14,8 @@ use Rattle.stamp_explain.specs.declared.observed.Returned.{Returned}
 use Rattle.stamp_explain.specs.Observed.{ObservedHistory, IsObserved, IsInterval, IsBefore, DoNotOverlap, IsReturnAt}
 use Rattle.stamp_explain.specs.Explained.{IsExplained}
 use Rattle.stamp_explain.specs.Cut.{cut_after, seen_at}
-use Rattle.stamp_explain.specs.declared.found.SearchEnd.{SearchEnd}
-use Rattle.stamp_explain.specs.declared.found.SearchEnd.TheVariants.{Linearization, NoOrder, GaveUp}
-use Rattle.stamp_explain.specs.Configuration.{GivesUpApart}
-use Rattle.stamp_explain.specs.inner.Expand.{IsFoundApart}
-use Rattle.stamp_explain.specs.Possible.{IsPossible, IsUndecidedAtReply, returned_with, with_reply}
+use Rattle.stamp_explain.specs.Possible.{IsPossible, returned_with, with_reply}
 use Rattle.stamp_explain.proofs.Seeing.{seen_explains_as_much}
-
--- what is told of a reply by what a search found
-abbrev pub Tells : ObservedHistory → ℕ → ℕ → Reply → SearchEnd → Type 0
-Tells h i most reply (Linearization order) = IsPossible h i reply
-Tells h i most reply NoOrder = ¬ IsPossible h i reply
-Tells h i most reply GaveUp = IsUndecidedAtReply h i most reply
 
 -- they returned at one position, or neither did
 unfoldable pub IsAlikeBy : Option Returned → Option Returned → Type 0
@@ -159,20 +149,6 @@ pub read_at : (h : ObservedHistory) {i : ℕ} (e : Observation) (read : List Obs
     e ≡ get_or read i e → read ≡ h.entries → slice_get h.entries i ≡ Some e
 read_at h {i} e read is entry same = slice_get_read h.entries (length h.entries) i e refl
     (slice_get_within h.entries i is.entry is.is_entry) (entry ∙ ap (λ (es : List Observation). get_or es i e) same)
-
--- what a search found of what is seen
-pub found_tells : {h : ObservedHistory} (seen : ObservedHistory) (i most : ℕ) (e : Observation) (r : Returned)
-    (reply : Reply) → slice_get h.entries i ≡ Some e → e.returned ≡ Some r → IsObserved h →
-    (found : SearchEnd) → seen ≡ seen_at r.last (i + 1) (with_reply i e r reply h) → IsFoundApart seen most found →
-    Tells h i most reply found
-found_tells seen i most e r reply at returned is (Linearization order) same found =
-    seen_is_possible e r at returned is (subst IsExplained same (record { order = found.order; by = found.explains }))
-found_tells seen i most e r reply at returned is NoOrder same found = λ possible. found
-    (subst IsExplained (sym same) (possible_is_seen e r at returned is possible))
-found_tells seen i most e r reply at returned is GaveUp same found = record {
-  at = record { entry = e; return = r; is_entry = at; returned = returned };
-  gives_up = subst (λ (o : ObservedHistory). GivesUpApart o most) same found;
-}
 
 -- whether a call that has returned is read
 pub return_here : {es : List Observation} (read : List Observation) {i : ℕ} (o : Observation) (r : Returned) →

@@ -29,10 +29,10 @@ use Rattle.stamp_explain.specs.inner.Apart.{indices_where}
 use Rattle.stamp_explain.specs.ExplainLaws.{SeenExplainsAsMuch}
 use Rattle.stamp_explain.proofs.Lists.{all_left, contains_cases, none_in_empty, pairs_drop, pairs_head, pairs_left}
 use Rattle.stamp_explain.proofs.Lists.{zip_all, zip_pairs}
-use Rattle.stamp_explain.proofs.Completing.{later_of, same_entry}
+use Rattle.stamp_explain.proofs.Entries.{later_of, same_entry}
 use Rattle.stamp_explain.proofs.Cutting.{before_some, some_before, explained_by, IsLessKnown, IsMovedTo, IsPartOf}
 use Rattle.stamp_explain.proofs.Cutting.{moved_has, moved_part, part_of}
-use Rattle.stamp_explain.proofs.Expanding.{at_index}
+use Rattle.stamp_explain.proofs.Lists.{at_index}
 
 abbrev pub kept : (Observation → Bool) → List Observation → List Observation
 kept p es = filter p es

@@ -24,7 +24,7 @@ use Rattle.stamp_explain.specs.ExplainLaws.{ExplainedHasPoints}
 use Rattle.stamp_explain.proofs.Lists.{none_in_empty, contains_cases, pairs_none, pairs_cons, pairs_head, pairs_tail}
 use Rattle.stamp_explain.proofs.Lists.{pairs_map, zip_pairs}
 use Rattle.stamp_explain.proofs.Cutting.{before_some, some_before}
-use Rattle.stamp_explain.proofs.Expanding.{at_index}
+use Rattle.stamp_explain.proofs.Lists.{at_index}
 use Rattle.stamp_explain.proofs.Threads.{few_threads}
 
 -- the points of an order, where so many calls took effect at this position

@@ -1,5 +1,5 @@
 -- A history up to one of its returns, and the first return at which it is no longer explained.
-use Rattle.std.specs.Prelude.{ℕ, ◌+◌, ◌==◌, ◌&&◌, ◌||◌, nat_lt, Bool, false, List, [], ◌∷◌, length, take}
+use Rattle.std.specs.Prelude.{ℕ, ◌+◌, ◌==◌, ◌&&◌, ◌||◌, nat_lt, Bool, false, List, [], ◌∷◌}
 use Rattle.std.specs.Prelude.{Option, Some, None, if◌then◌else◌, filter, not}
 use Rattle.stamp_explain.specs.declared.observed.Observation.{Observation}
 use Rattle.stamp_explain.specs.declared.observed.Returned.{Returned}
@@ -34,10 +34,6 @@ cut_before r i h = cut r.last i h
 -- of these calls, those that had begun by this position
 abbrev pub begun_by : ℕ → List Observation → List Observation
 begun_by last es = filter (λ (e : Observation). not (nat_lt last e.first)) es
-
--- how many of the calls that are listed before this one had begun by this position: its index then
-abbrev pub index_then : ℕ → ℕ → List Observation → ℕ
-index_then last i es = length (begun_by last (take i es))
 
 -- what an observer has seen then: a call that begins later isn't there
 abbrev pub seen_at : ℕ → ℕ → ObservedHistory → ObservedHistory

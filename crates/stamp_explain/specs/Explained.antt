@@ -43,3 +43,9 @@ pub record IsExplainedBy (h : ObservedHistory) (order : List Effect) : Type 0 wh
 pub record IsExplained (h : ObservedHistory) : Type 0 where
   pub order : List Effect
   pub by : IsExplainedBy h order
+
+-- these are the entries of the calls, in their order, of one that explains the history
+pub record IsOrderIn (h : ObservedHistory) (indices : List ℕ) : Type 0 where
+  pub order : List Effect
+  pub by : IsExplainedBy h order
+  pub are : indices_of order ≡ indices

@@ -59,19 +59,6 @@ of_lock h = record h { entries = filter is_of_lock h.entries }
 abbrev pub of_record : ObservedHistory → ObservedHistory
 of_record h = record h { entries = filter is_of_record h.entries }
 
--- both calls are of the lock, or both of the record
-abbrev pub AreOfOneObject : Observation → Observation → Type 0
-AreOfOneObject a b = is_lock_call a.call ≡ is_lock_call b.call
-
--- both returned, with one call and one reply
-pub record AreAlikeCalls (e f : Observation) : Type 0 where
-  pub call : e.call ≡ f.call
-  pub first : Returned
-  pub at_first : e.returned ≡ Some first
-  pub second : Returned
-  pub at_second : f.returned ≡ Some second
-  pub reply : first.reply ≡ second.reply
-
 -- a call is not over before it began
 abbrev pub IsInterval : Observation → Type 0
 IsInterval e = MatchOption e.returned (Unit {0}) (λ (r : Returned). e.first ≤ r.last)

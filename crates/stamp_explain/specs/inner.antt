@@ -1,14 +1,6 @@
 pub mod Observed
 pub mod Points
-pub mod Unchanging
-pub mod Node
-pub mod Store
-pub mod Transition
-pub mod Timeline
-pub mod Ahead
-pub mod Expand
-pub mod Linearization
-pub mod TimelineKeys
-pub mod Answer
-pub mod Asking
 pub mod Apart
+pub mod Replaying
+pub mod States
+pub mod Cut

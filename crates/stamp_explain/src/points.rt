@@ -3,14 +3,19 @@ ghost use Rattle.std.specs.Prelude.{◌≡◌, ◌≤◌, ◌<◌, [], IfOk};
 ghost use Rattle.std.specs.List.{All};
 ghost use Rattle.stamp_core.specs.Record.{recorded, IsRecorded};
 ghost use Rattle.stamp_explain.specs.Observed.{IsObserved, IsLow};
-ghost use Rattle.stamp_explain.specs.inner.Linearization.{IsLinearizationOf};
 ghost use Rattle.stamp_explain.specs.Points.{HasPoints, IsLastTold, told_until};
-ghost use Rattle.stamp_explain.specs.inner.Points.{entry_with_point, position_at, earlier_at};
+ghost use Rattle.stamp_explain.specs.inner.Points.{IsLinearizationOf, entry_with_point, position_at, earlier_at};
 
-use crate::linearization::OrderedCall;
 use crate::observed::{Observation, Observed};
 use stamp_core::{Entry, Record, Reply};
 use std::alloc::{AllocError, Global};
+
+/// A call that took effect: its index in the history, and its reply.
+#[derive(Clone, Copy)]
+pub(crate) struct OrderedCall {
+    pub(crate) index: usize,
+    pub(crate) reply: Reply,
+}
 
 /// A point in two parts: its position, and how many calls take effect there earlier.
 #[derive(Clone, Copy)]

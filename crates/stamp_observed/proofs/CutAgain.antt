@@ -9,8 +9,9 @@ use Rattle.std.proofs.lemmas.List.Elements.{All-head, All-tail, All-take, filter
 use Rattle.stamp_explain.specs.declared.observed.Observation.{Observation}
 use Rattle.stamp_explain.specs.declared.observed.Returned.{Returned}
 use Rattle.stamp_explain.specs.Observed.{ObservedHistory}
-use Rattle.stamp_explain.specs.Cut.{returned_by, cut_entry, cut_entries, cut, begun_by, seen_at, index_then}
-use Rattle.stamp_explain.proofs.Beside.{is_begun}
+use Rattle.stamp_explain.specs.Cut.{returned_by, cut_entry, cut_entries, cut, begun_by, seen_at}
+use Rattle.stamp_explain.specs.inner.Cut.{index_then}
+use Rattle.stamp_explain.proofs.Entries.{is_begun}
 use Rattle.stamp_explain.proofs.Lists.{filter_all}
 use Rattle.stamp_observed.specs.inner.Over.{IsOverBy}
 use Rattle.stamp_observed.proofs.Seen.{more}

@@ -13,10 +13,11 @@ use Rattle.stamp_explain.specs.declared.observed.Observation.{Observation}
 use Rattle.stamp_explain.specs.declared.observed.Returned.{Returned}
 use Rattle.stamp_explain.specs.Observed.{ObservedHistory, IsObserved}
 use Rattle.stamp_explain.specs.Explained.{IsExplained}
-use Rattle.stamp_explain.specs.Cut.{IsStuck, cut, cut_entry, returned_by, seen_at, index_then}
+use Rattle.stamp_explain.specs.Cut.{IsStuck, cut, cut_entry, returned_by, seen_at}
+use Rattle.stamp_explain.specs.inner.Cut.{index_then}
 use Rattle.stamp_explain.specs.Possible.{AreAllPossible, IsPossible, IsSeenUntil, with_reply}
 use Rattle.stamp_explain.proofs.Answered.{asked_there, ended, seen_answered, seen_index}
-use Rattle.stamp_explain.proofs.Beside.{is_begun}
+use Rattle.stamp_explain.proofs.Entries.{is_begun}
 use Rattle.stamp_explain.proofs.Replying.{possible_is_seen, seen_is_possible}
 use Rattle.stamp_explain.proofs.Seeing.{seen_explains_as_much}
 use Rattle.stamp_observed.specs.declared.fault.Fault.{Fault}

@@ -31,7 +31,8 @@ pub record IsStuckWithFew (limits : Bounds) (most : ℕ) (e : Observation) (smal
   pub stuck : IsStuckWith limits e small
   pub few : stuck.versions ≤ most
 
--- a history was sought that is stuck at this call, behind this word, of these other calls, by searches that give up so
+-- a history was sought that is stuck at this call, behind this word, of these other calls, where no more than so many
+-- positions are kept
 pub record IsSought (limits : Bounds) (word : LockWord) (others : List Observation) (e : Observation) (most : ℕ)
     (sought : Sought) : Type 0 where
   pub limits_are : sought.limits ≡ limits

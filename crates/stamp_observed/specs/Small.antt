@@ -8,9 +8,10 @@ use Rattle.stamp_explain.specs.declared.observed.Observation.{Observation}
 use Rattle.stamp_explain.specs.declared.observed.Returned.{Returned}
 use Rattle.stamp_explain.specs.Cut.{IsStuck, seen_at}
 use Rattle.stamp_explain.specs.Observed.{ObservedHistory, IsObserved, IsReturnAt}
-use Rattle.stamp_explain.specs.Possible.{AreAllPossible, IsUndecidedAtAny}
+use Rattle.stamp_explain.specs.Possible.{AreAllPossible}
 use Rattle.stamp_observed.specs.Issued.{AreStampsKept}
 use Rattle.stamp_observed.specs.Renumbering.{renumbered_call, renumbered_reply}
+use Rattle.stamp_watch.specs.Replies.{IsUndecidedAtAny}
 
 -- all the replies that the call of this entry could have had; or that is undecided
 abbrev pub ArePossibleAt : ObservedHistory → ℕ → ℕ → Option (List Reply) → Type 0

@@ -212,13 +212,13 @@ fn small_if_any(
 /// A small history, without a record, that begins where the lock has this word, and is stuck at the return of a call:
 /// it is by the same thread, with the same call and reply, stamps count versions from a later one on, and nothing is
 /// later, as `small_of` says. No more versions are left out than the word has write acquisitions, and one for each
-/// call here. It is judged by `explain`, and made small. It refuses only for want of memory.
+/// call here. It is judged by `judge_history`, and made small. It refuses only for want of memory.
 ///
 /// Tested, not proved: when one is found. It is made of this call and others, which needn't be over by then, at positions
 /// from there on; calls that bring a new lock to the word come before them. There is none where the call hasn't returned,
 /// where the lock can't be brought to the word, where the calls are none that an observer may tell, or too many, and
-/// where they are explained behind the word, stuck at another return, or a search gives up on them once it has looked at
-/// more than `most` configurations.
+/// where they are explained behind the word, stuck at another return, or undecided, since more than `most` different
+/// positions are possible.
 pub fn small_behind(
     alloc: Global,
     limits: Limits,

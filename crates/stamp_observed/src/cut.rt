@@ -2,7 +2,8 @@
 use crate::candidate::{Candidate, history_of_calls};
 use crate::fault::Fault;
 use stamp_core::Record;
-use stamp_explain::{ExplainError, Observation, Observed, explain};
+use stamp_explain::{Observation, Observed};
+use stamp_watch::{ExplainError, explain};
 use std::alloc::{AllocError, Global};
 
 /// The call as it stands when that of the fault returns: one that returns later is under way.

@@ -6,7 +6,8 @@ ghost use Rattle.stamp_observed.specs.inner.Fault.{IsFaultOf, replies_in};
 
 use crate::issued::{IssuedStamp, issued_stamp, writes_by};
 use stamp_core::Reply;
-use stamp_explain::{Observation, Observed, PossibleError, Returned, possible_at};
+use stamp_explain::{Observation, Observed, Returned};
+use stamp_watch::{PossibleError, possible_at};
 use std::alloc::{AllocError, Global};
 
 /// A call at whose return a history is stuck.

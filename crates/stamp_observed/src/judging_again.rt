@@ -14,7 +14,8 @@ use crate::fault::Fault;
 use crate::issued::is_shown_by;
 use crate::renumbering::renumbered_replies;
 use stamp_core::{Layout, Reply};
-use stamp_explain::{ExplainError, Observation, Observed, PossibleError, explain, possible_at};
+use stamp_explain::{Observation, Observed};
+use stamp_watch::{ExplainError, PossibleError, judge_history, possible_at};
 use std::alloc::{AllocError, Global};
 
 /// A candidate that is stuck as the run is, and its history.
@@ -52,7 +53,7 @@ fn have_same(replies: &[Reply], others: &[Reply]) -> bool
     are_among(others, replies) && are_among(replies, others)
 }
 
-/// Whether the search finds the history stuck at the return of this entry.
+/// Whether the history is found to be stuck at the return of this entry.
 pub(crate) fn is_stuck_at(
     alloc: Global,
     small: &Observed,
@@ -62,7 +63,7 @@ pub(crate) fn is_stuck_at(
     requires { IsObserved small.now }
     ensures { IfOk result (λ found. IsTrue found → IsStuck small.now place) }
 {
-    match explain(alloc, small, most) {
+    match judge_history(alloc, small, most) {
         Err(ExplainError::Stuck(entry)) => Ok(entry == place),
         Err(ExplainError::Memory) => Err(AllocError),
         _ => Ok(false),

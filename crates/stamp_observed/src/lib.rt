@@ -2,8 +2,8 @@
 //!
 //! A small history is one of a few calls that is stuck as a long one: at the same call with the same reply, where the
 //! same replies were possible, but for the versions of stamps. Where that call takes a stamp that a call before it was
-//! answered, so it does there. It is judged by the search that judged the long one, or, where that gives up, is the
-//! long one as it was seen then. That it is small is tested, not proved.
+//! answered, so it does there. It is judged as the long one was, or, where that is undecided, is the long one as it was
+//! seen then. That it is small is tested, not proved.
 //!
 //! Want of memory may come in place of any other answer. Tested, not proved: that memory is wanting
 //! only where an allocation was refused, and that a refusal leaves no block of memory.

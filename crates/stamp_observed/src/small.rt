@@ -183,10 +183,11 @@ fn first_found(
 ///
 /// Tested, not proved: it is made of the last calls that took effect before the return, or of those from the call on
 /// that issued the stamp, behind calls that bring a new lock and record to where they begin; or, where that isn't stuck
-/// so, of the whole run up to the return. Calls that don't matter are left out. Each search of it gives up once it has
-/// looked at more than `most` configurations. Where none is found so, it is what was seen of the run when the entry
-/// returned. Where the call is answered a stamp of a version that is over 8 later than that of the one it takes, a
-/// write acquisition comes between, and the small history needn't come to the later version.
+/// so, of the whole run up to the return. Calls that don't matter are left out. Each of these is judged only as far as
+/// no more than `most` different positions of the lock, or of the record, are possible. Where none is found so, it is
+/// what was seen of the run when the entry returned. Where the call is answered a stamp of a version that is over 8
+/// later than that of the one it takes, a write acquisition comes between, and the small history needn't come to the
+/// later version.
 pub fn small_of(
     alloc: Global,
     observed: &Observed,

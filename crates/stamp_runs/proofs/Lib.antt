@@ -27,3 +27,5 @@ pub mod Objects
 pub mod WorkedReturns
 pub mod WorkedEqual
 pub mod Naming
+pub mod Renaming
+pub mod Forgetting

@@ -21,16 +21,17 @@ use Rattle.stamp_core.specs.declared.reply.Reply.{Reply}
 use Rattle.stamp_core.specs.declared.reply.Reply.TheVariants.{Stamp, Yes, No, Done, Mismatch, Count, Content}
 use Rattle.stamp_runs.specs.declared.event.Event.{Event}
 use Rattle.stamp_runs.specs.declared.event.Event.TheVariants.{Begins, Returns, Withdraws}
-use Rattle.stamp_runs.specs.Object.{LockStep, Object, RecordStep}
-use Rattle.stamp_runs.specs.Pairs.{Of, Pair}
-use Rattle.stamp_runs.specs.Run.{AreExplainedFrom, Happens, Lanes, Leads, Phase, Sets, Survives, all_idle}
+use Rattle.stamp_runs.specs.Object.{LockStep, RecordStep}
+use Rattle.stamp_runs.specs.Run.{AreExplainedFrom, Happens, Lanes, Leads, Phase, Sets, all_idle}
 use Rattle.stamp_runs.specs.Run.Leads.{leads_nowhere, by_effect, by_event}
 use Rattle.stamp_runs.specs.Run.Phase.{Idle, Asks, Gets}
 use Rattle.stamp_runs.specs.BothRun.{Both, State}
 use Rattle.stamp_runs.specs.Names.{AreDifferent, Names, call_by, event_by, reply_by}
-use Rattle.stamp_runs.proofs.Going.{survives_effect, survives_event}
-use Rattle.stamp_runs.proofs.Lanes.{set_of, sets_of, true_cases, true_or_false}
+use Rattle.stamp_runs.specs.Trace.{LeadsBy, Taken, taken_at}
+use Rattle.stamp_runs.specs.Trace.LeadsBy.{led_nowhere, by_taken, by_next}
+use Rattle.stamp_runs.proofs.Lanes.{set_of, sets_of, true_cases}
 use Rattle.stamp_runs.proofs.Objects.{one_content}
+use Rattle.stamp_runs.proofs.Ordering.{leads_of, order_on}
 
 -- a reply of the lock is no content
 data HasName (name : Names) : Option Transition → Type 0 where
@@ -73,7 +74,7 @@ replies_named : (name : Names) (t : Option Transition) (reply : Reply) → HasNa
 replies_named name None reply named none = absurd none
 replies_named name (Some t) reply (has_own own) is = subst (λ (r : Reply). reply_by name r ≡ r) is own
 
-lock_named : (name : Names) (limits : Bounds) (s next : List LockEvent) (call : Call) (reply : Reply) →
+pub lock_named : (name : Names) (limits : Bounds) (s next : List LockEvent) (call : Call) (reply : Reply) →
     LockStep limits s call reply next → reply_by name reply ≡ reply
 lock_named name limits s next call reply step =
     replies_named name (transition limits s call) reply (row_named name limits (counts s) call) step.replies
@@ -153,13 +154,17 @@ next_named name content IsWriteLocked reply = refl
 next_named name content IsReadLocked reply = refl
 next_named name content ReadCount reply = refl
 
-abbrev phase_by : Names → Phase → Phase
+abbrev pub phase_by : Names → Phase → Phase
 phase_by name Idle = Idle
 phase_by name (Asks call) = Asks (call_by name call)
 phase_by name (Gets reply) = Gets (reply_by name reply)
 
+-- what took effect, with its reply by name
+abbrev pub taken_by : Names → Taken → Taken
+taken_by name x = taken_at x.point (x.lane, reply_by name x.reply)
+
 -- the lanes of the one by name
-abbrev AreNamed : Names → Lanes → Lanes → Type 0
+abbrev pub AreNamed : Names → Lanes → Lanes → Type 0
 AreNamed name a m = (v : ℕ) → m v ≡ phase_by name (a v)
 
 named_then : (name : Names) {a a1 m m1 : Lanes} {p : Phase} (lane : ℕ) → AreNamed name a m → Sets a a1 lane p →
@@ -171,10 +176,10 @@ named_then name {a} {a1} {m} {m1} lane named sets moves v = by (cases_eq v lane)
         (moves.here ∙ sym (ap (phase_by name) sets.here))
     by (inr apart) = moves.others v apart ∙ named v ∙ sym (ap (phase_by name) (sets.others v apart))
 
-first_same : {x y : Event} {xs ys : List Event} → x ∷ xs ≡ y ∷ ys → x ≡ y
+pub first_same : {x y : Event} {xs ys : List Event} → x ∷ xs ≡ y ∷ ys → x ≡ y
 first_same same = cc
 
-rest_same : {x y : Event} {xs ys : List Event} → x ∷ xs ≡ y ∷ ys → xs ≡ ys
+pub rest_same : {x y : Event} {xs ys : List Event} → x ∷ xs ≡ y ∷ ys → xs ≡ ys
 rest_same same = cc
 
 idle_back : (name : Names) (p : Phase) → phase_by name p ≡ Idle → p ≡ Idle
@@ -335,7 +340,7 @@ module _ (name : Names) (different : AreDifferent name) where
   answered content ReadCount given is = absurd is
 
   module _ (limits : Bounds) where
-    abbrev by_name : State → State
+    abbrev pub by_name : State → State
     by_name s = (s.0, name s.1)
 
     abbrev OfLock : State → Call → Reply → State → Bool → Type 0
@@ -426,87 +431,156 @@ module _ (name : Names) (different : AreDifferent name) where
             answer : Answer s.1 call given
             answer = answered s.1 call given own.replies
 
-    forth : {events : List Event} {s t : State} {a b : Lanes} → Leads (Both limits) events s a t b → (m : Lanes) →
-        AreNamed name a m → Survives (Both limits) (map (event_by name) events) (by_name s) m
-    forth leads_nowhere m named = record { state = _; last = m; way = leads_nowhere }
+    -- a way of the one, by name
+    pub record Forth (events : List Event) (s : State) (m : Lanes) (t : State) (b : Lanes) : Type 0 where
+      pub last : Lanes
+      pub way : Leads (Both limits) (map (event_by name) events) (by_name s) m (by_name t) last
+      pub named : AreNamed name b last
+
+    event_forth : (event : Event) {events : List Event} {s t : State} {m after b : Lanes} →
+        Happens (event_by name event) m after → Forth events s after t b → Forth (event ∷ events) s m t b
+    event_forth event happens on =
+        record { last = on.last; way = by_event (event_by name event) happens on.way; named = on.named }
+
+    pub forth : {events : List Event} {s t : State} {a b : Lanes} → Leads (Both limits) events s a t b → (m : Lanes) →
+        AreNamed name a m → Forth events s m t b
+    forth leads_nowhere m named = record { last = m; way = leads_nowhere; named = named }
     forth (by_effect {s = s} {next = next} lane call reply asks step sets rest) m named =
-        survives_effect (Both limits) lane (call_by name call) (reply_by name reply)
-        (named lane ∙ ap (phase_by name) asks) (both_forth s next call reply step)
-        (sets_of m lane (Gets (reply_by name reply))) (forth rest (set_of m lane (Gets (reply_by name reply)))
-        (named_then name lane named sets (sets_of m lane (Gets (reply_by name reply)))))
+        let on = forth rest (set_of m lane (Gets (reply_by name reply)))
+        (named_then name lane named sets (sets_of m lane (Gets (reply_by name reply)))) in
+        record {
+          last = on.last;
+          way = by_effect lane (call_by name call) (reply_by name reply) (named lane ∙ ap (phase_by name) asks)
+              (both_forth s next call reply step) (sets_of m lane (Gets (reply_by name reply))) on.way;
+          named = on.named;
+        }
     forth (by_event (Begins lane call) happens rest) m named =
-        survives_event (Both limits) (Begins lane (call_by name call))
+        event_forth (Begins lane call)
         (named lane ∙ ap (phase_by name) happens.0, sets_of m lane (Asks (call_by name call)))
         (forth rest (set_of m lane (Asks (call_by name call)))
         (named_then name lane named happens.1 (sets_of m lane (Asks (call_by name call)))))
     forth (by_event (Returns lane reply) happens rest) m named =
-        survives_event (Both limits) (Returns lane (reply_by name reply))
-        (named lane ∙ ap (phase_by name) happens.0, sets_of m lane Idle)
+        event_forth (Returns lane reply) (named lane ∙ ap (phase_by name) happens.0, sets_of m lane Idle)
         (forth rest (set_of m lane Idle) (named_then name lane named happens.1 (sets_of m lane Idle)))
     forth (by_event (Withdraws lane) happens rest) m named =
-        survives_event (Both limits) (Withdraws lane)
+        event_forth (Withdraws lane)
         (call_by name happens.0, named lane ∙ ap (phase_by name) happens.1, sets_of m lane Idle)
         (forth rest (set_of m lane Idle) (named_then name lane named happens.2 (sets_of m lane Idle)))
 
+    -- a way by name is one in words: its order is theirs with the names of their replies, and it ends at their end
+    pub record IsInWords (n : ℕ) (order : List Taken) (events : List Event) (s : State) (a : Lanes) (there : State)
+        (b : Lanes) : Type 0 where
+      pub words : List Taken
+      pub order_is : order ≡ map (taken_by name) words
+      pub state : State
+      pub last : Lanes
+      pub way : LeadsBy (Both limits) n words events s a state last
+      pub there_is : there ≡ by_name state
+      pub named : AreNamed name last b
+
     -- a call takes effect in both
-    effect_back : (s next : State) (a m after : Lanes) (lane : ℕ) (asked : Call) (given : Reply) (events : List Event) →
-        AreNamed name a m → m lane ≡ Asks asked → Both limits (by_name s) asked given next →
-        Sets m after lane (Gets given) → ((one : State) (b : Lanes) → next ≡ by_name one → AreNamed name b after →
-        Survives (Both limits) events one b) → Survives (Both limits) events s a
-    effect_back s next a m after lane asked given events named asks step sets on =
+    effect_back : (n : ℕ) (order : List Taken) (s next : State) (a m after : Lanes) (lane : ℕ) (asked : Call)
+        (given : Reply) (events : List Event) {t : State} {b : Lanes} → AreNamed name a m → m lane ≡ Asks asked →
+        Both limits (by_name s) asked given next → Sets m after lane (Gets given) →
+        ((one : State) (c : Lanes) → next ≡ by_name one → AreNamed name c after →
+        IsInWords n order events one c t b) → IsInWords n (taken_at n (lane, given) ∷ order) events s a t b
+    effect_back n order s next a m after lane asked given events {t} {b} named asks step sets on =
         by (asks_back name (a lane) (sym (named lane) ∙ asks))
       where
-        by : AsksBack name (a lane) asked → Survives (Both limits) events s a
-        by back = survives_effect (Both limits) lane back.call one.reply back.asks one.step
-            (sets_of a lane (Gets one.reply)) (on one.next (set_of a lane (Gets one.reply)) one.there_is
-            (named_then name lane named (sets_of a lane (Gets one.reply))
-            (subst (λ (r : Reply). Sets m after lane (Gets r)) one.same sets)))
+        by : AsksBack name (a lane) asked → IsInWords n (taken_at n (lane, given) ∷ order) events s a t b
+        by back = record {
+          words = taken_at n (lane, one.reply) ∷ rest.words;
+          order_is = λ i. taken_at n (lane, one.same i) ∷ rest.order_is i;
+          state = rest.state;
+          last = rest.last;
+          way = by_taken lane back.call one.reply back.asks one.step (sets_of a lane (Gets one.reply)) rest.way;
+          there_is = rest.there_is;
+          named = rest.named;
+        }
           where
             one : BackStep s back.call given next
             one = both_back s next back.call given
                 (subst (λ (c : Call). Both limits (by_name s) c given next) back.same step)
 
+            rest : IsInWords n order events one.next (set_of a lane (Gets one.reply)) t b
+            rest = on one.next (set_of a lane (Gets one.reply)) one.there_is
+                (named_then name lane named (sets_of a lane (Gets one.reply))
+                (subst (λ (r : Reply). Sets m after lane (Gets r)) one.same sets))
+
     -- and an event happens in both
-    event_back : (event : Event) (s : State) (a m after : Lanes) (events : List Event) → AreNamed name a m →
-        Happens (event_by name event) m after → ((b : Lanes) → AreNamed name b after →
-        Survives (Both limits) events s b) → Survives (Both limits) (event ∷ events) s a
-    event_back (Begins lane call) s a m after events named happens on =
-        survives_event (Both limits) (Begins lane call)
+    next_back : (n : ℕ) (order : List Taken) (event : Event) {events : List Event} {s t : State} {a after b : Lanes} →
+        Happens event a after → IsInWords (n + 1) order events s after t b →
+        IsInWords n order (event ∷ events) s a t b
+    next_back n order event happens rest = record {
+      words = rest.words;
+      order_is = rest.order_is;
+      state = rest.state;
+      last = rest.last;
+      way = by_next event happens rest.way;
+      there_is = rest.there_is;
+      named = rest.named;
+    }
+
+    event_back : (n : ℕ) (order : List Taken) (event : Event) (s : State) (a m after : Lanes) (events : List Event)
+        {t : State} {b : Lanes} → AreNamed name a m → Happens (event_by name event) m after →
+        ((c : Lanes) → AreNamed name c after → IsInWords (n + 1) order events s c t b) →
+        IsInWords n order (event ∷ events) s a t b
+    event_back n order (Begins lane call) s a m after events named happens on =
+        next_back n order (Begins lane call)
         (idle_back name (a lane) (sym (named lane) ∙ happens.0), sets_of a lane (Asks call))
         (on (set_of a lane (Asks call)) (named_then name lane named (sets_of a lane (Asks call)) happens.1))
-    event_back (Returns lane reply) s a m after events named happens on =
-        survives_event (Both limits) (Returns lane reply)
+    event_back n order (Returns lane reply) s a m after events named happens on =
+        next_back n order (Returns lane reply)
         (gets.gets ∙ ap Gets (reply_same gets.reply reply gets.same), sets_of a lane Idle)
         (on (set_of a lane Idle) (named_then name lane named (sets_of a lane Idle) happens.1))
       where
         gets : GetsBack name (a lane) (reply_by name reply)
         gets = gets_back name (a lane) (sym (named lane) ∙ happens.0)
-    event_back (Withdraws lane) s a m after events named happens on =
-        survives_event (Both limits) (Withdraws lane) (asks.call, asks.asks, sets_of a lane Idle)
+    event_back n order (Withdraws lane) s a m after events named happens on =
+        next_back n order (Withdraws lane) (asks.call, asks.asks, sets_of a lane Idle)
         (on (set_of a lane Idle) (named_then name lane named (sets_of a lane Idle) happens.2))
       where
         asks : AsksBack name (a lane) happens.0
         asks = asks_back name (a lane) (sym (named lane) ∙ happens.1)
 
-    back : {es : List Event} {s' t' : State} {m b : Lanes} → Leads (Both limits) es s' m t' b →
-        (events : List Event) → es ≡ map (event_by name) events → (s : State) → s' ≡ by_name s → (a : Lanes) →
-        AreNamed name a m → Survives (Both limits) events s a
-    back leads_nowhere [] same s there a named = record { state = s; last = a; way = leads_nowhere }
-    back leads_nowhere (event ∷ events) same s there a named = cc
-    back (by_event e happens rest) [] same s there a named = cc
-    back {m = m} (by_effect {next = next} {after = after} lane call given asks step sets rest) events same s there a
-        named = effect_back s next a m after lane call given events named asks
+    pub back : {n : ℕ} {order : List Taken} {es : List Event} {s' t' : State} {m b : Lanes} →
+        LeadsBy (Both limits) n order es s' m t' b → (events : List Event) → es ≡ map (event_by name) events →
+        (s : State) → s' ≡ by_name s → (a : Lanes) → AreNamed name a m → IsInWords n order events s a t' b
+    back led_nowhere [] same s there a named = record {
+      words = [];
+      order_is = refl;
+      state = s;
+      last = a;
+      way = led_nowhere;
+      there_is = there;
+      named = named;
+    }
+    back led_nowhere (event ∷ events) same s there a named = cc
+    back (by_next e happens rest) [] same s there a named = cc
+    back {n = n} {m = m} (by_taken {order = order} {next = next} {after = after} lane call given asks step sets rest)
+        events same s there a named = effect_back n order s next a m after lane call given events named asks
         (subst (λ (z : State). Both limits z call given next) there step) sets
-        (λ one b then_named names. back rest events same one then_named b names)
-    back {m = m} (by_event {after = after} e happens rest) (event ∷ events) same s there a named =
-        event_back event s a m after events named
+        (λ one c then_named names. back rest events same one then_named c names)
+    back {n = n} {order = order} {m = m} (by_next {after = after} e happens rest) (event ∷ events) same s there a
+        named = event_back n order event s a m after events named
         (subst (λ (x : Event). Happens x m after) (first_same same) happens)
-        (λ b names. back rest events (rest_same same) s there b names)
+        (λ c names. back rest events (rest_same same) s there c names)
+
+-- an order in which calls took effect by name, in words
+pub order_in_words : (limits : Bounds) (name : Names) (content : List ℕ) (events : List Event) (order : List Taken)
+    (s : State) (lanes : Lanes) → (different : AreDifferent name) →
+    LeadsBy (Both limits) 0 order (map (event_by name) events) ([], name content) all_idle s lanes →
+    IsInWords name different limits 0 order events ([], content) all_idle s lanes
+order_in_words limits name content events order s lanes different way =
+    back name different limits way events refl ([], content) refl all_idle (λ v. refl)
 
 pub names_dont_matter : Rattle.stamp_runs.specs.RunLaws.NamesDontMatter
 names_dont_matter limits name content events different = (
-  (λ way. forth name different limits way.way all_idle (λ v. refl)),
-  λ way. back name different limits way.way events refl ([], content) refl all_idle (λ v. refl),
+  (λ explained. let on = forth name different limits explained.way all_idle (λ v. refl) in
+      record { state = by_name name different limits explained.state; last = on.last; way = on.way }),
+  λ explained. let order = order_on (Both limits) explained.way 0 in
+      let on = order_in_words limits name content events order.0 explained.state explained.last different order.1 in
+      record { state = on.state; last = on.last; way = leads_of (Both limits) on.way },
 )
 
 -- the same of the first events

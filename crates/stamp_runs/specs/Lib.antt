@@ -6,6 +6,7 @@ pub mod OneWord
 pub mod Names
 pub mod Pairs
 pub mod Own
+pub mod Renaming
 pub mod Watching
 pub mod Position
 pub mod Stepping

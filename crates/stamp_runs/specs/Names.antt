@@ -29,3 +29,18 @@ abbrev pub event_by : Names → Event → Event
 event_by name (Begins lane call) = Begins lane (call_by name call)
 event_by name (Returns lane reply) = Returns lane (reply_by name reply)
 event_by name (Withdraws lane) = Withdraws lane
+
+-- so it is of each content that a call, a reply and an event tell
+abbrev pub EachOfCall : (List ℕ → Type 0) → Call → Type 0
+EachOfCall P (Put words) = P words
+EachOfCall P (PutIf expected words) = P expected × P words
+EachOfCall P call = Unit {0}
+
+abbrev pub EachOfReply : (List ℕ → Type 0) → Reply → Type 0
+EachOfReply P (Content words) = P words
+EachOfReply P reply = Unit {0}
+
+abbrev pub EachOfEvent : (List ℕ → Type 0) → Event → Type 0
+EachOfEvent P (Begins lane call) = EachOfCall P call
+EachOfEvent P (Returns lane reply) = EachOfReply P reply
+EachOfEvent P (Withdraws lane) = Unit {0}

@@ -1,6 +1,6 @@
 -- The laws of runs, of the sets of configurations that a judge keeps, and of positions; of any object.
 use Rattle.std.specs.Prelude.{ℕ, ◌≡◌, ◌≢◌, ◌↔◌, ◌++◌, Bool, true, false, List, [], ◌∷◌, None, length, map}
-use Rattle.std.specs.List.{Contains}
+use Rattle.std.specs.List.{All, Contains}
 use Rattle.stamp_core.specs.Limits.{Bounds}
 use Rattle.stamp_core.specs.declared.call.Call.{Call}
 use Rattle.stamp_core.specs.declared.call.Call.TheVariants.{Get, Put, PutIf}
@@ -11,10 +11,11 @@ use Rattle.stamp_runs.specs.declared.event.Event.TheVariants.{Begins, Returns, W
 use Rattle.stamp_runs.specs.LockRun.{DoSame}
 use Rattle.stamp_runs.specs.BothRun.{Both}
 use Rattle.stamp_runs.specs.Merged.{Ascends, Merges, among_all}
-use Rattle.stamp_runs.specs.Names.{AreDifferent, Names, event_by}
+use Rattle.stamp_runs.specs.Names.{AreDifferent, EachOfEvent, Names, event_by}
 use Rattle.stamp_runs.specs.Object.{LockStep, Object, RecordStep}
 use Rattle.stamp_runs.specs.Own.{AreInForm, open_after, own_events, own_from}
 use Rattle.stamp_runs.specs.Pairs.{Of, Pair, not_of}
+use Rattle.stamp_runs.specs.Renaming.{EachPossible, GoesBy, HasOneName, IsOvertaken}
 use Rattle.stamp_runs.specs.Run.{AreAlike, AreExplainedFrom, AreStuckFrom, DoesAs, EndsBy, EndsNever, GoesFirst, Lanes}
 use Rattle.stamp_runs.specs.Run.{Leads, ReturnsSooner, Sets, Survives, all_idle}
 use Rattle.stamp_runs.specs.Run.Phase.{Asks, Gets}
@@ -131,6 +132,37 @@ StuckByAnyNames =
     (limits : Bounds) (name : Names) (content : List ℕ) (events : List Event) (k : ℕ) → AreDifferent name →
     AreStuckFrom (Both limits) ([], content) events k ↔
     AreStuckFrom (Both limits) ([], name content) (map (event_by name) events) k
+
+-- So it is where the names change along the run: it is explained exactly where it is by the names of each moment, and
+-- stuck where it is by them.
+abbrev pub NamesMayChange : Type 0
+NamesMayChange =
+    (limits : Bounds) (content first : List ℕ) (name : Names) (events small : List Event) →
+    GoesBy limits content first name events small →
+    AreExplainedFrom (Both limits) ([], content) events ↔ AreExplainedFrom (Both limits) ([], first) small
+
+abbrev pub StuckByChangingNames : Type 0
+StuckByChangingNames =
+    (limits : Bounds) (content first : List ℕ) (name : Names) (events small : List Event) (k : ℕ) →
+    GoesBy limits content first name events small →
+    AreStuckFrom (Both limits) ([], content) events k ↔ AreStuckFrom (Both limits) ([], first) small k
+
+-- All contents that may be held are that at first and those that the events tell.
+abbrev pub HeldAreTold : Type 0
+HeldAreTold =
+    (limits : Bounds) (content : List ℕ) (events : List Event) (name other : Names) → HasOneName name other content →
+    All (EachOfEvent (HasOneName name other)) events → EachPossible (HasOneName name other) limits content events
+
+-- Where a past is overtaken, all that may be held are those that were told since.
+abbrev pub OvertakenAreForgotten : Type 0
+OvertakenAreForgotten =
+    (limits : Bounds) (content : List ℕ) (past since : List Event) (name other : Names) → IsOvertaken past since →
+    All (EachOfEvent (HasOneName name other)) since →
+    EachPossible (HasOneName name other) limits content (past ++ since)
+
+-- It stays overtaken as more events come.
+abbrev pub OvertakenStays : Type 0
+OvertakenStays = (past since more : List Event) → IsOvertaken past since → IsOvertaken past (since ++ more)
 
 -- A run that is explained is in form.
 abbrev pub ExplainedInForm : {S : Type 0} → Object S → Type 0

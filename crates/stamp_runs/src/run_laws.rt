@@ -5,7 +5,7 @@ ghost use Rattle.stamp_core.specs.Limits.{Bounds};
 ghost use Rattle.stamp_runs.specs.BothRun.{Both};
 ghost use Rattle.stamp_runs.specs.Object.{LockStep, RecordStep};
 ghost use Rattle.stamp_runs.specs.Pairs.{not_of};
-ghost use Rattle.stamp_runs.specs.RunLaws.{AtOnceLosesNothing, BeginsGoOn, EndlessAlikeFirst, EndlessMayAsk, ExplainedApart, ExplainedByOwn, ExplainedInForm, FreeCovers, FreeOrAsks, HiddenAlikeFirst, HiddenIsPossible, HiddenLosesNothing, HiddenWithReaders, KeptStand, LockOverwritesNever, NamesDontMatter, OpeningStands, OrderSettles, OrderTells, OrdersAscend, OrdersMerge, OthersStay, OverwritingIsPossible, OverwritingLosesNothing, OwnEventsGoOn, OwnEventsTell, PositionsGoOn, PositionsTell, PutsOverwrite, ReadersLoseNothing, ReadsChangeNothing, ReturnsGoOn, SameAreAlike, SoonerAlikeFirst, StuckByAnyNames, StuckIsExact, ToldGoesFirst, TraceLeads, TracesGoOn, WithdrawsGoOn};
+ghost use Rattle.stamp_runs.specs.RunLaws.{AtOnceLosesNothing, BeginsGoOn, EndlessAlikeFirst, EndlessMayAsk, ExplainedApart, ExplainedByOwn, ExplainedInForm, FreeCovers, FreeOrAsks, HeldAreTold, HiddenAlikeFirst, HiddenIsPossible, HiddenLosesNothing, HiddenWithReaders, KeptStand, LockOverwritesNever, NamesDontMatter, NamesMayChange, OpeningStands, OrderSettles, OrderTells, OrdersAscend, OrdersMerge, OthersStay, OvertakenAreForgotten, OvertakenStays, OverwritingIsPossible, OverwritingLosesNothing, OwnEventsGoOn, OwnEventsTell, PositionsGoOn, PositionsTell, PutsOverwrite, ReadersLoseNothing, ReadsChangeNothing, ReturnsGoOn, SameAreAlike, SoonerAlikeFirst, StuckByAnyNames, StuckByChangingNames, StuckIsExact, ToldGoesFirst, TraceLeads, TracesGoOn, WithdrawsGoOn};
 ghost use Rattle.stamp_runs.specs.WorkedEqual.{EqualReturns};
 ghost use Rattle.stamp_runs.specs.WorkedReturns.{GetReturns, PutReturns};
 
@@ -62,6 +62,21 @@ pub fn explained_by_own()
 pub fn names_dont_matter()
     ensures explained { NamesDontMatter }
     ensures stuck { StuckByAnyNames }
+{}
+
+/// Names of contents may change along a run: it is explained exactly where it is by the names of each moment, if others
+/// than before are the same for each content that may be held then, and stuck where it is.
+pub fn names_may_change()
+    ensures explained { NamesMayChange }
+    ensures stuck { StuckByChangingNames }
+{}
+
+/// A content may be forgotten once calls that began later have overtaken all that may hold it, if it was not told since:
+/// no configuration holds it that is possible then, nor one that comes of those.
+pub fn overtaken_are_forgotten()
+    ensures all { HeldAreTold }
+    ensures overtaken { OvertakenAreForgotten }
+    ensures stays { OvertakenStays }
 {}
 
 /// A run that is explained is in form.

@@ -17,7 +17,8 @@ use Rattle.stamp_sets.specs.inner.Effect.{Settles}
 use Rattle.stamp_sets.specs.inner.Effect.Settles.{as_it_is, one_more}
 use Rattle.stamp_sets.specs.inner.Lanes.{lanes_in}
 use Rattle.stamp_sets.specs.inner.Layer.{Adds, AreReturned, Expands, FollowsIt, FollowsOne, IsComeTo}
-use Rattle.stamp_sets.specs.inner.Layer.{IsLookedAt, IsReturnedFrom, IsUnderWay, LooksAt, LooksThrough}
+use Rattle.stamp_sets.specs.Tracing.{IsReturnedFrom}
+use Rattle.stamp_sets.specs.inner.Layer.{IsLookedAt, IsUnderWay, LooksAt, LooksThrough}
 use Rattle.stamp_sets.specs.inner.Layer.{MoreFollow, ReturnsFromOne, ReturnsTo}
 use Rattle.stamp_sets.specs.inner.Layer.IsComeTo.{by_effect, from_start}
 use Rattle.stamp_sets.specs.inner.Start.{Includes}

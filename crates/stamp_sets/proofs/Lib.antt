@@ -28,4 +28,7 @@ pub mod Expanding
 pub mod Layering
 pub mod Starting
 pub mod Thinning
+pub mod Numbering
+pub mod MergingOrders
+pub mod Ordering
 pub mod Pairing

@@ -1,6 +1,6 @@
 -- A watch of two halves, by what each of them keeps.
 use Rattle.std.proofs.Common.{◌≡◌, ◌≢◌, ◌⊎◌, ◌≤◌, ◌<◌, ℕ, Bool, true, false, List, [], ◌∷◌, ◌++◌, Option, Some, None}
-use Rattle.std.proofs.Common.{refl, sym, ◌∙◌, ap, subst, inl, inr, append-nil, arith}
+use Rattle.std.proofs.Common.{◌+◌, length, refl, sym, ◌∙◌, ap, subst, inl, inr, append-nil, arith}
 use Rattle.std.specs.Prelude.{if◌then◌else◌, not, option_map, slice_set, ◌↔◌, IsSome}
 use Rattle.std.specs.Option.{option_or}
 use Rattle.std.proofs.lemmas.Bool.{cases_eq}
@@ -12,7 +12,7 @@ use Rattle.stamp_core.specs.declared.reply.Reply.{Reply}
 use Rattle.stamp_runs.specs.BothRun.{AreExplained, Both, start}
 use Rattle.stamp_runs.specs.Object.{LockStep, RecordStep}
 use Rattle.stamp_runs.specs.Own.{AreInForm, AreInFormFrom, MayCome, is_own, is_own_call, none_open, open_then, own_from}
-use Rattle.stamp_runs.specs.Own.{open_after, own_events}
+use Rattle.stamp_runs.specs.Own.{open_after, own_events, own_numbers}
 use Rattle.stamp_runs.specs.Run.{AreExplainedFrom, lane_of}
 use Rattle.stamp_runs.specs.declared.event.Event.{Event}
 use Rattle.stamp_runs.specs.declared.event.Event.TheVariants as event
@@ -29,6 +29,7 @@ use Rattle.stamp_sets.specs.declared.object.Object.TheVariants.{Lock}
 use Rattle.stamp_sets.specs.declared.open_call.OpenCall.{OpenCall}
 use Rattle.stamp_sets.specs.declared.progress.Progress.{Progress}
 use Rattle.stamp_sets.specs.declared.progress.Progress.TheVariants.{Going, Dead, TooMany, Refused}
+use Rattle.stamp_sets.specs.declared.trace.Trace.{Trace}
 use Rattle.stamp_sets.specs.declared.watch.Watch.{Watch}
 use Rattle.stamp_sets.specs.Half.{IsSameHalf, KeepsRun}
 use Rattle.stamp_sets.specs.inner.Half.{ExplainsIn, ExplainsNone, KeepsSome}
@@ -38,8 +39,10 @@ use Rattle.stamp_sets.specs.Told.{ComesAsTold, EndsSo, open_at}
 use Rattle.stamp_sets.specs.Watch.{IsCopy, IsHopeless, IsWatching, KeepsOwn, SetsOpen, is_record_call, open_of}
 use Rattle.stamp_sets.specs.Watch.{own_open}
 use Rattle.stamp_sets.specs.Watch.{IsProgress, IsWatched}
+use Rattle.stamp_sets.specs.Tracing.{IsTracing, KeepsTrace, TracesOwn}
 use Rattle.stamp_sets.specs.inner.Pair.{GoesOnBy, IsAnswer}
 use Rattle.stamp_sets.proofs.Halves.{keeps_copied, keeps_later, lane_of_open}
+use Rattle.stamp_sets.proofs.Numbering.{all_numbers, numbers_one}
 use Rattle.stamp_sets.proofs.Tables.{open_at_set_here, open_at_set_none, open_at_set_other}
 
 abbrev pub asked : OpenCall → Call
@@ -268,6 +271,27 @@ module _ (mine : Call → Bool) (past : List Event) (last place : ℕ) (e : Even
     }) (sym (of.leaves_none mine other));
   }
 
+  -- so it is where it is traced
+  own_traced : mine call ≡ true → (new : Half) (trace later : Trace) (number : ℕ) → number ≡ length past →
+      TracesOwn mine past half trace → KeepsTrace (own_events mine past ++ e ∷ []) new later →
+      (trace.is_on ≡ true → later.numbers ≡ trace.numbers ++ number ∷ []) →
+      TracesOwn mine (past ++ e ∷ []) new later
+  own_traced is new trace later number counted old traced told = record {
+    keeps = subst (λ (es : List Event). KeepsTrace es new later) (sym (own_one true (of.owned mine ∙ is))) traced;
+    numbers = told old.keeps.on ∙ ap (λ (ns : List ℕ). ns ++ number ∷ []) old.numbers ∙
+        ap (λ (n : ℕ). own_numbers mine past ++ n ∷ []) counted ∙
+        sym (numbers_one mine past e true (of.owned mine ∙ is));
+  }
+
+  other_traced : mine call ≡ false → (trace : Trace) → TracesOwn mine past half trace →
+      TracesOwn mine (past ++ e ∷ []) half trace
+  other_traced other trace old = record {
+    keeps = subst (λ (es : List Event). KeepsTrace es half trace)
+        (sym (own_one false (of.owned mine ∙ other) ∙ append-nil (own_events mine past))) old.keeps;
+    numbers = old.numbers ∙
+        sym (numbers_one mine past e false (of.owned mine ∙ other) ∙ append-nil (own_numbers mine past));
+  }
+
 -- the open calls of both halves are those of the run
 pub watching_lanes : (past : List Event) (watch : Watch) → IsWatching past watch → (lane : ℕ) →
     option_map asked (open_of watch lane) ≡ open_after past lane
@@ -333,12 +357,15 @@ module _ (watch : Watch) (watched : IsWatched watch) where
 -- a watch goes on by an event of one of its halves
 module _ (old : Watch) (watched : IsWatched old) (e : Event) (b : OpenCall) (slot : Option OpenCall) (place : ℕ)
     (of : (past : List Event) → IsWatching past old → IsOf (open_after past) e (asked b) slot)
-    (due : old.last ≤ place) (moved : Half) where
+    (due : old.last ≤ place) (moved : Half) (trace : Trace) (number : ℕ)
+    (counted : number ≡ length old.lock_trace.numbers + length old.record_trace.numbers) where
   abbrev by_lock : Watch
   by_lock = record {
     limits = old.limits;
     lock = moved;
     «record» = old.record;
+    lock_trace = trace;
+    record_trace = old.record_trace;
     last = place;
   }
 
@@ -347,25 +374,36 @@ module _ (old : Watch) (watched : IsWatched old) (e : Event) (b : OpenCall) (slo
     limits = old.limits;
     lock = old.lock;
     «record» = moved;
+    lock_trace = old.lock_trace;
+    record_trace = trace;
     last = place;
   }
+
+  -- the number of the event among all
+  is_number : (past : List Event) → IsTracing past old → number ≡ length past
+  is_number past is = counted ∙
+      ap (λ (ns : List ℕ). length ns + length old.record_trace.numbers) is.lock.numbers ∙
+      ap (λ (ns : List ℕ). length (own_numbers is_lock_call past) + length ns) is.record.numbers ∙
+      all_numbers is_lock_call past is.watching.form
 
   form_on : (past : List Event) → IsWatching past old → AreInForm (past ++ e ∷ [])
   form_on past is = form_of_both none_open past (e ∷ []) is.form ((of past is).comes, tt)
 
   pub lock_goes_on : is_lock_call (asked b) ≡ true → moved.object ≡ old.lock.object →
       ((past : List Event) → KeepsRun past old.last old.lock → KeepsRun (past ++ e ∷ []) place moved) →
+      (old.lock_trace.is_on ≡ true → trace.numbers ≡ old.lock_trace.numbers ++ number ∷ []) →
+      ((past : List Event) → KeepsTrace past old.lock old.lock_trace → KeepsTrace (past ++ e ∷ []) moved trace) →
       SetsOpen (open_at old.lock.table.items) (open_at moved.table.items) (lane_of e) slot →
       GoesOnBy e slot place old by_lock
-  lock_goes_on lock same keeps sets = record {
-    watching = λ past is. record {
-      form = form_on past is;
-      lock_is = same ∙ is.lock_is;
-      record_is = is.record_is;
-      lock = own_moves is_lock_call past old.last place e (asked b) slot (of past is) old.lock is.lock lock moved
-          (keeps (own_events is_lock_call past) is.lock.keeps) sets;
-      «record» = other_stays is_record_call past old.last place e (asked b) slot (of past is) old.record is.record
-          (ap not lock) due;
+  lock_goes_on lock same keeps told traces sets = record {
+    watching = watching;
+    tracing = λ past is. record {
+      watching = watching past is.watching;
+      lock = own_traced is_lock_call past old.last place e (asked b) slot (of past is.watching) old.lock
+          is.watching.lock lock moved old.lock_trace trace number (is_number past is) is.lock
+          (traces (own_events is_lock_call past) is.lock.keeps) told;
+      «record» = other_traced is_record_call past old.last place e (asked b) slot (of past is.watching) old.record
+          is.watching.record (ap not lock) old.record_trace is.record;
     };
     opens = record {
       here = ap (λ (o : Option OpenCall). option_or o (open_at old.record.table.items (lane_of e))) sets.here ∙
@@ -379,19 +417,33 @@ module _ (old : Watch) (watched : IsWatched old) (e : Event) (b : OpenCall) (slo
     last = refl;
     limits = refl;
   }
+    where
+      watching : (past : List Event) → IsWatching past old → IsWatching (past ++ e ∷ []) by_lock
+      watching past is = record {
+        form = form_on past is;
+        lock_is = same ∙ is.lock_is;
+        record_is = is.record_is;
+        lock = own_moves is_lock_call past old.last place e (asked b) slot (of past is) old.lock is.lock lock moved
+            (keeps (own_events is_lock_call past) is.lock.keeps) sets;
+        «record» = other_stays is_record_call past old.last place e (asked b) slot (of past is) old.record is.record
+            (ap not lock) due;
+      }
 
   pub record_goes_on : is_lock_call (asked b) ≡ false → moved.object ≡ old.record.object →
       ((past : List Event) → KeepsRun past old.last old.record → KeepsRun (past ++ e ∷ []) place moved) →
+      (old.record_trace.is_on ≡ true → trace.numbers ≡ old.record_trace.numbers ++ number ∷ []) →
+      ((past : List Event) → KeepsTrace past old.record old.record_trace → KeepsTrace (past ++ e ∷ []) moved trace) →
       SetsOpen (open_at old.record.table.items) (open_at moved.table.items) (lane_of e) slot →
       GoesOnBy e slot place old by_record
-  record_goes_on other same keeps sets = record {
-    watching = λ past is. record {
-      form = form_on past is;
-      lock_is = is.lock_is;
-      record_is = same ∙ is.record_is;
-      lock = other_stays is_lock_call past old.last place e (asked b) slot (of past is) old.lock is.lock other due;
-      «record» = own_moves is_record_call past old.last place e (asked b) slot (of past is) old.record is.record
-          (ap not other) moved (keeps (own_events is_record_call past) is.record.keeps) sets;
+  record_goes_on other same keeps told traces sets = record {
+    watching = watching;
+    tracing = λ past is. record {
+      watching = watching past is.watching;
+      lock = other_traced is_lock_call past old.last place e (asked b) slot (of past is.watching) old.lock
+          is.watching.lock other old.lock_trace is.lock;
+      «record» = own_traced is_record_call past old.last place e (asked b) slot (of past is.watching) old.record
+          is.watching.record (ap not other) moved old.record_trace trace number (is_number past is) is.record
+          (traces (own_events is_record_call past) is.record.keeps) told;
     };
     opens = record {
       here = ap (λ (o : Option OpenCall). option_or o (open_at moved.table.items (lane_of e)))
@@ -403,6 +455,16 @@ module _ (old : Watch) (watched : IsWatched old) (e : Event) (b : OpenCall) (slo
     last = refl;
     limits = refl;
   }
+    where
+      watching : (past : List Event) → IsWatching past old → IsWatching (past ++ e ∷ []) by_record
+      watching past is = record {
+        form = form_on past is;
+        lock_is = is.lock_is;
+        record_is = same ∙ is.record_is;
+        lock = other_stays is_lock_call past old.last place e (asked b) slot (of past is) old.lock is.lock other due;
+        «record» = own_moves is_record_call past old.last place e (asked b) slot (of past is) old.record is.record
+            (ap not other) moved (keeps (own_events is_record_call past) is.record.keeps) sets;
+      }
 
 -- what its halves say says the watch
 module _ (past : List Event) (watch : Watch) (is : IsWatching past watch) where

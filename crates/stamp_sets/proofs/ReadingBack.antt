@@ -1,9 +1,9 @@
 -- An order that is read back from a trail.
 use Rattle.std.proofs.Common.{ℕ, suc, ◌≡◌, ◌<◌, ◌≤◌, ◌+◌, ◌-◌, Bool, true, false, List, [], ◌∷◌, ◌++◌}
 use Rattle.std.proofs.Common.{◌≢◌, ◌⊎◌, inl, inr, refl, sym, ◌∙◌, ap, subst, arith, append-nil, append_assoc}
-use Rattle.std.specs.Prelude.{map, reverse, if◌then◌else◌}
+use Rattle.std.specs.Prelude.{map, reverse, take, if◌then◌else◌}
 use Rattle.std.proofs.lemmas.Bool.{cases_eq}
-use Rattle.std.proofs.lemmas.List.{map-append, reverse-append, reverse-reverse}
+use Rattle.std.proofs.lemmas.List.{map-append, reverse-append, reverse-reverse, take_more}
 use Rattle.std.specs.Int.{bit_at}
 use Rattle.stamp_core.specs.declared.reply.Reply.{Reply}
 use Rattle.stamp_runs.specs.Trace.{Move, Taken, order_from, order_of, taken_at}
@@ -14,22 +14,31 @@ use Rattle.stamp_sets.specs.declared.position.Position.{Position}
 use Rattle.stamp_sets.specs.declared.trail.Entry.{Entry}
 use Rattle.stamp_sets.specs.declared.trail.Entry.TheVariants.{Begins, Comes, Returns, Withdraws}
 use Rattle.stamp_sets.specs.declared.trail.Link.{Link}
-use Rattle.stamp_sets.specs.inner.Layer.{IsReturnedFrom}
-use Rattle.stamp_sets.specs.inner.Order.{WalksTo, at_point, effect_at, lanes_at, turns_of}
+use Rattle.stamp_sets.specs.Tracing.{IsReturnedFrom}
+use Rattle.stamp_sets.specs.Order.{effect_at}
+use Rattle.stamp_sets.specs.inner.Order.{WalksTo, at_point, lanes_at, turns_of}
 use Rattle.stamp_sets.specs.Lanes.{SetsBit}
 use Rattle.stamp_sets.specs.declared.trail.Way.{Way}
 use Rattle.stamp_sets.specs.declared.trail.Way.TheVariants.{Fixes, Takes, Frees, Hides}
-use Rattle.stamp_sets.specs.inner.Trail.{IsSaidBy, Says, events_in, is_reader, lane_in, moves_by, read_at}
-use Rattle.stamp_sets.specs.inner.Trail.{readers_from, readers_of}
+use Rattle.stamp_sets.specs.Tracing.{IsSaidBy, Says, events_in, is_reader, lane_in, moves_by, read_at}
+use Rattle.stamp_sets.specs.Tracing.{readers_from, readers_of}
 use Rattle.stamp_sets.specs.declared.open_call.OpenCall.{OpenCall}
 use Rattle.stamp_sets.specs.Judged.{Judged}
 use Rattle.stamp_sets.specs.inner.Order.{IsOrderOf}
-use Rattle.stamp_sets.specs.inner.Trail.{IsTracedBy}
-use Rattle.std.proofs.Common.{Option}
+use Rattle.stamp_sets.specs.Tracing.{IsTracedBy}
+use Rattle.std.proofs.Common.{Option, length, get_or}
 use Rattle.stamp_runs.specs.Position.Hidden.{no_more}
 use Rattle.stamp_runs.specs.declared.event.Event.{Event}
 use Rattle.stamp_runs.proofs.Tracing.{trace_leads}
 use Rattle.stamp_sets.proofs.Trailed.{same_number}
+
+-- the last element before a place is the first one of those read back
+pub last_first : {X : Type 0} (xs : List X) (place : ℕ) (d : X) → 0 < place → place ≤ length xs →
+    reverse (take place xs) ≡ get_or xs (place - 1) d ∷ reverse (take (place - 1) xs)
+last_first {X} xs place d some within =
+    ap (λ (n : ℕ). reverse (take n xs)) (omega (arith, some)) ∙
+    ap (λ (ys : List X). reverse ys) (take_more xs (place - 1) d (omega (arith, some, within))) ∙
+    reverse-append (take (place - 1) xs) (get_or xs (place - 1) d ∷ [])
 
 readers_by : (link : Link) (k n : ℕ) (b : Bool) → is_reader link k ≡ b → readers_from link k (suc n) ≡
     (if b then k ∷ readers_from link (k + 1) n else readers_from link (k + 1) n)
@@ -94,7 +103,7 @@ lanes_more point xs ys zs calls call so_far pushed = pushed ∙
     ap (λ (es : List EffectAt). ys ++ es)
     (sym (map-append (λ (x : EffectAt). at_point point x.lane) calls (call ∷ [])))
 
-map_reverse : {A B : Type 0} (f : A → B) (xs : List A) → map f (reverse xs) ≡ reverse (map f xs)
+pub map_reverse : {A B : Type 0} (f : A → B) (xs : List A) → map f (reverse xs) ≡ reverse (map f xs)
 map_reverse f [] = refl
 map_reverse f (x ∷ xs) = ap (map f) (reverse-append (x ∷ []) xs) ∙ map-append f (reverse xs) (x ∷ []) ∙
     ap (λ ys. ys ++ f x ∷ []) (map_reverse f xs) ∙ sym (reverse-append (f x ∷ []) (map f xs))

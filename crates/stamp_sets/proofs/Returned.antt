@@ -46,7 +46,8 @@ use Rattle.stamp_sets.specs.inner.Effect.{GivesWayAmong, GoesBefore, IsEffect, I
 use Rattle.stamp_sets.specs.inner.Effect as unseen
 use Rattle.stamp_sets.specs.inner.Effect.{IsLeftOut}
 use Rattle.stamp_sets.specs.inner.Layer.{ComesAmong, FollowsIt, IsComeTo, IsExpanded, IsLookedAt}
-use Rattle.stamp_sets.specs.inner.Layer.{IsReturnedFrom, ReturnsFromOne}
+use Rattle.stamp_sets.specs.Tracing.{IsReturnedFrom}
+use Rattle.stamp_sets.specs.inner.Layer.{ReturnsFromOne}
 use Rattle.stamp_sets.specs.inner.Layer.IsComeTo.{by_effect, from_start}
 use Rattle.stamp_sets.specs.inner.Start.{HidesAmong, HidesInVain, HidesOne, Includes, IsFixed, IsHidden, IsHiddenFor}
 use Rattle.stamp_sets.specs.inner.Start.{IsTakenFrom, IsTakenUp, IsTriedFor, StartsWith}

@@ -31,11 +31,11 @@ use Rattle.stamp_sets.specs.Judged.{Judged}
 use Rattle.stamp_sets.specs.Kept.{HasPhase, IsFreeCall, IsInEffect, Reads}
 use Rattle.stamp_sets.specs.SmallCall.{call_of, reply_of}
 use Rattle.stamp_sets.specs.Told.{MayGet, open_at}
-use Rattle.stamp_sets.specs.inner.Layer.{IsReturnedFrom}
+use Rattle.stamp_sets.specs.Tracing.{IsReturnedFrom}
 use Rattle.stamp_sets.specs.inner.Effect.{Settles}
 use Rattle.stamp_sets.specs.inner.Effect.Settles.{as_it_is, one_more}
 use Rattle.stamp_sets.specs.inner.Step.{BeginsIn}
-use Rattle.stamp_sets.specs.inner.Trail.{IsTracedBy, Says, events_in}
+use Rattle.stamp_sets.specs.Tracing.{IsTracedBy, Says, events_in}
 use Rattle.stamp_sets.proofs.Lawful.{IsLawful}
 use Rattle.stamp_sets.proofs.Reading.{bit_unset, gets_at, kinds_beside, moved, not_set, reads_set, set_bit, taken_at}
 use Rattle.stamp_sets.proofs.Reading.{unfree_at}

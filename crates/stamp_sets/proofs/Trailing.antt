@@ -32,9 +32,12 @@ use Rattle.stamp_sets.specs.Judged.{Judged}
 use Rattle.stamp_sets.specs.SmallCall.{call_of}
 use Rattle.stamp_sets.specs.inner.Effect.{AreFree, IsAfterEffect, IsOverwriting, TakesEffectTo}
 use Rattle.stamp_sets.specs.inner.Start.{HidesOne, IsFixed}
-use Rattle.stamp_sets.specs.inner.Trail.{AddsBy, AreNoted, HasNoted, IsTracedBy, IsTracedIn, events_in, moves_by}
-use Rattle.stamp_sets.specs.inner.Trail.{ReturnsTraced, read_at, readers_of, way_of}
-use Rattle.stamp_sets.specs.inner.Layer.{AreReturned, IsReturnedFrom, LooksThrough, ReturnsFromOne}
+use Rattle.stamp_sets.specs.Tracing.{IsTracedBy, events_in, moves_by}
+use Rattle.stamp_sets.specs.inner.Trail.{AddsBy, AreNoted, HasNoted, IsTracedIn}
+use Rattle.stamp_sets.specs.Tracing.{read_at, readers_of}
+use Rattle.stamp_sets.specs.inner.Trail.{ReturnsTraced, way_of}
+use Rattle.stamp_sets.specs.Tracing.{IsReturnedFrom}
+use Rattle.stamp_sets.specs.inner.Layer.{AreReturned, LooksThrough, ReturnsFromOne}
 use Rattle.stamp_sets.specs.Told.{open_at}
 use Rattle.stamp_sets.proofs.Lawful.{IsLawful, over_as, overwriting_to}
 use Rattle.stamp_sets.proofs.Layering.{none_in_nil, returned_one}
@@ -247,10 +250,10 @@ module _ {S : Type 0} (o : Judged S) (past : List Event) (table : List (Option O
         }
 
 -- the newest entry of a trail that is on
-pub newest : (old new : Trail) (entry : Entry) → HasNoted old new entry → old.is_on ≡ true →
-    entry ∷ reverse old.entries.items ≡ reverse new.entries.items
-newest old new entry noted on = sym (ap (λ (es : List Entry). reverse es) (noted.added on) ∙
-    reverse-append old.entries.items (entry ∷ []))
+pub newest : (old new : Trail) (entry : Entry) (before : List Entry) → HasNoted old new entry → old.is_on ≡ true →
+    entry ∷ (reverse old.entries.items ++ before) ≡ reverse new.entries.items ++ before
+newest old new entry before noted on = sym (ap (λ (es : List Entry). reverse es ++ before) (noted.added on) ∙
+    ap (λ (es : List Entry). es ++ before) (reverse-append old.entries.items (entry ∷ [])))
 
 -- what is noted of positions one after the other
 module _ {S : Type 0} (o : Judged S) (table : List (Option OpenCall)) where
@@ -258,39 +261,42 @@ module _ {S : Type 0} (o : Judged S) (table : List (Option OpenCall)) where
       AreNoted o table From trail trail xs xs
   noted_none From trail xs = record {
     on = refl;
-    stay = λ past on from x is. is;
-    each = λ past on from x among. inl among;
+    stay = λ past before on from x is. is;
+    each = λ past before on from x among. inl among;
   }
 
   pub noted_then : (From : Position → Type 0) (a b c : Trail) (xs ys zs : List Position) →
       AreNoted o table From a b xs ys → AreNoted o table From b c ys zs → AreNoted o table From a c xs zs
   noted_then From a b c xs ys zs first more = record {
     on = more.on ∙ first.on;
-    stay = λ past on from x is. more.stay past (first.on ∙ on) (λ p is_from. first.stay past on from p (from p
+    stay = λ past before on from x is. more.stay past before (first.on ∙ on)
+        (λ p is_from. first.stay past before on from p (from p
         is_from))
-        x (first.stay past on from x is);
-    each = λ past on from x among. by past on from x (more.each past (first.on ∙ on)
-        (λ p is_from. first.stay past on from p (from p is_from)) x among);
+        x (first.stay past before on from x is);
+    each = λ past before on from x among. by past before on from x (more.each past before (first.on ∙ on)
+        (λ p is_from. first.stay past before on from p (from p is_from)) x among);
   }
     where
-      by : (past : List Event) → a.is_on ≡ true → ((p : Position) → From p → IsTracedIn o past table a p) →
-          (x : Position) → Contains ys x ⊎ IsTracedIn o past table c x → Contains xs x ⊎ IsTracedIn o past table c x
-      by past on from x (inr is) = inr is
-      by past on from x (inl among) = after past on from x (first.each past on from x among)
+      by : (past : List Event) (before : List Entry) → a.is_on ≡ true →
+          ((p : Position) → From p → IsTracedIn o past table before a p) → (x : Position) →
+          Contains ys x ⊎ IsTracedIn o past table before c x → Contains xs x ⊎ IsTracedIn o past table before c x
+      by past before on from x (inr is) = inr is
+      by past before on from x (inl among) = after past before on from x (first.each past before on from x among)
         where
-          after : (past : List Event) → a.is_on ≡ true → ((p : Position) → From p → IsTracedIn o past table a p) →
-              (x : Position) → Contains xs x ⊎ IsTracedIn o past table b x → Contains xs x ⊎ IsTracedIn o past table
+          after : (past : List Event) (before : List Entry) → a.is_on ≡ true →
+              ((p : Position) → From p → IsTracedIn o past table before a p) → (x : Position) →
+              Contains xs x ⊎ IsTracedIn o past table before b x → Contains xs x ⊎ IsTracedIn o past table before
               c x
-          after past on from x (inl was) = inl was
-          after past on from x (inr is) = inr (more.stay past (first.on ∙ on)
-              (λ p is_from. first.stay past on from p (from p is_from)) x is)
+          after past before on from x (inl was) = inl was
+          after past before on from x (inr is) = inr (more.stay past before (first.on ∙ on)
+              (λ p is_from. first.stay past before on from p (from p is_from)) x is)
 
   pub noted_among : (From More : Position → Type 0) (a b : Trail) (xs ys : List Position) →
       ((p : Position) → From p → More p) → AreNoted o table From a b xs ys → AreNoted o table More a b xs ys
   noted_among From More a b xs ys fewer noted = record {
     on = noted.on;
-    stay = λ past on from. noted.stay past on (λ p is. from p (fewer p is));
-    each = λ past on from. noted.each past on (λ p is. from p (fewer p is));
+    stay = λ past before on from. noted.stay past before on (λ p is. from p (fewer p is));
+    each = λ past before on from. noted.each past before on (λ p is. from p (fewer p is));
   }
 
   pub noted_by : (link : Link) (From : Position → Type 0) (a b : Trail) (xs ys : List Position) →
@@ -303,42 +309,45 @@ module _ {S : Type 0} (o : Judged S) (table : List (Option OpenCall)) where
   noted_by link From a b xs ys (inr (pushed, noted)) is_from traced = record {
     on = noted.on;
     stay = stays;
-    each = λ past on from x among. by past on from x (Contains-push_cases xs link.to x
+    each = λ past before on from x among. by past before on from x (Contains-push_cases xs link.to x
         (subst (λ (zs : List Position). Contains zs x) pushed among));
   }
     where
-      then_traced : (past : List Event) (on : a.is_on ≡ true) →
-          ((p : Position) → From p → IsTracedIn o past table a p) →
-          IsTracedBy o past table (Comes link ∷ reverse a.entries.items) link.to
-      then_traced past on from = traced past (reverse a.entries.items) (from link.from is_from)
+      then_traced : (past : List Event) (before : List Entry) (on : a.is_on ≡ true) →
+          ((p : Position) → From p → IsTracedIn o past table before a p) →
+          IsTracedBy o past table (Comes link ∷ (reverse a.entries.items ++ before)) link.to
+      then_traced past before on from = traced past (reverse a.entries.items ++ before) (from link.from is_from)
 
-      stays : (past : List Event) → a.is_on ≡ true → ((p : Position) → From p → IsTracedIn o past table a p) →
-          (x : Position) → IsTracedIn o past table a x → IsTracedIn o past table b x
-      stays past on from x is = subst (λ (es : List Entry). IsTracedBy o past table es x)
-          (newest a b (Comes link) noted on) (still_traced o past table (reverse a.entries.items) link
-          (then_traced past on from) x is)
+      stays : (past : List Event) (before : List Entry) → a.is_on ≡ true →
+          ((p : Position) → From p → IsTracedIn o past table before a p) → (x : Position) →
+          IsTracedIn o past table before a x → IsTracedIn o past table before b x
+      stays past before on from x is = subst (λ (es : List Entry). IsTracedBy o past table es x)
+          (newest a b (Comes link) before noted on) (still_traced o past table (reverse a.entries.items ++ before) link
+          (then_traced past before on from) x is)
 
-      by : (past : List Event) → a.is_on ≡ true → ((p : Position) → From p → IsTracedIn o past table a p) →
-          (x : Position) → Contains xs x ⊎ (link.to ≡ x) → Contains xs x ⊎ IsTracedIn o past table b x
-      by past on from x (inl among) = inl among
-      by past on from x (inr same) = inr (subst (λ (y : Position). IsTracedIn o past table b y) same
+      by : (past : List Event) (before : List Entry) → a.is_on ≡ true →
+          ((p : Position) → From p → IsTracedIn o past table before a p) → (x : Position) →
+          Contains xs x ⊎ (link.to ≡ x) → Contains xs x ⊎ IsTracedIn o past table before b x
+      by past before on from x (inl among) = inl among
+      by past before on from x (inr same) = inr (subst (λ (y : Position). IsTracedIn o past table before b y) same
           (subst (λ (es : List Entry). IsTracedBy o past table es link.to)
-          (newest a b (Comes link) noted on) (then_traced past on from)))
+          (newest a b (Comes link) before noted on) (then_traced past before on from)))
 
   -- a position is added as it is; or fixed; or where a call was hidden, or took effect
   pub noted_itself : (p : Position) (trail : Trail) (xs ys : List Position) → ys ≡ xs ++ p ∷ [] →
       AreNoted o table (λ (x : Position). x ≡ p) trail trail xs ys
   noted_itself p trail xs ys pushed = record {
     on = refl;
-    stay = λ past on from x is. is;
-    each = λ past on from x among. by past (from p refl) x (Contains-push_cases xs p x
+    stay = λ past before on from x is. is;
+    each = λ past before on from x among. by past before (from p refl) x (Contains-push_cases xs p x
         (subst (λ (zs : List Position). Contains zs x) pushed among));
   }
     where
-      by : (past : List Event) → IsTracedIn o past table trail p → (x : Position) → Contains xs x ⊎ (p ≡ x) →
-          Contains xs x ⊎ IsTracedIn o past table trail x
-      by past is x (inl among) = inl among
-      by past is x (inr same) = inr (subst (λ (y : Position). IsTracedIn o past table trail y) same is)
+      by : (past : List Event) (before : List Entry) → IsTracedIn o past table before trail p → (x : Position) →
+          Contains xs x ⊎ (p ≡ x) →
+          Contains xs x ⊎ IsTracedIn o past table before trail x
+      by past before is x (inl among) = inl among
+      by past before is x (inr same) = inr (subst (λ (y : Position). IsTracedIn o past table before trail y) same is)
 
   pub fix_noted : (lane : ℕ) (p q : Position) → IsFixed lane p q → (a b : Trail) (xs ys : List Position) →
       ys ≡ xs ++ q ∷ [] → HasNoted a b (Comes (record { way = Fixes; lane = lane; from = p; to = q })) →
@@ -376,9 +385,10 @@ module _ {S : Type 0} (o : Judged S) (table : List (Option OpenCall)) where
   pub record IsTrailing (lane : ℕ) (start : List Position) (old now : Trail) (done layer : List Position) : Type 0
     where
       pub returns : ReturnsTraced o table lane old now start done
-      pub next : (past : List Event) → old.is_on ≡ true →
-          ((p : Position) → Contains start p → IsTracedIn o past table old p) → (x : Position) → Contains layer x →
-          IsTracedIn o past table now x
+      pub next : (past : List Event) (before : List Entry) → old.is_on ≡ true →
+          ((p : Position) → Contains start p → IsTracedIn o past table before old p) → (x : Position) →
+          Contains layer x →
+          IsTracedIn o past table before now x
 
   pub trailing_first : (lane : ℕ) (start : List Position) (old now : Trail) (none done layer : List Position) →
       none ≡ [] → done ≡ [] → AreNoted o table (Contains start) old now none layer →
@@ -386,16 +396,17 @@ module _ {S : Type 0} (o : Judged S) (table : List (Option OpenCall)) where
   trailing_first lane start old now none done layer empty nothing noted = record {
     returns = record {
       on = noted.on;
-      each = λ past on from x among. absurd (none_in_nil x
+      each = λ past before on from x among. absurd (none_in_nil x
           (subst (λ (zs : List Position). Contains zs x) nothing among));
     };
-    next = λ past on from x among. by past x (noted.each past on from x among);
+    next = λ past before on from x among. by past before x (noted.each past before on from x among);
   }
     where
-      by : (past : List Event) (x : Position) → Contains none x ⊎ IsTracedIn o past table now x →
-          IsTracedIn o past table now x
-      by past x (inl among) = absurd (none_in_nil x (subst (λ (zs : List Position). Contains zs x) empty among))
-      by past x (inr is) = is
+      by : (past : List Event) (before : List Entry) (x : Position) →
+          Contains none x ⊎ IsTracedIn o past table before now x →
+          IsTracedIn o past table before now x
+      by past before x (inl among) = absurd (none_in_nil x (subst (λ (zs : List Position). Contains zs x) empty among))
+      by past before x (inr is) = is
 
   pub trailing_next : (lane : ℕ) (start : List Position) (old now later : Trail)
       (done layer slice done_then none next : List Position) (most : ℕ) (all : Bool) → slice ≡ layer → none ≡ [] →
@@ -406,36 +417,40 @@ module _ {S : Type 0} (o : Judged S) (table : List (Option OpenCall)) where
       trailing = record {
         returns = record {
           on = noted.on ∙ trailing.returns.on;
-          each = λ past on from x among. back past on from x (looks.looks.done_only x among);
+          each = λ past before on from x among. back past before on from x (looks.looks.done_only x among);
         };
-        next = λ past on from x among. by past x (noted.each past (trailing.returns.on ∙ on) (read past on from) x
+        next = λ past before on from x among. by past before x (noted.each past before (trailing.returns.on ∙ on)
+            (read past before on from) x
             among);
       }
     where
-      read : (past : List Event) → old.is_on ≡ true →
-          ((p : Position) → Contains start p → IsTracedIn o past table old p) → (p : Position) → Contains slice p →
-          IsTracedIn o past table now p
-      read past on from p among = trailing.next past on from p
+      read : (past : List Event) (before : List Entry) → old.is_on ≡ true →
+          ((p : Position) → Contains start p → IsTracedIn o past table before old p) → (p : Position) →
+          Contains slice p →
+          IsTracedIn o past table before now p
+      read past before on from p among = trailing.next past before on from p
           (subst (λ (zs : List Position). Contains zs p) same among)
 
-      by : (past : List Event) (x : Position) → Contains none x ⊎ IsTracedIn o past table later x →
-          IsTracedIn o past table later x
-      by past x (inl among) = absurd (none_in_nil x (subst (λ (zs : List Position). Contains zs x) empty among))
-      by past x (inr is) = is
+      by : (past : List Event) (before : List Entry) (x : Position) →
+          Contains none x ⊎ IsTracedIn o past table before later x →
+          IsTracedIn o past table before later x
+      by past before x (inl among) = absurd (none_in_nil x (subst (λ (zs : List Position). Contains zs x) empty among))
+      by past before x (inr is) = is
 
-      back : (past : List Event) → old.is_on ≡ true →
-          ((p : Position) → Contains start p → IsTracedIn o past table old p) → (x : Position) →
+      back : (past : List Event) (before : List Entry) → old.is_on ≡ true →
+          ((p : Position) → Contains start p → IsTracedIn o past table before old p) → (x : Position) →
           Contains done x ⊎ ReturnsFromOne lane (take looks.seen slice) x →
-          (y : Position) × IsReturnedFrom lane y x × IsTracedIn o past table later y
-      back past on from x (inl among) = let was = trailing.returns.each past on from x among in (
+          (y : Position) × IsReturnedFrom lane y x × IsTracedIn o past table before later y
+      back past before on from x (inl among) = let was = trailing.returns.each past before on from x among in (
         was.0,
         was.1,
-        noted.stay past (trailing.returns.on ∙ on) (read past on from) was.0 was.2,
+        noted.stay past before (trailing.returns.on ∙ on) (read past before on from) was.0 was.2,
       )
-      back past on from x (inr one) = (
+      back past before on from x (inr one) = (
         one.from,
         one.returned,
-        noted.stay past (trailing.returns.on ∙ on) (read past on from) one.from (read past on from one.from
+        noted.stay past before (trailing.returns.on ∙ on) (read past before on from) one.from
+            (read past before on from one.from
             (subst (λ (zs : List Position). Contains zs one.from) (looks.whole whole) one.among)),
       )
 
@@ -444,6 +459,6 @@ module _ {S : Type 0} (o : Judged S) (table : List (Option OpenCall)) where
       ReturnsTraced o table lane trail trail xs ys
   returned_each lane trail xs ys are = record {
     on = refl;
-    each = λ past on from x among. let one = returned_one o table lane xs ys are x among in
+    each = λ past before on from x among. let one = returned_one o table lane xs ys are x among in
         (one.from, one.returned, from one.from one.among);
   }

@@ -26,7 +26,7 @@ use Rattle.stamp_sets.specs.Lanes.{SetsBit}
 use Rattle.stamp_sets.specs.Told.{open_at}
 use Rattle.stamp_sets.specs.inner.Effect.{Settles}
 use Rattle.stamp_sets.specs.inner.Effect.Settles.{as_it_is, one_more}
-use Rattle.stamp_sets.specs.inner.Trail.{is_reader, lane_in, readers_from, readers_of}
+use Rattle.stamp_sets.specs.Tracing.{is_reader, lane_in, readers_from, readers_of}
 use Rattle.stamp_sets.proofs.Reading.{AsksIn, asked_at, asks_at, gets_at, moved, taken_at, unfree_at}
 use Rattle.stamp_sets.proofs.Settled.{Sees, SettledTo}
 use Rattle.stamp_sets.proofs.Settled.Sees.{sees_more, sees_none}

@@ -7,4 +7,6 @@ pub mod Judged
 pub mod Kept
 pub mod Half
 pub mod Watch
+pub mod Tracing
+pub mod Order
 pub mod Positions

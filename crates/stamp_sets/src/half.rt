@@ -23,14 +23,14 @@ use crate::layers::return_call;
 use crate::object::Object;
 use crate::open_call::{OpenCall, idle_lanes, put};
 use crate::position::Position;
-use crate::trail::Trail;
+use crate::trace::Trace;
 use std::alloc::{AllocError, Global};
 
 /// The positions of one object and its lanes that are possible after the events of its own calls, as far as they
 /// matter.
 #[derive(Drop)]
 pub(crate) struct Half {
-    alloc: Global,
+    pub(crate) alloc: Global,
     pub(crate) object: Object,
     pub(crate) table: Vec<Option<OpenCall>>,
     pub(crate) busy: u64,
@@ -148,32 +148,14 @@ impl Half {
     }
 
     /// One more event: the call of a lane returns, as was told of it, unless more than `most` positions are possible
-    /// just before it: whether it does.
-    pub(crate) fn returns(&mut self, lane: u64, most: u64) -> Result<bool, AllocError>
-        requires lane { lane < 64 }
-        requires some { KeepsSome self.old }
-        ensures keeps { IfOk result (λ done. done ≡ true → (past : List Event) (last place : ℕ) (reply : SmallReply)
-            → KeepsRun past last self.old → IsTold (open_at self.old.table.items) lane (ending.Returns reply place)
-            → last ≤ place → KeepsRun (past ++ Returns lane (reply_of reply) ∷ []) place self.new) }
-        ensures table { IfOk result (λ done. done ≡ true
-            → self.new.table.items ≡ slice_set self.old.table.items lane None) }
-        ensures object { IfOk result (λ done. self.new.object ≡ self.old.object) }
-        ensures more { IfOk result (λ done. done ≡ false → (past : List Event) (last : ℕ)
-            → KeepsRun past last self.old → HasMore past most self.old) }
-        ensures same { IfOk result (λ done. done ≡ false → self.new ≡ self.old) }
-        ensures err { OnErr result (self.new ≡ self.old) }
-    {
-        let mut off = Trail::off(self.alloc);
-        let done = self.returns_by(lane, most, &mut off)?;
-        Ok(done)
-    }
-
-    /// The same; and the trail takes down how the positions are come to.
-    pub(crate) fn returns_by(
+    /// just before it: whether it does. The trace goes on by it, with this number, if it is on. Else, and without
+    /// memory, both are as before.
+    pub(crate) fn returns(
         &mut self,
         lane: u64,
         most: u64,
-        trail: &mut Trail,
+        number: u64,
+        trace: &mut Trace,
     ) -> Result<bool, AllocError>
         requires lane { lane < 64 }
         requires some { KeepsSome self.old }
@@ -186,8 +168,11 @@ impl Half {
         ensures more { IfOk result (λ done. done ≡ false → (past : List Event) (last : ℕ)
             → KeepsRun past last self.old → HasMore past most self.old) }
         ensures same { IfOk result (λ done. done ≡ false → self.new ≡ self.old) }
-        ensures noted { IfOk result (λ done. done ≡ true → ReturnsOn lane self.old self.new trail.old trail.new) }
+        ensures untold { IfOk result (λ done. done ≡ false → trace.new ≡ trace.old) }
+        ensures noted { IfOk result (λ done. done ≡ true → ReturnsOn lane number self.old self.new trace.old
+            trace.new) }
         ensures err { OnErr result (self.new ≡ self.old) }
+        ensures err_trace { OnErr result (trace.new ≡ trace.old) }
     {
         let returned = return_call(
             self.alloc,
@@ -197,7 +182,8 @@ impl Half {
             lane,
             &mut self.positions,
             most,
-            trail,
+            number,
+            trace,
         )?;
         if !returned {
             return Ok(false);

@@ -1,5 +1,5 @@
 //! How a set of positions goes on to a return.
-ghost use Rattle.std.specs.Prelude.{ℕ, ◌≡◌, ◌<◌, IsTrue, OnOk, OnErr, IfOk, false, true, MatchOption, Some, [], ◌∷◌};
+ghost use Rattle.std.specs.Prelude.{ℕ, ◌≡◌, ◌<◌, IsTrue, OnOk, OnErr, IfOk, false, true, MatchOption, [], ◌∷◌};
 ghost use Rattle.std.specs.List.{All, Contains};
 ghost use Rattle.std.specs.Int.{bit_at};
 ghost use Rattle.stamp_sets.specs.declared.position.Position.{Position};
@@ -9,7 +9,8 @@ ghost use Rattle.stamp_sets.specs.declared.open_call.OpenCall.{OpenCall};
 ghost use Rattle.stamp_sets.specs.Told.{HasEachOpen, open_at};
 ghost use Rattle.stamp_sets.specs.inner.Effect.{IsLeftOut, IsPassedOver, IsUnseen};
 ghost use Rattle.stamp_sets.specs.inner.Layer.{Expands, LooksAt, LooksThrough, TooManyFollow, ReturnsThrough};
-ghost use Rattle.stamp_sets.specs.inner.Layer.{IsReturnedFrom, AreReturned, IsAfterReturn};
+ghost use Rattle.stamp_sets.specs.Tracing.{IsReturnedFrom};
+ghost use Rattle.stamp_sets.specs.inner.Layer.{AreReturned, IsAfterReturn};
 ghost use Rattle.stamp_sets.specs.inner.Trail.{AreNoted, AreReturnedBy, ReturnsTraced, way_of};
 
 use crate::effect::after_effect;
@@ -19,6 +20,7 @@ use crate::object::Object;
 use crate::open_call::{OpenCall, open_in};
 use crate::position::{Position, add};
 use crate::start::take_up_each;
+use crate::trace::Trace;
 use crate::trail::{Entry, Link, Trail, Way, add_by};
 use std::alloc::{AllocError, Global};
 
@@ -341,8 +343,9 @@ fn return_in_each(positions: &mut Vec<Position>, lane: u64)
     }
 }
 
-/// The lane's call returns, unless a layer on the way has more than `most`: whether it does. Nothing is allocated
-/// where it is in effect in each position.
+/// The lane's call returns, unless a layer on the way has more than `most`: whether it does. If the trace is on, it goes
+/// on by this event, which has this number. Without memory nothing changes, and none is taken where the call is in
+/// effect in each position and the trace is off.
 pub(crate) fn return_call(
     alloc: Global,
     object: &Object,
@@ -351,7 +354,8 @@ pub(crate) fn return_call(
     lane: u64,
     positions: &mut Vec<Position>,
     most: u64,
-    trail: &mut Trail,
+    number: u64,
+    trace: &mut Trace,
 ) -> Result<bool, AllocError>
     requires states { All (λ (p : Position). IsState (judged object.now) p.state) positions.old.items }
     requires lane { lane < 64 }
@@ -359,20 +363,24 @@ pub(crate) fn return_call(
     ensures done { IfOk result (λ done. IsAfterReturn (judged object.now) table.now lane most positions.old.items
         positions.new.items done) }
     ensures not { IfOk result (λ done. done ≡ false → positions.new ≡ positions.old) }
-    ensures noted { IfOk result (λ done. done ≡ true → AreReturnedBy (judged object.now) table.now lane trail.old
-        trail.new positions.old.items positions.new.items) }
+    ensures untold { IfOk result (λ done. done ≡ false → trace.new ≡ trace.old) }
+    ensures noted { IfOk result (λ done. done ≡ true → AreReturnedBy (judged object.now) table.now lane number
+        trace.old trace.new positions.old.items positions.new.items) }
     ensures err { OnErr result (positions.new ≡ positions.old) }
+    ensures err_trace { OnErr result (trace.new ≡ trace.old) }
 {
+    let mut trail = Trail::new(alloc, trace.is_on);
     if is_in_each(positions.as_slice(), lane) {
-        trail.note(Entry::Returns(lane))?;
+        trace.go_on(&[Entry::Returns(lane)], number)?;
         return_in_each(positions, lane);
         return Ok(true);
     }
     let start = positions.as_slice();
-    let Some(done) = returned(alloc, object, table, busy, lane, start, most, trail)? else {
+    let Some(done) = returned(alloc, object, table, busy, lane, start, most, &mut trail)? else {
         return Ok(false);
     };
     trail.note(Entry::Returns(lane))?;
+    trace.go_on(trail.entries.as_slice(), number)?;
     *positions = done;
     Ok(true)
 }

@@ -1,22 +1,29 @@
 //! The order in which calls took effect, read back from a trail.
-ghost use Rattle.std.specs.Prelude.{ℕ, ◌≡◌, ◌<◌, ◌+◌, ◌++◌, ◌∷◌, IfOk, OnOk, List, [], map, reverse};
+ghost use Rattle.std.specs.Prelude.{ℕ, ◌≡◌, ◌<◌, ◌++◌, ◌∷◌, IfOk, OnOk, List, [], map, reverse, get_or, length};
+ghost use Rattle.std.specs.Prelude.{MatchOption, None};
+ghost use Rattle.stamp_runs.specs.declared.event.Event.{Event};
+ghost use Rattle.stamp_sets.specs.Judged.{judged};
 ghost use Rattle.stamp_runs.specs.Trace.{Move, order_of};
 ghost use Rattle.stamp_sets.specs.declared.trail.Entry.{Entry};
 ghost use Rattle.stamp_sets.specs.declared.trail.Entry.TheVariants.{Begins, Comes, Returns};
 ghost use Rattle.stamp_sets.specs.declared.order.EffectAt.{EffectAt};
-ghost use Rattle.stamp_sets.specs.inner.Order.{HasFreed, WalksTo, effect_at, lanes_at, turns_of};
-ghost use Rattle.stamp_sets.specs.inner.Trail.{Says, events_in, is_reader};
+ghost use Rattle.stamp_sets.specs.Order.{effect_at};
+ghost use Rattle.stamp_sets.specs.inner.Order.{HasFreed, IsOrderAmong, WalksTo, lanes_at, told_among, turns_of};
+ghost use Rattle.stamp_sets.specs.Tracing.{KeepsTrace, Says, events_in, is_reader};
 
+use crate::half::Half;
 use crate::lanes::{has_lane, with_lane, without_lane};
 use crate::position::Position;
-use crate::trail::{Entry, Link, Trail, Way};
+use crate::trace::Trace;
+use crate::trail::{Entry, Link, Way};
 use std::alloc::{AllocError, Global};
 
-/// A call takes effect: its lane, and how many events came before it.
-#[derive(Clone, Copy)]
-pub(crate) struct EffectAt {
-    pub(crate) lane: u64,
-    pub(crate) point: u64,
+/// A call takes effect: its lane, 0 to 63, and how many events came before it. The call is the one that is open in the
+/// lane then.
+#[derive(Clone, Copy, Debug, PartialEq, Eq)]
+pub struct EffectAt {
+    pub lane: u64,
+    pub point: u64,
 }
 
 /// A way back: the position that it has come to, and how many events came before that; the calls that were hidden
@@ -148,17 +155,16 @@ impl Walk {
     }
 }
 
-/// The order in which calls took effect on the way to the position, by its moves, which the trail says; the last one
-/// first. So many events the trail has.
-pub(crate) fn read_order(
+/// The order in which calls took effect on the way to the position, by its moves, which the entries say; the last one
+/// first. So many events they have.
+fn read_order(
     alloc: Global,
-    trail: &Trail,
+    entries: &[Entry],
     events: u64,
     position: Position,
 ) -> Result<Vec<EffectAt>, AllocError>
-    ensures { IfOk result (λ order. (moves : List Move) → events_in (reverse trail.now.entries.items) ≡ events
-        → Says (reverse trail.now.entries.items) position moves
-        → map effect_at (order_of moves) ≡ reverse order.items) }
+    ensures { IfOk result (λ order. (moves : List Move) → events_in (reverse entries.now) ≡ events
+        → Says (reverse entries.now) position moves → map effect_at (order_of moves) ≡ reverse order.items) }
 {
     let mut walk = Walk {
         position,
@@ -166,10 +172,60 @@ pub(crate) fn read_order(
         pending: Vec::new(alloc),
         out: Vec::new(alloc),
     };
-    let mut rest = trail.entries.len();
+    let mut rest = entries.len();
     while rest > 0 {
         rest -= 1;
-        walk.step(&trail.entries[rest])?;
+        walk.step(&entries[rest])?;
     }
     Ok(walk.out)
+}
+
+/// The number, among all events, of the own one with this number; behind the last own one, that of the next event.
+fn number_at(numbers: &[u64], events: u64, point: u64) -> u64
+    ensures { result ≡ get_or numbers.now point events }
+{
+    match numbers.get(point as usize) {
+        Some(number) => *number,
+        None => events,
+    }
+}
+
+/// The same effects, by the numbers of all events, of which there are so many.
+fn among_all(
+    alloc: Global,
+    effects: &[EffectAt],
+    numbers: &[u64],
+    events: u64,
+) -> Result<Vec<EffectAt>, AllocError>
+    ensures { IfOk result (λ all. all.items ≡ map (told_among numbers.now events) effects.now) }
+{
+    let mut all = Vec::with_capacity(alloc, effects.len())?;
+    for effect in effects {
+        all.push(EffectAt {
+            lane: effect.lane,
+            point: number_at(numbers, events, effect.point),
+        })?;
+    }
+    Ok(all)
+}
+
+/// The order in which calls of a half took effect on a way to its first position, the last one first, by the numbers of
+/// all events, of which there are so many; none where it has no position.
+pub(crate) fn order_of(
+    alloc: Global,
+    half: &Half,
+    trace: &Trace,
+    events: u64,
+) -> Result<Option<Vec<EffectAt>>, AllocError>
+    ensures none { IfOk result (λ found. half.now.positions.items ≡ [] → found ≡ None) }
+    ensures order { IfOk result (λ found. MatchOption found (half.now.positions.items ≡ []) (λ order. (past : List Event)
+        → KeepsTrace past half.now trace.now → length trace.now.numbers ≡ length past
+        → IsOrderAmong (judged half.now.object) past trace.now.numbers events order.items)) }
+{
+    let Some(position) = half.positions.as_slice().get(0) else {
+        return Ok(None);
+    };
+    let own = read_order(alloc, trace.entries.as_slice(), trace.events(), *position)?;
+    let order = among_all(alloc, own.as_slice(), trace.numbers.as_slice(), events)?;
+    Ok(Some(order))
 }

@@ -1,5 +1,5 @@
 //! How positions were come to: links from each to the one before it, and the events between them.
-ghost use Rattle.std.specs.Prelude.{◌≡◌, OnOk, Some, Option, ℕ, true, []};
+ghost use Rattle.std.specs.Prelude.{◌≡◌, OnOk, []};
 ghost use Rattle.stamp_sets.specs.inner.Layer.{Adds};
 ghost use Rattle.stamp_sets.specs.inner.Trail.{AddsBy, HasNoted};
 
@@ -34,7 +34,7 @@ pub(crate) enum Entry {
     Comes(Link),
 }
 
-/// How all positions were come to, the last at the end; or nothing, if it is off.
+/// How the positions of an event were come to, the last at the end; or nothing, if it is off.
 #[derive(Drop)]
 pub(crate) struct Trail {
     pub(crate) is_on: bool,
@@ -42,23 +42,13 @@ pub(crate) struct Trail {
 }
 
 impl Trail {
-    /// A trail that takes down nothing. It takes no memory.
-    pub(crate) fn off(alloc: Global) -> Trail
-        ensures { result.entries.items ≡ [] }
-    {
-        Trail {
-            is_on: false,
-            entries: Vec::new(alloc),
-        }
-    }
-
-    /// The trail of a new object.
-    pub(crate) fn new(alloc: Global) -> Trail
-        ensures on { result.is_on ≡ true }
+    /// The trail of an event, before anything is come to. It takes no memory.
+    pub(crate) fn new(alloc: Global, is_on: bool) -> Trail
+        ensures on { result.is_on ≡ is_on }
         ensures none { result.entries.items ≡ [] }
     {
         Trail {
-            is_on: true,
+            is_on,
             entries: Vec::new(alloc),
         }
     }

@@ -4,6 +4,8 @@
 #[cfg(test)]
 mod lanes_tests;
 #[cfg(test)]
+mod order_tests;
+#[cfg(test)]
 mod record_tests;
 #[cfg(test)]
 mod samples;

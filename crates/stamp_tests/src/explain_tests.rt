@@ -1,8 +1,11 @@
 use crate::fixtures::{entry, limits, words};
-use stamp_core::{Call, Entry, Reply};
+use stamp_core::{Call, Entry, Limits, Record, Reply};
 use stamp_explain::{
-    END_OF_POSITIONS, ExplainError, Observation, Observed, PossibleError, Returned, explain,
-    has_returned_at, is_observed, possible_among, possible_at,
+    END_OF_POSITIONS, Observation, Observed, Returned, has_returned_at, is_observed,
+    recorded_in_order,
+};
+use stamp_watch::{
+    ExplainError, PossibleError, explain, judge_history, possible_among, possible_at,
 };
 use std::test::Fail;
 
@@ -41,7 +44,7 @@ fn made(
     Ok(Observed::of(limits, width, entries))
 }
 
-/// A history of one call, two or three, and why no record is given, if none is.
+/// A history of one call, two or three, and why it isn't explained, if it isn't.
 #[derive(Clone, Copy)]
 struct Case {
     name: &'static str,
@@ -50,7 +53,7 @@ struct Case {
     fault: Option<ExplainError>,
 }
 
-/// Whether a search of so many configurations finds that of the history.
+/// Whether the history is judged and explained as the case says, where so many positions are kept.
 fn is_right(rt: &impl AllocGlobal, width: u64, most: u64, case: &Case) -> Result<bool, Fail> {
     let Some(observed) = made(rt, width, &case.calls, case.count)? else {
         return Ok(false);
@@ -58,7 +61,8 @@ fn is_right(rt: &impl AllocGlobal, width: u64, most: u64, case: &Case) -> Result
     if !is_observed(&observed) {
         return Ok(false);
     }
-    Ok(explain(rt.alloc(), &observed, most).err() == case.fault)
+    let judged = judge_history(rt.alloc(), &observed, most).err();
+    Ok(judged == case.fault && explain(rt.alloc(), &observed, most).err() == case.fault)
 }
 
 /// The name of the first case that is not as it says.
@@ -215,7 +219,7 @@ fn a_reply_that_comes_later_is_not_known_before(rt: HostRuntime) -> Result<(), F
 }
 
 #[test]
-fn a_search_that_has_not_ended_is_undecided(rt: HostRuntime) -> Result<(), Fail> {
+fn a_history_of_too_many_positions_is_undecided(rt: HostRuntime) -> Result<(), Fail> {
     let undecided = Some(ExplainError::Undecided(0));
     for (most, fault) in [(0, undecided), (1, None)] {
         let case = Case {
@@ -234,17 +238,17 @@ fn a_history_without_an_order_is_told_so_before_its_wrong_return_is_known(
     rt: HostRuntime,
 ) -> Result<(), Fail> {
     let answers = [
-        (1, ExplainError::Undecided(0)),
-        (2, ExplainError::Unexplained(0)),
-        (3, ExplainError::Stuck(0)),
+        (0, ExplainError::Undecided(0)),
+        (1, ExplainError::StuckWithin(0, 2)),
+        (2, ExplainError::Stuck(0)),
     ];
     for (most, fault) in answers {
         let case = Case {
-            name: "three readers, of which the first to return has a stamp of no reader",
+            name: "a reader with a stamp of none, beside a writer and a reader who may each be the first",
             calls: [
                 (0, Call::TryRead, 0, Some((10, Reply::Stamp(600)))),
-                (1, Call::TryRead, 0, Some((11, Reply::Stamp(257)))),
-                (2, Call::TryRead, 0, Some((12, Reply::Stamp(258)))),
+                (1, Call::TryWrite, 0, Some((11, Reply::Stamp(384)))),
+                (2, Call::TryRead, 0, Some((12, Reply::Stamp(0)))),
             ],
             count: 3,
             fault: Some(fault),
@@ -288,10 +292,10 @@ fn positions_are_below_2_to_the_58(rt: HostRuntime) -> Result<(), Fail> {
 }
 
 /// The one reply that was found, if any, or why none is known.
-type SearchEnd = Result<Option<Reply>, PossibleError>;
+type Only = Result<Option<Reply>, PossibleError>;
 
 /// What was found; memory, where it is more than one.
-fn only(replies: Result<Vec<Reply>, PossibleError>) -> SearchEnd {
+fn only(replies: Result<Vec<Reply>, PossibleError>) -> Only {
     let replies = replies?;
     if replies.len() > 1 {
         return Err(PossibleError::Memory);
@@ -340,8 +344,51 @@ fn a_call_under_way_that_took_effect_ends_with_the_history(rt: HostRuntime) -> R
     Ok(())
 }
 
+/// A write lock that is under way, and then a write that failed, recorded in this order.
+fn recorded_before_failed(rt: &impl AllocGlobal) -> Result<Record, Fail> {
+    let Ok(limits) = Limits::new(127, 1000) else {
+        return Err(Fail::from("limits"));
+    };
+    let mut entries = Vec::new(rt.alloc());
+    entries.push(Observation {
+        thread: 0,
+        call: Call::WriteLock,
+        first: 1,
+        returned: None,
+    })?;
+    entries.push(Observation {
+        thread: 1,
+        call: Call::TryWrite,
+        first: 2,
+        returned: Some(Returned {
+            last: 3,
+            reply: Reply::Stamp(0),
+        }),
+    })?;
+    let Some(observed) = Observed::of(limits, 0, entries) else {
+        return Err(Fail::from("observed"));
+    };
+    if !is_observed(&observed) {
+        return Err(Fail::from("is_observed"));
+    }
+    Ok(recorded_in_order(rt.alloc(), &observed, &[0, 1])?)
+}
+
+#[test]
+fn a_call_under_way_is_given_the_reply_that_its_place_in_the_order_gives(
+    rt: HostRuntime,
+) -> Result<(), Fail> {
+    let entries = [
+        entry(0, Call::WriteLock, Reply::Stamp(384), (64, 64, 255)),
+        entry(1, Call::TryWrite, Reply::Stamp(0), (128, 128, 255)),
+    ];
+    let record = recorded_before_failed(&rt)?;
+    assert!(rt; record.entries() == entries.as_slice());
+    Ok(())
+}
+
 /// Whether this is found of a read after the acquisition of a write, among three replies and among all.
-fn is_found(rt: &impl AllocGlobal, most: u64, found: SearchEnd) -> Result<bool, Fail> {
+fn is_found(rt: &impl AllocGlobal, most: u64, found: Only) -> Result<bool, Fail> {
     let read = (1, Call::TryRead, 4, Some((5, Reply::Stamp(257))));
     let Some(observed) = made(rt, 0, &[WRITE, read, WRITE], 2)? else {
         return Ok(false);
@@ -358,6 +405,6 @@ fn is_found(rt: &impl AllocGlobal, most: u64, found: SearchEnd) -> Result<bool, 
 #[test]
 fn a_read_after_a_write_acquisition_could_have_had_0_alone(rt: HostRuntime) -> Result<(), Fail> {
     assert!(rt; is_found(&rt, 100, Ok(Some(Reply::Stamp(0))))?);
-    assert!(rt; is_found(&rt, 1, Err(PossibleError::Undecided))?);
+    assert!(rt; is_found(&rt, 0, Err(PossibleError::Undecided))?);
     Ok(())
 }

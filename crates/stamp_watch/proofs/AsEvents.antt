@@ -9,14 +9,14 @@ use Rattle.std.proofs.lemmas.Option.{none-some, same_Some, slice_get_within}
 use Rattle.std.proofs.lemmas.Slice.Zip.{AllZip-long}
 use Rattle.stamp_explain.specs.declared.observed.Observation.{Observation}
 use Rattle.stamp_explain.specs.declared.observed.Returned.{Returned}
-use Rattle.stamp_explain.specs.Observed.{ObservedHistory, observed_as, IsObserved}
+use Rattle.stamp_explain.specs.Observed.{ObservedHistory, observed_as, IsObserved, IsReturnAt}
 use Rattle.stamp_explain.specs.Explained.{IsExplained}
-use Rattle.stamp_explain.specs.Cut.{IsStuck, cut, cut_entries, cut_entry, returned_by}
+use Rattle.stamp_explain.specs.Cut.{IsStuck, cut, cut_after, cut_entries, cut_entry, returned_by}
 use Rattle.stamp_watch.proofs.Corresponding.{positions_tell_order}
 use Rattle.stamp_core.specs.Content.{zeros}
 use Rattle.stamp_runs.specs.declared.event.Event.{Event}
 use Rattle.stamp_runs.specs.declared.event.Event.TheVariants.{Begins}
-use Rattle.stamp_runs.specs.BothRun.{Both, State, start}
+use Rattle.stamp_runs.specs.BothRun.{AreExplained, Both, State, start}
 use Rattle.stamp_runs.specs.Names.{Names, event_by}
 use Rattle.stamp_runs.specs.Own.{AreInForm, none_open}
 use Rattle.stamp_runs.specs.Run.{AreExplainedFrom, AreStuckFrom}
@@ -35,7 +35,7 @@ use Rattle.stamp_watch.proofs.Ranking.{before_numbered, numbered_before, one_num
 use Rattle.stamp_watch.proofs.Numbering.{IsCutEntry, numbered, correspond, are_of_run}
 
 -- the entries of a cut history, by their indices
-cut_chosen : (last bound n : ℕ) (entries : List Observation) (P : ℕ → Observation → Observation → Type 0) →
+pub cut_chosen : (last bound n : ℕ) (entries : List Observation) (P : ℕ → Observation → Observation → Type 0) →
     ((j k : ℕ) (e : Observation) → k ≡ n + j → slice_get entries j ≡ Some e → P j e (cut_entry last bound k e)) →
     AreChosen P entries (cut_entries last bound n entries)
 cut_chosen last bound n [] P each = record {
@@ -52,7 +52,7 @@ test_tells : (a b i n : ℕ) → (nat_lt a b || ((a == b) && nat_lt i n)) ≡ tr
     (a < b) ⊎ ((a ≡ b) × (i < n))
 test_tells a b i n test = grind (arith, nat_tests)
 
-told_test : (a b i n : ℕ) → (a < b) ⊎ ((a ≡ b) × (i < n)) →
+pub told_test : (a b i n : ℕ) → (a < b) ⊎ ((a ≡ b) × (i < n)) →
     (nat_lt a b || ((a == b) && nat_lt i n)) ≡ true
 told_test a b i n (inl less) = grind (arith, nat_tests)
 told_test a b i n (inr same) = grind (arith, nat_tests)
@@ -84,7 +84,7 @@ module _ (h : ObservedHistory) (observed : IsObserved h) (moments : List Moment)
             (observed_as h.limits h.width (numbered h observed moments events of k entries are))
             (correspond h observed moments events of k entries are h.limits h.width)
 
-    whole : AreChosen (IsCutEntry h observed moments events of (length moments)) h.entries h.entries
+    pub whole : AreChosen (IsCutEntry h observed moments events of (length moments)) h.entries h.entries
     whole = record { forth = λ j e at. (e, (at, it j e)); back = λ j e at. (e, (at, it j e)) }
       where
         it : (j : ℕ) (e : Observation) → IsCutEntry h observed moments events of (length moments) j e e
@@ -97,7 +97,7 @@ module _ (h : ObservedHistory) (observed : IsObserved h) (moments : List Moment)
           below = λ r q back at. slice_get_within moments q (return_of j r) at;
         }
 
-    all_events : take (length moments) events ≡ events
+    pub all_events : take (length moments) events ≡ events
     all_events = take_all (length moments) events
         (let long = AllZip-long (IsEventAt h.entries) moments events of.events_are in omega (arith, long))
 
@@ -107,7 +107,7 @@ module _ (h : ObservedHistory) (observed : IsObserved h) (moments : List Moment)
         (same_as_run (length moments) h.entries whole)
 
     -- the test of a cut tells which returns are before it
-    abbrev Tells : ℕ → ℕ → ℕ → Type 0
+    abbrev pub Tells : ℕ → ℕ → ℕ → Type 0
     Tells last bound k = (i q : ℕ) (r : Returned) → slice_get moments q ≡ Some (return_of i r) →
         (q < k) ↔ ((r.last < last) ⊎ ((r.last ≡ last) × (i < bound)))
 
@@ -139,11 +139,15 @@ module _ (h : ObservedHistory) (observed : IsObserved h) (moments : List Moment)
           below = λ r q back at. absurd (none-some r back);
         }
 
+    are_cut : (last bound k : ℕ) → Tells last bound k →
+        AreChosen (IsCutEntry h observed moments events of k) h.entries (cut_entries last bound 0 h.entries)
+    are_cut last bound k tells = cut_chosen last bound 0 h.entries (IsCutEntry h observed moments events of k)
+        (λ j i e is at. subst (λ (v : ℕ). IsCutEntry h observed moments events of k j e (cut_entry last bound v e))
+        (omega (arith, is)) (is_cut_entry last bound k j e tells))
+
     cut_at : (last bound k : ℕ) → Tells last bound k →
         IsExplained (cut last bound h) ↔ AreExplainedFrom (Both h.limits) (state_at_first h) (take k events)
-    cut_at last bound k tells = same_as_run k (cut_entries last bound 0 h.entries) (cut_chosen last bound 0 h.entries
-        (IsCutEntry h observed moments events of k) (λ j i e is at. subst (λ (v : ℕ). IsCutEntry h observed moments
-        events of k j e (cut_entry last bound v e)) (omega (arith, is)) (is_cut_entry last bound k j e tells)))
+    cut_at last bound k tells = same_as_run k (cut_entries last bound 0 h.entries) (are_cut last bound k tells)
 
     -- at a return
     module _ (i k : ℕ) (r : Returned) (at_k : slice_get moments k ≡ Some (return_of i r)) where
@@ -165,7 +169,7 @@ module _ (h : ObservedHistory) (observed : IsObserved h) (moments : List Moment)
             (told_first j q told)),
       )
 
-      tells_after : Tells r.last (i + 1) (suc k)
+      pub tells_after : Tells r.last (i + 1) (suc k)
       tells_after j n q at_n = (
         (λ less. there less (three_ways n k)),
         (λ told. back told),
@@ -199,8 +203,60 @@ module _ (h : ObservedHistory) (observed : IsObserved h) (moments : List Moment)
                   omega (arith, number)
               by (inr (inr more)) = absurd (omega (arith, same.1, more))
 
+    -- the cut at a beginning is before all returns of its position
+    tells_to : (k : ℕ) (m : Moment) → slice_get moments k ≡ Some m →
+        Tells m.position (if m.is_return then m.entry else 0) k
+    tells_to k m at_k =
+        let found = zip_there (IsEventAt h.entries) k moments events m of.events_are at_k in by found.0 found.1.1
+      where
+        by : (event : Event) → IsEventAt h.entries m event →
+            Tells m.position (if m.is_return then m.entry else 0) k
+        by event (inl begins) = subst (λ (x : Moment). Tells x.position (if x.is_return then x.entry else 0) k)
+            (sym begins.moment) tells
+          where
+            at : slice_get moments k ≡ Some (beginning_of m.entry begins.entry)
+            at = at_k ∙ ap (λ (x : Moment). Some x) begins.moment
+
+            tells : (i q : ℕ) (r : Returned) → slice_get moments q ≡ Some (return_of i r) →
+                (q < k) ↔ ((r.last < begins.entry.first) ⊎ ((r.last ≡ begins.entry.first) × (i < 0)))
+            tells i q r at_q = (
+              (λ less. inl (numbered_before h observed moments events of i m.entry k q begins.entry r at_q at less)),
+              (λ told. back told),
+            )
+              where
+                back : (r.last < begins.entry.first) ⊎ ((r.last ≡ begins.entry.first) × (i < 0)) → q < k
+                back (inl less) =
+                    before_numbered h observed moments events of i m.entry k q begins.entry r at_q at less
+                back (inr same) = absurd (omega (arith, same.1))
+        by event (inr returns) = subst (λ (x : Moment). Tells x.position (if x.is_return then x.entry else 0) k)
+            (sym returns.moment) (tells_before m.entry k returns.at.return
+            (at_k ∙ ap (λ (x : Moment). Some x) returns.moment))
+
+    pub cut_to_chosen : (k : ℕ) (m : Moment) → slice_get moments k ≡ Some m →
+        AreChosen (IsCutEntry h observed moments events of k) h.entries (cut_to m h).entries
+    cut_to_chosen k m at_k =
+        are_cut m.position (if m.is_return then m.entry else 0) k (tells_to k m at_k)
+
 pub explained_as_events : ExplainedAsEvents
 explained_as_events h moments events observed of = explained_so h observed moments events of
+
+-- up to a return, with it, a history is explained exactly where the run is
+pub returned_as_events : (h : ObservedHistory) (moments : List Moment) (events : List Event) (i k : ℕ)
+    (at : IsReturnAt h.entries i) → IsObserved h → AreEventsOf h moments events →
+    slice_get moments k ≡ Some (return_of i at.return) →
+    IsExplained (cut_after at.return i h) ↔
+    AreExplainedFrom (Both h.limits) (state_at_first h) (take (k + 1) events)
+returned_as_events h moments events i k at observed of at_k = subst (λ (n : ℕ). IsExplained (cut_after at.return i h) ↔
+    AreExplainedFrom (Both h.limits) (state_at_first h) (take n events)) (sym (add-one k))
+    (cut_at h observed moments events of at.return.last (i + 1) (suc k)
+    (tells_after h observed moments events of i k at.return at_k))
+
+-- with the return of a call a history is explained as the run is up to there
+pub cut_with_return : (h : ObservedHistory) (observed : IsObserved h) (moments : List Moment) (events : List Event)
+    (of : AreEventsOf h moments events) (i k : ℕ) (r : Returned) → slice_get moments k ≡ Some (return_of i r) →
+    IsExplained (cut r.last (i + 1) h) ↔ AreExplainedFrom (Both h.limits) (state_at_first h) (take (suc k) events)
+cut_with_return h observed moments events of i k r there =
+    cut_at h observed moments events of r.last (i + 1) (suc k) (tells_after h observed moments events of i k r there)
 
 -- a history is stuck at an entry where it is explained before its return, and not with it
 pub stuck_as_events : StuckAsEvents
@@ -211,12 +267,9 @@ stuck_as_events h moments events i k at observed of at_k = (there, back)
     before = cut_at h observed moments events of at.return.last i k
         (tells_before h observed moments events of i k at.return at_k)
 
-    after : IsExplained (cut at.return.last (i + 1) h) ↔
+    after : IsExplained (cut_after at.return i h) ↔
         AreExplainedFrom (Both h.limits) (state_at_first h) (take (k + 1) events)
-    after = subst (λ (n : ℕ). IsExplained (cut at.return.last (i + 1) h) ↔
-        AreExplainedFrom (Both h.limits) (state_at_first h) (take n events)) (sym (add-one k))
-        (cut_at h observed moments events of at.return.last (i + 1) (suc k)
-        (tells_after h observed moments events of i k at.return at_k))
+    after = returned_as_events h moments events i k at observed of at_k
 
     there : IsStuck h i → AreStuckFrom (Both h.limits) (state_at_first h) events k
     there stuck =
@@ -236,86 +289,84 @@ stuck_as_events h moments events i k at observed of at_k = (there, back)
       stuck = λ explained. stuck.stuck (after.0 explained);
     }
 
--- where none is told, or a call begins, a run that was explained is explained
-pub stuck_at_returns : StuckAtReturns
-stuck_at_returns h moments events k observed of stuck = at (slice_get events k) refl
+-- where a call begins, or no event is left, a run that was explained is explained
+pub explained_on : (h : ObservedHistory) (moments : List Moment) (events : List Event) (k : ℕ) → IsObserved h →
+    AreEventsOf h moments events → ((m : Moment) → slice_get moments k ≡ Some m → m.is_return ≡ false) →
+    AreExplainedFrom (Both h.limits) (state_at_first h) (take k events) →
+    AreExplainedFrom (Both h.limits) (state_at_first h) (take (suc k) events)
+explained_on h moments events k observed of begins explained = at (slice_get events k) refl
   where
-    never : ¬ AreExplainedFrom (Both h.limits) (state_at_first h) (take (suc k) events)
-    never way = stuck.stuck (subst (λ (n : ℕ). AreExplainedFrom (Both h.limits) (state_at_first h) (take n events))
-        (sym (add-one k)) way)
-
     by : (m : Moment) (event : Event) → slice_get events k ≡ Some event → slice_get moments k ≡ Some m →
-        IsEventAt h.entries m event → IsReturnOf h.entries (slice_get moments k)
-    by m event is at_k (inl begins) = absurd (never (subst (AreExplainedFrom (Both h.limits) (state_at_first h))
+        IsEventAt h.entries m event → AreExplainedFrom (Both h.limits) (state_at_first h) (take (suc k) events)
+    by m event is at_k (inl begun) = subst (AreExplainedFrom (Both h.limits) (state_at_first h))
         (sym (take_one k events (Begins e.thread e.call) begin)) (begins_next (Both h.limits) (state_at_first h)
         e.thread e.call (take k events) (ap is_some (may_come_at k none_open events (Begins e.thread e.call)
-        (in_form h observed moments events of) begin)) stuck.explained)))
+        (in_form h observed moments events of) begin)) explained)
       where
         e : Observation
-        e = begins.entry
+        e = begun.entry
 
-        begin : slice_get events k ≡ Some (Begins begins.entry.thread begins.entry.call)
-        begin = is ∙ ap (λ (x : Event). Some x) begins.event_is
-    by m event is at_k (inr returns) = record {
+        begin : slice_get events k ≡ Some (Begins begun.entry.thread begun.entry.call)
+        begin = is ∙ ap (λ (x : Event). Some x) begun.event_is
+    by m event is at_k (inr returns) =
+        absurd (false≢true (sym (begins m at_k) ∙ ap (λ (x : Moment). x.is_return) returns.moment))
+
+    at : (o : Option Event) → slice_get events k ≡ o →
+        AreExplainedFrom (Both h.limits) (state_at_first h) (take (suc k) events)
+    at None is = subst (AreExplainedFrom (Both h.limits) (state_at_first h)) (sym (take_none k events is)) explained
+    at (Some event) is = let found = zip_at (IsEventAt h.entries) k moments events event of.events_are is in
+        by found.0 event is found.1.0 found.1.1
+
+-- so such a run is stuck at returns alone
+pub stuck_at_returns : StuckAtReturns
+stuck_at_returns h moments events k observed of stuck = at (slice_get moments k) refl
+  where
+    never : ((m : Moment) → slice_get moments k ≡ Some m → m.is_return ≡ false) → ⊥
+    never begins = stuck.stuck (subst (λ (n : ℕ). AreExplainedFrom (Both h.limits) (state_at_first h) (take n events))
+        (sym (add-one k)) (explained_on h moments events k observed of begins stuck.explained))
+
+    by : (m : Moment) (event : Event) → slice_get moments k ≡ Some m → IsEventAt h.entries m event →
+        IsReturnOf h.entries (slice_get moments k)
+    by m event at_k (inl begins) = absurd (never (λ n at_n. ap (λ (x : Moment). x.is_return)
+        (same_Some n m (sym at_n ∙ at_k) ∙ begins.moment)))
+    by m event at_k (inr returns) = record {
       index = m.entry;
       at = returns.at;
       moment = at_k ∙ ap (λ (x : Moment). Some x) returns.moment;
     }
 
-    at : (o : Option Event) → slice_get events k ≡ o → IsReturnOf h.entries (slice_get moments k)
-    at None is = absurd (never (subst (AreExplainedFrom (Both h.limits) (state_at_first h))
-        (sym (take_none k events is)) stuck.explained))
-    at (Some event) is = let found = zip_at (IsEventAt h.entries) k moments events event of.events_are is in
-        by found.0 event is found.1.0 found.1.1
+    at : (o : Option Moment) → slice_get moments k ≡ o → IsReturnOf h.entries (slice_get moments k)
+    at None is = absurd (never (λ m at_m. absurd (none-some m (sym is ∙ at_m))))
+    at (Some m) is = let found = zip_there (IsEventAt h.entries) k moments events m of.events_are is in
+        by m found.0 is found.1.1
 
--- the cut at a beginning is before all returns of its position
 pub cut_as_events : CutAsEvents
 cut_as_events h moments events k m observed of at_k =
-    let found = zip_there (IsEventAt h.entries) k moments events m of.events_are at_k in by found.0 found.1.1
-  where
-    by : (event : Event) → IsEventAt h.entries m event →
-        IsExplained (cut_to m h) ↔ AreExplainedFrom (Both h.limits) (state_at_first h) (take k events)
-    by event (inl begins) = subst (λ (x : Moment). IsExplained (cut_to x h) ↔ AreExplainedFrom (Both h.limits)
-        (state_at_first h) (take k events)) (sym begins.moment)
-        (cut_at h observed moments events of begins.entry.first 0 k tells)
-      where
-        at : slice_get moments k ≡ Some (beginning_of m.entry begins.entry)
-        at = at_k ∙ ap (λ (x : Moment). Some x) begins.moment
-
-        tells : (i q : ℕ) (r : Returned) → slice_get moments q ≡ Some (return_of i r) →
-            (q < k) ↔ ((r.last < begins.entry.first) ⊎ ((r.last ≡ begins.entry.first) × (i < 0)))
-        tells i q r at_q = (
-          (λ less. inl (numbered_before h observed moments events of i m.entry k q begins.entry r at_q at less)),
-          (λ told. back told),
-        )
-          where
-            back : (r.last < begins.entry.first) ⊎ ((r.last ≡ begins.entry.first) × (i < 0)) → q < k
-            back (inl less) = before_numbered h observed moments events of i m.entry k q begins.entry r at_q at less
-            back (inr same) = absurd (omega (arith, same.1))
-    by event (inr returns) = subst (λ (x : Moment). IsExplained (cut_to x h) ↔ AreExplainedFrom (Both h.limits)
-        (state_at_first h) (take k events)) (sym returns.moment)
-        (cut_at h observed moments events of returns.at.return.last m.entry k
-        (tells_before h observed moments events of m.entry k returns.at.return
-        (at_k ∙ ap (λ (x : Moment). Some x) returns.moment)))
+    same_as_run h observed moments events of k (cut_to m h).entries
+    (cut_to_chosen h observed moments events of k m at_k)
 
 -- contents by numbers
-first_named : (h : ObservedHistory) (name : Names) → AreNamesFor h name → ([], name (zeros h.width)) ≡ start
+pub first_named : (h : ObservedHistory) (name : Names) → AreNamesFor h name → ([], name (zeros h.width)) ≡ start
 first_named h name are = λ i. ([], are.first i)
+
+pub named_as_events : (h : ObservedHistory) (name : Names) (events : List Event) → AreNamesFor h name →
+    AreExplainedFrom (Both h.limits) (state_at_first h) events ↔ AreExplained h.limits (map (event_by name) events)
+named_as_events h name events are = subst (λ (s : State). AreExplainedFrom (Both h.limits) (state_at_first h) events ↔
+    AreExplainedFrom (Both h.limits) s (map (event_by name) events)) (first_named h name are)
+    (names_dont_matter h.limits name (zeros h.width) events are.different)
 
 pub explained_by_numbers : ExplainedByNumbers
 explained_by_numbers h moments events name observed of are = (
-  (λ explained. subst (λ (s : State). AreExplainedFrom (Both h.limits) s (map (event_by name) events))
-      (first_named h name are) (named.0 (same.0 explained))),
-  (λ way. same.1 (named.1 (subst (λ (s : State). AreExplainedFrom (Both h.limits) s (map (event_by name) events))
-      (sym (first_named h name are)) way))),
+  (λ explained. named.0 (same.0 explained)),
+  (λ way. same.1 (named.1 way)),
 )
   where
     same : IsExplained h ↔ AreExplainedFrom (Both h.limits) (state_at_first h) events
     same = explained_as_events h moments events observed of
 
-    named : AreExplainedFrom (Both h.limits) ([], zeros h.width) events ↔
-        AreExplainedFrom (Both h.limits) ([], name (zeros h.width)) (map (event_by name) events)
-    named = names_dont_matter h.limits name (zeros h.width) events are.different
+    named : AreExplainedFrom (Both h.limits) (state_at_first h) events ↔
+        AreExplained h.limits (map (event_by name) events)
+    named = named_as_events h name events are
 
 pub stuck_by_numbers : StuckByNumbers
 stuck_by_numbers h moments events name i k at observed of are at_k = (

@@ -16,11 +16,11 @@ use Rattle.stamp_core.specs.declared.reply.Reply.{Reply}
 use Rattle.stamp_explain.specs.declared.observed.Observation.{Observation}
 use Rattle.stamp_explain.specs.Observed.{HasReturned, observed_as}
 use Rattle.stamp_explain.specs.Explained.{Effect, IsEffectOf, history_of, indices_of, IsExplained}
-use Rattle.stamp_explain.specs.Search.{Runs, StateTransition, after_call}
+use Rattle.stamp_explain.specs.inner.States.{Runs, StateTransition, after_call}
 use Rattle.stamp_explain.proofs.Lists.{none_in_empty, contains_cases, contains_first, contains_rest}
-use Rattle.stamp_explain.proofs.Completing.{same_entry}
-use Rattle.stamp_explain.proofs.Finding.{legal_runs, runs_legal}
-use Rattle.stamp_explain.proofs.Merging.{lock_leaves, record_appends}
+use Rattle.stamp_explain.proofs.Entries.{same_entry}
+use Rattle.stamp_explain.proofs.Legal.{legal_runs, runs_legal}
+use Rattle.stamp_explain.proofs.Replies.{lock_leaves, record_appends}
 use Rattle.stamp_runs.specs.declared.event.Event.{Event}
 use Rattle.stamp_runs.specs.Run.{AreExplainedFrom, Lanes, all_idle}
 use Rattle.stamp_runs.specs.BothRun.{Both, State, start}

@@ -11,7 +11,7 @@ use Rattle.stamp_explain.specs.declared.observed.Observation.{Observation}
 use Rattle.stamp_explain.specs.declared.observed.Returned.{Returned}
 use Rattle.stamp_explain.specs.Observed.{ObservedHistory, AllowsReply, HasReturned}
 use Rattle.stamp_explain.specs.Explained.{Effect, IsEffectOf, AreOfTwoEntries, RespectsBefore, IsExplained}
-use Rattle.stamp_explain.specs.Explained.{history_of, indices_of}
+use Rattle.stamp_explain.specs.Explained.{IsExplainedBy, history_of, indices_of}
 use Rattle.stamp_watch.specs.Corresponding.{HasSameAt, Correspond}
 use Rattle.stamp_watch.specs.WatchLaws.{PositionsTellOrder}
 use Rattle.stamp_explain.proofs.Lists.{contains_map, pairs_map}
@@ -33,7 +33,7 @@ same_allows (Some q) None reply same allows = tt
 same_allows (Some q) (Some r) reply same allows = sym (same_Some q.reply r.reply same) ∙ allows
 
 module _ (g h : ObservedHistory) (are : Correspond g h) where
-  abbrev there : Effect → Effect
+  abbrev pub there : Effect → Effect
   there x = record {
     index = are.there x.index;
     entry = get_or h.entries (are.there x.index) x.entry;
@@ -47,7 +47,7 @@ module _ (g h : ObservedHistory) (are : Correspond g h) where
   is_there x is =
       get_or_from_slice_get h.entries (are.there x.index) (at x is).entry x.entry (at x is).is_entry
 
-  entry_there : (x : Effect) → IsEffectOf g.entries x →
+  pub entry_there : (x : Effect) → IsEffectOf g.entries x →
       slice_get h.entries (are.there x.index) ≡ Some (there x).entry
   entry_there x is = (at x is).is_entry ∙ ap (λ (e : Observation). Some e) (sym (is_there x is))
 
@@ -83,35 +83,33 @@ module _ (g h : ObservedHistory) (are : Correspond g h) where
       is : IsEffectOf g.entries x
       is = All-head (IsEffectOf g.entries) x order all
 
-  explained_there : IsExplained g → IsExplained h
-  explained_there explained = record {
-    order = map there explained.order;
-    by = record {
-      effects = All-map (IsEffectOf h.entries) there explained.order
-          (λ k d lt. effect_there (get_or explained.order k d) (explained.by.effects k d lt));
-      once = pairs_map AreOfTwoEntries AreOfTwoEntries (IsEffectOf g.entries) there explained.order two_there
-          explained.by.effects explained.by.once;
-      returned = λ j f at_f back. returned j f at_f back;
-      ordered = pairs_map RespectsBefore RespectsBefore (IsEffectOf g.entries) there explained.order order_there
-          explained.by.effects explained.by.ordered;
-      legal = subst (λ (b : Bounds). IsLegal b h.width (history_of (map there explained.order))) are.limits
-          (subst (λ (n : ℕ). IsLegal g.limits n (history_of (map there explained.order))) are.width
-          (subst (IsLegal g.limits g.width) (sym (history_there explained.order explained.by.effects))
-          explained.by.legal));
-    };
+  pub order_is_there : (order : List Effect) → IsExplainedBy g order → IsExplainedBy h (map there order)
+  order_is_there order by = record {
+    effects = All-map (IsEffectOf h.entries) there order
+        (λ k d lt. effect_there (get_or order k d) (by.effects k d lt));
+    once = pairs_map AreOfTwoEntries AreOfTwoEntries (IsEffectOf g.entries) there order two_there by.effects by.once;
+    returned = λ j f at_f back. returned j f at_f back;
+    ordered = pairs_map RespectsBefore RespectsBefore (IsEffectOf g.entries) there order order_there by.effects
+        by.ordered;
+    legal = subst (λ (b : Bounds). IsLegal b h.width (history_of (map there order))) are.limits
+        (subst (λ (n : ℕ). IsLegal g.limits n (history_of (map there order))) are.width
+        (subst (IsLegal g.limits g.width) (sym (history_there order by.effects)) by.legal));
   }
     where
       returned : (j : ℕ) (f : Observation) → slice_get h.entries j ≡ Some f → HasReturned f →
-          Contains (indices_of (map there explained.order)) j
+          Contains (indices_of (map there order)) j
       returned j f at_f back =
           let same : HasSameAt g.entries (are.back j) f = are.rear.each j f at_f in
-          subst (Contains (indices_of (map there explained.order))) (are.rear.own j f at_f)
-          (subst (λ (is : List ℕ). Contains is (are.there (are.back j))) (sym (indices_there explained.order))
-          (contains_map are.there (indices_of explained.order) (are.back j)
-          (explained.by.returned (are.back j) same.entry same.is_entry
+          subst (Contains (indices_of (map there order))) (are.rear.own j f at_f)
+          (subst (λ (is : List ℕ). Contains is (are.there (are.back j))) (sym (indices_there order))
+          (contains_map are.there (indices_of order) (are.back j) (by.returned (are.back j) same.entry same.is_entry
           (same_returned f.returned same.entry.returned same.same.reply back))))
 
-  correspond_back : Correspond h g
+  explained_there : IsExplained g → IsExplained h
+  explained_there explained =
+      record { order = map there explained.order; by = order_is_there explained.order explained.by }
+
+  pub correspond_back : Correspond h g
   correspond_back = record {
     limits = sym are.limits;
     width = sym are.width;
@@ -125,6 +123,11 @@ module _ (g h : ObservedHistory) (are : Correspond g h) where
         (ap (slice_get h.entries) (are.rear.own j b at_b) ∙ at_b) in
         (same.1, same.0);
   }
+
+  -- an index goes back as it came
+  pub back_there : (i : ℕ) → (correspond_back).there i ≡ are.back i
+  unfolding correspond_back
+  back_there i = refl
 
 pub positions_tell_order : PositionsTellOrder
 positions_tell_order g h are = (explained_there g h are, explained_there h g (correspond_back g h are))

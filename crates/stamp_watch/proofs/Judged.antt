@@ -3,7 +3,7 @@ use Rattle.std.proofs.Common.{ℕ, ◌≡◌, ◌≢◌, ◌+◌, ◌-◌, ◌/�
 use Rattle.std.proofs.Common.{refl, sym, ◌∙◌, ap, inr, zero-add}
 use Rattle.std.proofs.Common.{subst, arith, add_assoc, add-zero, append_assoc, append-nil}
 use Rattle.std.specs.Prelude.{take, drop, IfOk, Result, Ok, Err}
-use Rattle.std.proofs.lemmas.List.{take_all, take-append-drop, take-append-le, take-take, drop-drop, drop_at}
+use Rattle.std.proofs.lemmas.List.{take_all, drop_all, take-append-drop, take-append-le, take-take, drop-drop, drop_at}
 use Rattle.std.proofs.lemmas.List.{length-take-le, length-append}
 use Rattle.std.proofs.Math.Seq.{take-append-add}
 use Rattle.stamp_core.specs.Limits.{Bounds}
@@ -18,13 +18,20 @@ use Rattle.stamp_sets.specs.declared.watch.Watch.{Watch}
 use Rattle.stamp_watch.specs.Verdict.{AreOfLanes, AreTooMany, IsInFormUpTo, IsVerdict}
 use Rattle.stamp_sets.specs.Watch.{IsCopy, IsUntold, IsWatching}
 use Rattle.stamp_watch.specs.Judging.{IsJudging, IsFound}
-use Rattle.stamp_watch.specs.inner.Judging.{IsStep, IsBetween, IsOutcome, IsBase, IsStuckBehind}
+use Rattle.stamp_watch.specs.inner.Judging.{GivesUpAmong, IsStep, IsBetween, IsOutcome, IsBase, IsStuckAmong}
+use Rattle.stamp_watch.specs.inner.Judging.{IsStuckBehind}
 use Rattle.stamp_watch.specs.declared.judge.Outcome.{Outcome}
 use Rattle.stamp_watch.specs.declared.judge.Outcome.TheVariants.{Unexplained, TooMany}
 use Rattle.stamp_watch.specs.declared.judge.Outcome.TheVariants as judged
 use Rattle.stamp_watch.proofs.Forming.{of_lanes_up_to}
 use Rattle.stamp_watch.proofs.Judging.{judging_copied, judging_first}
 use Rattle.stamp_watch.proofs.Reading.{take_read, drop_read, around}
+
+-- the events that are past, one event on
+pub past_on : (past events : List Event) (k : ℕ) (e : Event) → k < length events → e ≡ get_or events k e →
+    past ++ take k events ++ e ∷ [] ≡ past ++ take (k + 1) events
+past_on past events k e less read = append_assoc past (take k events) (e ∷ []) ∙
+    ap (λ (xs : List Event). past ++ xs) (sym (take_read events k e less read))
 
 -- one event on
 module _ (limits : Bounds) (first : ℕ) (past events : List Event) (most k : ℕ) (e : Event) (less : k < length events)
@@ -34,10 +41,6 @@ module _ (limits : Bounds) (first : ℕ) (past events : List Event) (most k : �
   judging_here watch judging =
       subst (λ (future : List Event). IsJudging limits (first + k) (past ++ take k events) future watch)
       (drop_read events k e less read) judging
-
-  pub past_on : past ++ take k events ++ e ∷ [] ≡ past ++ take (k + 1) events
-  past_on = append_assoc past (take k events) (e ∷ []) ∙
-      ap (λ (xs : List Event). past ++ xs) (sym (take_read events k e less read))
 
   whole_around : past ++ take k events ++ e ∷ drop (k + 1) events ≡ past ++ events
   whole_around = append_assoc past (take k events) (e ∷ drop (k + 1) events) ∙
@@ -50,7 +53,8 @@ module _ (limits : Bounds) (first : ℕ) (past events : List Event) (most k : �
     judging_more is =
         subst (λ (n : ℕ). IsJudging limits n (past ++ take (k + 1) events) (drop (k + 1) events) watch)
         (add_assoc first k 1)
-        (subst (λ (before : List Event). IsJudging limits (first + k + 1) before (drop (k + 1) events) watch) past_on
+        (subst (λ (before : List Event). IsJudging limits (first + k + 1) before (drop (k + 1) events) watch)
+        (past_on past events k e less read)
         (subst (λ (p : Progress). IsStep limits (first + k) (past ++ take k events) e (drop (k + 1) events) most watch
         p)
         is step))
@@ -97,6 +101,16 @@ pub all_explained : (limits : Bounds) (first : ℕ) (past events : List Event) (
     AreExplained limits (past ++ events)
 all_explained limits first past events k watch high judging =
     subst (λ (xs : List Event). AreExplained limits (past ++ xs)) (take_all k events high) judging.explained
+
+pub all_seen : (limits : Bounds) (first : ℕ) (past events : List Event) (k : ℕ) (watch : Watch) →
+    k ≡ length events → IsJudging limits (first + k) (past ++ take k events) (drop k events) watch →
+    IsJudging limits (first + length events) (past ++ events) [] watch
+all_seen limits first past events k watch all judging =
+    subst (λ (n : ℕ). IsJudging limits (first + n) (past ++ events) [] watch) all
+    (subst (λ (xs : List Event). IsJudging limits (first + k) (past ++ events) xs watch)
+    (drop_all k events (omega (arith, all)))
+    (subst (λ (xs : List Event). IsJudging limits (first + k) (past ++ xs) (drop k events) watch)
+    (take_all k events (omega (arith, all))) judging))
 
 -- so many events behind others
 pub cut_behind : (n k : ℕ) (past events : List Event) → n ≡ length past →
@@ -362,17 +376,30 @@ base_first limits k events watch watching untold whole = record {
   judging = λ m more within. judging_first limits (take m events) watch watching untold (of_lanes_up_to m events whole);
 }
 
-pub judging_from_first : (limits : Bounds) (events : List Event) (base start : Watch) → IsWatching [] base →
-    IsUntold base limits → IsCopy base start → AreOfLanes events → IsJudging limits 0 [] events start
-judging_from_first limits events base start watching untold same whole =
-    judging_copied limits 0 [] events base start same (judging_first limits events base watching untold whole)
-
 pub stuck_behind : (limits : Bounds) (n : ℕ) (past events : List Event) (most k : ℕ) →
     IsOutcome limits n past events most (Unexplained k) → IsStuckBehind limits past events k
 stuck_behind limits n past events most k outcome = record { explained = outcome.1; stuck = outcome.2 }
+
+-- what is found of events that are not explained is never that they are
+pub never_explained : (limits : Bounds) (events : List Event) (most : ℕ) (ahead : Option ℕ) (verdict : Verdict) →
+    IsFound limits events most ahead verdict → ¬ AreExplained limits events → verdict ≢ Explained
+never_explained limits events most ahead verdict found stuck same =
+    stuck (subst (AreExplained limits) (append-nil events) is.1)
+  where
+    is : AreOfLanes (events ++ []) × AreExplained limits (events ++ [])
+    is = subst (λ (v : Verdict). IsVerdict limits (events ++ []) most ahead v) same (found [])
 
 -- of what is there, both hold
 pub both_ok : {X E : Type 0} (r : Result X E) (P Q : X → Type 0) → IfOk r P → IfOk r Q →
     IfOk r (λ (x : X). P x × Q x)
 both_ok (Ok x) P Q p q = (p, q)
 both_ok (Err e) P Q p q = tt
+
+-- a search for where events are stuck is given up at none
+pub never_given_up : (events : List Event) (from to : ℕ) (verdict : Verdict) → IsStuckAmong from to verdict →
+    GivesUpAmong events verdict
+never_given_up events from to Explained among = tt
+never_given_up events from to (Stuck k) among = tt
+never_given_up events from to (StuckWithin k m) among = tt
+never_given_up events from to (Undecided k why) among = absurd among
+never_given_up events from to (Broken k) among = absurd among

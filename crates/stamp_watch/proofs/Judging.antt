@@ -33,7 +33,7 @@ use Rattle.stamp_watch.specs.Verdict.{AreOfLanes}
 use Rattle.stamp_sets.specs.Watch.{IsCopy, IsWatching, IsUntold, MayComeAsTold, IsProgress, IsTaken, BeginsTold}
 use Rattle.stamp_sets.specs.Watch.{ReturnsTold, SetsOpen, WithdrawsTold, open_of}
 use Rattle.stamp_watch.specs.Judging.{IsFollowed, IsJudging}
-use Rattle.stamp_watch.specs.inner.Judging.{IsEndTold, IsStep}
+use Rattle.stamp_watch.specs.inner.Judging.{IsEndTold, IsManyAtReturn, IsStep}
 use Rattle.stamp_watch.proofs.Forming.{next_comes, next_of_lane}
 use Rattle.stamp_sets.proofs.Telling.{ends_past}
 use Rattle.stamp_watch.proofs.Numbered.{end_or_not, ended_by, ending_last, ending_spares, one_return, open_or_ended}
@@ -355,6 +355,13 @@ step_withdraws limits n past e ahead most lane old new progress same answer told
     by on = stepped limits n past (event.Withdraws lane) ahead most old new progress answer
         (λ taken. (told taken).limits)
         (λ taken. followed_withdraws n past ahead lane old new (told taken) on.followed) on
+
+-- what is never too many is so at returns alone
+pub never_many : (e : Event) (progress : Progress) → progress ≢ TooMany → IsManyAtReturn e progress
+never_many e Going never = tt
+never_many e Dead never = tt
+never_many e TooMany never = absurd (never refl)
+never_many e Refused never = tt
 
 -- a copy judges as well
 open_of_copied : (watch copy : Watch) → IsCopy watch copy → (lane : ℕ) → open_of copy lane ≡ open_of watch lane

@@ -172,8 +172,8 @@ pub among_more : (from later to : ℕ) (v : Verdict) → from ≤ later → IsSt
 among_more from later to verdict.Explained less is = tt
 among_more from later to (verdict.Stuck k) less is = let at : later ≤ k = is.0 in (omega (arith, less, at), is.1)
 among_more from later to (verdict.StuckWithin k m) less is = tt
-among_more from later to (verdict.Undecided k why) less is = tt
-among_more from later to (verdict.Broken k) less is = tt
+among_more from later to (verdict.Undecided k why) less is = is
+among_more from later to (verdict.Broken k) less is = is
 
 -- so it keeps what tells of what is found behind those that were seen
 pub keeps_found : (limits : Bounds) (run : List Event) (course : Course) (most : ℕ) (ahead : Option ℕ) (v : Verdict) →

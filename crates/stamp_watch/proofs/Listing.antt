@@ -20,7 +20,7 @@ use Rattle.std.proofs.lemmas.Map.Made.{AllPairs-from_IsDistinct, IsDistinct-from
 use Rattle.stamp_explain.specs.declared.observed.Observation.{Observation}
 use Rattle.stamp_explain.specs.declared.observed.Returned.{Returned}
 use Rattle.stamp_explain.specs.Observed.{IsReturnAt}
-use Rattle.stamp_explain.proofs.Ending.{earlier_or_last}
+use Rattle.stamp_explain.proofs.Lists.{earlier_or_last}
 use Rattle.stamp_explain.proofs.Lists.{pairs_map, pairs_none}
 use Rattle.stamp_runs.specs.declared.event.Event.{Event}
 use Rattle.stamp_runs.specs.declared.event.Event.TheVariants.{Begins, Returns}

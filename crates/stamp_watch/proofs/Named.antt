@@ -1,5 +1,7 @@
 -- Names of contents, and contents that are added.
-use Rattle.std.proofs.Common.{ℕ, ◌≡◌, ◌⊎◌, ◌+◌, ◌<◌, ◌≤◌, Bool, true, false, List, [], ◌∷◌, ◌++◌, length, Option, Some}
+use Rattle.std.proofs.Common.{ℕ, ◌≡◌, ◌≢◌, ◌⊎◌, ◌+◌, ◌<◌, ◌≤◌, Bool, true, false, List, [], ◌∷◌, ◌++◌, length}
+use Rattle.std.proofs.Common.{Option, Some}
+use Rattle.std.proofs.Common.{ne_eqb, suc}
 use Rattle.std.proofs.Common.{None, refl, sym, ◌∙◌, ap, subst, arith, inl, inr, get_or, length-append}
 use Rattle.std.specs.Prelude.{Vec, cond, if◌then◌else◌, nat_lt, not, position, slice_get}
 use Rattle.std.specs.List.{list_any, position_or_len}
@@ -21,13 +23,16 @@ use Rattle.stamp_core.specs.declared.call.Call.{Call}
 use Rattle.stamp_core.specs.declared.call.Call.TheVariants as call
 use Rattle.stamp_core.specs.declared.reply.Reply.{Reply}
 use Rattle.stamp_core.specs.declared.reply.Reply.TheVariants as reply
-use Rattle.stamp_runs.specs.Names.{AreDifferent, call_by, event_by, reply_by}
+use Rattle.stamp_runs.specs.Names.{AreDifferent, EachOfCall, EachOfEvent, EachOfReply, Names, call_by, event_by}
+use Rattle.stamp_runs.specs.Names.{reply_by}
+use Rattle.stamp_runs.specs.OneWord.{has_one_word}
 use Rattle.stamp_runs.specs.declared.event.Event.{Event}
 use Rattle.stamp_runs.specs.declared.event.Event.TheVariants.{Begins, Returns, Withdraws}
 use Rattle.stamp_sets.specs.declared.small_call.SmallCall.TheVariants as small
-use Rattle.stamp_watch.specs.Names.{AreContents, EachOfCall, EachOfEvent, EachOfReply, IsGrown, IsNamed, name_in}
+use Rattle.stamp_sets.specs.declared.small_call.SmallReply.TheVariants as given
+use Rattle.stamp_watch.specs.Names.{AreContents, IsGrown, IsNamed, name_in}
 use Rattle.stamp_watch.specs.Names.{width_of}
-use Rattle.stamp_watch.specs.inner.Names.{IsCallBy}
+use Rattle.stamp_watch.specs.inner.Names.{IsCallBy, IsReplyBy}
 use Rattle.stamp_watch.specs.Names.{IsNumberOf, rows}
 
 -- where a content stands, and what its name is then
@@ -47,6 +52,15 @@ found_in contents words = by (position (same_words words) contents) refl
         found_at n some (slice_get-get_or contents n [] there.0 ∙
         ap (λ (c : List ℕ). Some c) (sym (same_text words _ (sym there.1))))
         (ap (λ (o : Option ℕ). option_map_or (λ (n : ℕ). n ∷ []) o (0 ∷ 0 ∷ words)) some)
+
+-- where a content stands that has a number
+pub position_there : (contents : List (List ℕ)) (words : List ℕ) (n : ℕ) → name_in contents words ≡ n ∷ [] →
+    position (same_words words) contents ≡ Some n
+position_there contents words n is = by (found_in contents words)
+  where
+    by : Found contents words → position (same_words words) contents ≡ Some n
+    by (found_at m at there name) = let same : m ≡ n = cc in at ∙ ap (λ (i : ℕ). Some i) same
+    by (not_found none name) = cc
 
 -- a name of one word is a number
 pub number_there : (contents : List (List ℕ)) (words : List ℕ) (n : ℕ) → name_in contents words ≡ n ∷ [] →
@@ -149,6 +163,86 @@ number_stays old more words named = by (found_in old words)
         named_at (old ++ more) words n (position_stays (same_words words) old more n [] at) ∙ sym name
     by (not_found none name) = absurd (let two : 0 ∷ 0 ∷ words ≡ named.0 ∷ [] = sym name ∙ named.1 in cc)
 
+-- an event is told alike by two namings that agree on its contents
+module _ (f g : Names) where
+  abbrev Agree : List ℕ → Type 0
+  Agree words = f words ≡ g words
+
+  call_same : (c : Call) → EachOfCall Agree c → call_by f c ≡ call_by g c
+  call_same (call.Put words) same = ap call.Put same
+  call_same (call.PutIf expected words) same =
+      ap (λ (w : List ℕ). call.PutIf w (f words)) same.0 ∙ ap (λ (w : List ℕ). call.PutIf (g expected) w) same.1
+  call_same call.TryWrite same = refl
+  call_same call.TryRead same = refl
+  call_same call.WriteLock same = refl
+  call_same call.ReadLock same = refl
+  call_same call.Optimistic same = refl
+  call_same (call.Validate s) same = refl
+  call_same (call.UnlockWrite s) same = refl
+  call_same (call.UnlockRead s) same = refl
+  call_same (call.Unlock s) same = refl
+  call_same (call.ToWrite s) same = refl
+  call_same (call.ToRead s) same = refl
+  call_same (call.ToOptimistic s) same = refl
+  call_same call.TryUnlockWrite same = refl
+  call_same call.TryUnlockRead same = refl
+  call_same call.IsWriteLocked same = refl
+  call_same call.IsReadLocked same = refl
+  call_same call.ReadCount same = refl
+  call_same call.Get same = refl
+
+  reply_same : (r : Reply) → EachOfReply Agree r → reply_by f r ≡ reply_by g r
+  reply_same (reply.Content words) same = ap reply.Content same
+  reply_same (reply.Stamp s) same = refl
+  reply_same reply.Yes same = refl
+  reply_same reply.No same = refl
+  reply_same reply.Done same = refl
+  reply_same reply.Mismatch same = refl
+  reply_same (reply.Count n) same = refl
+
+  pub event_same : (e : Event) → EachOfEvent Agree e → event_by f e ≡ event_by g e
+  event_same (Begins lane c) same = ap (Begins lane) (call_same c same)
+  event_same (Returns lane r) same = ap (Returns lane) (reply_same r same)
+  event_same (Withdraws lane) same = refl
+
+-- what follows of each of its contents
+module _ {P Q : List ℕ → Type 0} (follows : (words : List ℕ) → P words → Q words) where
+  pub call_each : (c : Call) → EachOfCall P c → EachOfCall Q c
+  call_each (call.Put words) is = follows words is
+  call_each (call.PutIf expected words) is = (follows expected is.0, follows words is.1)
+  call_each call.TryWrite is = tt
+  call_each call.TryRead is = tt
+  call_each call.WriteLock is = tt
+  call_each call.ReadLock is = tt
+  call_each call.Optimistic is = tt
+  call_each (call.Validate s) is = tt
+  call_each (call.UnlockWrite s) is = tt
+  call_each (call.UnlockRead s) is = tt
+  call_each (call.Unlock s) is = tt
+  call_each (call.ToWrite s) is = tt
+  call_each (call.ToRead s) is = tt
+  call_each (call.ToOptimistic s) is = tt
+  call_each call.TryUnlockWrite is = tt
+  call_each call.TryUnlockRead is = tt
+  call_each call.IsWriteLocked is = tt
+  call_each call.IsReadLocked is = tt
+  call_each call.ReadCount is = tt
+  call_each call.Get is = tt
+
+  pub reply_each : (r : Reply) → EachOfReply P r → EachOfReply Q r
+  reply_each (reply.Content words) is = follows words is
+  reply_each (reply.Stamp s) is = tt
+  reply_each reply.Yes is = tt
+  reply_each reply.No is = tt
+  reply_each reply.Done is = tt
+  reply_each reply.Mismatch is = tt
+  reply_each (reply.Count n) is = tt
+
+  pub event_each : (e : Event) → EachOfEvent P e → EachOfEvent Q e
+  event_each (Begins lane c) is = call_each c is
+  event_each (Returns lane r) is = reply_each r is
+  event_each (Withdraws lane) is = tt
+
 module _ {old new : List (List ℕ)} (grown : IsGrown old new) where
   pub stays : (words : List ℕ) → IsNamed old words → name_in new words ≡ name_in old words
   stays words named = ap (λ (cs : List (List ℕ)). name_in cs words) grown.are ∙ number_stays old grown.more words named
@@ -156,79 +250,11 @@ module _ {old new : List (List ℕ)} (grown : IsGrown old new) where
   pub named_still : (words : List ℕ) → IsNamed old words → IsNamed new words
   named_still words named = (named.0, stays words named ∙ named.1)
 
-  call_stays : (c : Call) → EachOfCall (IsNamed old) c → call_by (name_in new) c ≡ call_by (name_in old) c
-  call_stays (call.Put words) named = ap call.Put (stays words named)
-  call_stays (call.PutIf expected words) named =
-      ap (λ (w : List ℕ). call.PutIf w (name_in new words)) (stays expected named.0) ∙
-      ap (λ (w : List ℕ). call.PutIf (name_in old expected) w) (stays words named.1)
-  call_stays call.TryWrite named = refl
-  call_stays call.TryRead named = refl
-  call_stays call.WriteLock named = refl
-  call_stays call.ReadLock named = refl
-  call_stays call.Optimistic named = refl
-  call_stays (call.Validate s) named = refl
-  call_stays (call.UnlockWrite s) named = refl
-  call_stays (call.UnlockRead s) named = refl
-  call_stays (call.Unlock s) named = refl
-  call_stays (call.ToWrite s) named = refl
-  call_stays (call.ToRead s) named = refl
-  call_stays (call.ToOptimistic s) named = refl
-  call_stays call.TryUnlockWrite named = refl
-  call_stays call.TryUnlockRead named = refl
-  call_stays call.IsWriteLocked named = refl
-  call_stays call.IsReadLocked named = refl
-  call_stays call.ReadCount named = refl
-  call_stays call.Get named = refl
-
-  reply_stays : (r : Reply) → EachOfReply (IsNamed old) r → reply_by (name_in new) r ≡ reply_by (name_in old) r
-  reply_stays (reply.Content words) named = ap reply.Content (stays words named)
-  reply_stays (reply.Stamp s) named = refl
-  reply_stays reply.Yes named = refl
-  reply_stays reply.No named = refl
-  reply_stays reply.Done named = refl
-  reply_stays reply.Mismatch named = refl
-  reply_stays (reply.Count n) named = refl
-
   pub event_stays : (e : Event) → EachOfEvent (IsNamed old) e → event_by (name_in new) e ≡ event_by (name_in old) e
-  event_stays (Begins lane c) named = ap (Begins lane) (call_stays c named)
-  event_stays (Returns lane r) named = ap (Returns lane) (reply_stays r named)
-  event_stays (Withdraws lane) named = refl
-
-  call_named_still : (c : Call) → EachOfCall (IsNamed old) c → EachOfCall (IsNamed new) c
-  call_named_still (call.Put words) named = named_still words named
-  call_named_still (call.PutIf expected words) named = (named_still expected named.0, named_still words named.1)
-  call_named_still call.TryWrite named = tt
-  call_named_still call.TryRead named = tt
-  call_named_still call.WriteLock named = tt
-  call_named_still call.ReadLock named = tt
-  call_named_still call.Optimistic named = tt
-  call_named_still (call.Validate s) named = tt
-  call_named_still (call.UnlockWrite s) named = tt
-  call_named_still (call.UnlockRead s) named = tt
-  call_named_still (call.Unlock s) named = tt
-  call_named_still (call.ToWrite s) named = tt
-  call_named_still (call.ToRead s) named = tt
-  call_named_still (call.ToOptimistic s) named = tt
-  call_named_still call.TryUnlockWrite named = tt
-  call_named_still call.TryUnlockRead named = tt
-  call_named_still call.IsWriteLocked named = tt
-  call_named_still call.IsReadLocked named = tt
-  call_named_still call.ReadCount named = tt
-  call_named_still call.Get named = tt
-
-  reply_named_still : (r : Reply) → EachOfReply (IsNamed old) r → EachOfReply (IsNamed new) r
-  reply_named_still (reply.Content words) named = named_still words named
-  reply_named_still (reply.Stamp s) named = tt
-  reply_named_still reply.Yes named = tt
-  reply_named_still reply.No named = tt
-  reply_named_still reply.Done named = tt
-  reply_named_still reply.Mismatch named = tt
-  reply_named_still (reply.Count n) named = tt
+  event_stays e named = event_same (name_in new) (name_in old) e (event_each stays e named)
 
   pub event_named_still : (e : Event) → EachOfEvent (IsNamed old) e → EachOfEvent (IsNamed new) e
-  event_named_still (Begins lane c) named = call_named_still c named
-  event_named_still (Returns lane r) named = reply_named_still r named
-  event_named_still (Withdraws lane) named = tt
+  event_named_still e named = event_each named_still e named
 
 -- zeros are the first
 pub zeros_named : (width : ℕ) (contents : List (List ℕ)) → AreContents width contents →
@@ -242,6 +268,21 @@ zeros_named width contents are = named_at contents (zeros width) 0 (position_is 
 pub width_is : (width : ℕ) (contents : List (List ℕ)) → AreContents width contents → width_of contents ≡ width
 width_is width contents are =
     are.wide 0 [] (slice_get_within contents 0 (zeros width) are.first)
+
+two_words : (words : List ℕ) → has_one_word (0 ∷ 0 ∷ words) ≡ false
+two_words words = ne_eqb (length (0 ∷ 0 ∷ words)) 1
+    (λ same. let long : suc (suc (length words)) ≡ 1 = same in omega (arith, long))
+
+-- one of another width has no number
+pub not_one_word : (width : ℕ) (contents : List (List ℕ)) (words : List ℕ) → AreContents width contents →
+    length words ≢ width → has_one_word (name_in contents words) ≡ false
+not_one_word width contents words are apart = by (found_in contents words)
+  where
+    by : Found contents words → has_one_word (name_in contents words) ≡ false
+    by (found_at n at there name) = absurd (apart (ap (λ (ws : List ℕ). length ws)
+        (sym (get_or_from_slice_get contents n words [] there)) ∙
+        are.wide n [] (slice_get_within contents n words there)))
+    by (not_found none name) = ap has_one_word name ∙ two_words words
 
 -- one content more
 module _ (old : List (List ℕ)) (words : List ℕ) where
@@ -408,6 +449,17 @@ module _ (contents : List (List ℕ)) where
   content_back reply.Done name found named same back = cc
   content_back reply.Mismatch name found named same back = cc
   content_back (reply.Count n) name found named same back = cc
+
+-- a reply that has a number tells the content of this one
+pub content_told : (contents : List (List ℕ)) (told : Reply) (n : ℕ) → IsReplyBy contents told (given.Content n) →
+    (words : List ℕ) × ((told ≡ reply.Content words) × (name_in contents words ≡ n ∷ []))
+content_told contents (reply.Content words) n is = (words, (refl, sym (content_same is.small_is)))
+content_told contents (reply.Stamp s) n is = absurd (let same = is.small_is in cc)
+content_told contents reply.Yes n is = absurd (let same = is.small_is in cc)
+content_told contents reply.No n is = absurd (let same = is.small_is in cc)
+content_told contents reply.Done n is = absurd (let same = is.small_is in cc)
+content_told contents reply.Mismatch n is = absurd (let same = is.small_is in cc)
+content_told contents (reply.Count c) n is = absurd (let same = is.small_is in cc)
 
 -- zeros alone
 pub one_content : (width : ℕ) → 1 ≤ width → width ≤ 16 → AreContents width (zeros width ∷ [])

@@ -284,6 +284,49 @@ module _ (h : ObservedHistory) (observed : IsObserved h) (moments : List Moment)
             );
       }
 
+      -- each entry has its own index
+      pub same_index : (limits : Bounds) (width i : ℕ) → (correspond limits width).back i ≡ i
+      unfolding correspond
+      same_index limits width i = refl
+
+      -- the numbers of an entry tell its lane and its moments before the cut
+      pub record IsPlaced (i : ℕ) (c f : Observation) : Type 0 where
+        pub thread : c.thread ≡ f.thread
+        pub first : slice_get moments f.first ≡ Some (beginning_of i c)
+        pub returns : (q : ℕ) (r : Returned) → q < k → slice_get moments q ≡ Some (return_of i r) →
+            (s : Returned) × ((f.returned ≡ Some s) × (s.last ≡ q))
+
+      pub placed : (i : ℕ) (c f : Observation) → slice_get cut i ≡ Some c → slice_get numbered i ≡ Some f →
+          IsPlaced i c f
+      placed i c f at_c at_f = record { thread = sym its.thread; first = its.first; returns = returns }
+        where
+          its : IsNumbered i c f
+          its = numbered_of i c f at_c at_f
+
+          of_entry : HasCut i c
+          of_entry = has_cut i c at_c
+
+          returns : (q : ℕ) (r : Returned) → q < k → slice_get moments q ≡ Some (return_of i r) →
+              (s : Returned) × ((f.returned ≡ Some s) × (s.last ≡ q))
+          returns q r less at_q =
+              let found = zip_there (IsEventAt h.entries) q moments events (return_of i r) of.events_are at_q in
+              by found.0 found.1.1
+            where
+              by : (event : Event) → IsEventAt h.entries (return_of i r) event →
+                  (s : Returned) × ((f.returned ≡ Some s) × (s.last ≡ q))
+              by event (inl begins) = absurd (false≢true (sym (ap (λ (m : Moment). m.is_return) begins.moment)))
+              by event (inr back) =
+                  let s = number_of_return i c f back.at.return its kept in
+                  (_, (s.1.1, one_number h observed moments events of s.0 q (return_of i back.at.return) s.1.0 at_r))
+                where
+                  at_r : slice_get moments q ≡ Some (return_of i back.at.return)
+                  at_r = at_q ∙ ap (λ (m : Moment). Some m) back.moment
+
+                  kept : c.returned ≡ Some back.at.return
+                  kept = of_entry.is.kept back.at.return q (ap (λ (o : Observation). o.returned)
+                      (same_Some of_entry.entry back.at.entry (sym of_entry.is_entry ∙ back.at.is_entry)) ∙
+                      back.at.returned) at_r less
+
       -- it is of the run of the events before the cut
       ending_here : (i : ℕ) (e c f : Observation) → slice_get h.entries i ≡ Some e → IsCutEntry k i e c →
           IsNumbered i c f → IsEntryOf e.thread e.call f.first

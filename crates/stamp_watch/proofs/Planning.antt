@@ -11,10 +11,10 @@ use Rattle.stamp_explain.specs.declared.observed.Observation.{Observation}
 use Rattle.stamp_explain.specs.declared.observed.Returned.{Returned}
 use Rattle.stamp_explain.specs.Observed.{IsBefore, HasReturned}
 use Rattle.stamp_explain.specs.Explained.{Effect, IsEffectOf, history_of, AreOfTwoEntries, RespectsBefore}
-use Rattle.stamp_explain.specs.Search.{Runs}
+use Rattle.stamp_explain.specs.inner.States.{Runs}
 use Rattle.stamp_explain.proofs.Lists.{none_in_empty, contains_first, contains_rest, pairs_none, pairs_cons}
-use Rattle.stamp_explain.proofs.Completing.{same_entry}
-use Rattle.stamp_explain.proofs.Finding.{has_returned}
+use Rattle.stamp_explain.proofs.Entries.{same_entry}
+use Rattle.stamp_explain.proofs.Entries.{has_returned}
 use Rattle.stamp_runs.specs.declared.event.Event.{Event}
 use Rattle.stamp_runs.specs.Object.{Object}
 use Rattle.stamp_runs.specs.Run.{Lanes, Sets}

@@ -317,7 +317,7 @@ module _ (limits : Bounds) (run : List Event) (first seen : ℕ) (events : List 
         ended = subst (λ (n : ℕ). AreEnded n (is.past ++ take (seen + 1) events) (drop (seen + 1) events))
             (add_assoc first seen 1)
             (subst (λ (before : List Event). AreEnded (first + seen + 1) before (drop (seen + 1) events))
-            (past_on limits first is.past events most seen e less read)
+            (past_on is.past events seen e less read)
             (ended_on (first + seen) (is.past ++ take seen events) e (drop (seen + 1) events) ends
             (subst (λ (future : List Event). AreEnded (first + seen) (is.past ++ take seen events) future)
             (drop_read events seen e less read) is.now.ended) told known));

@@ -20,7 +20,7 @@ pub no_stream : (busy : ℕ) (e : Event) → ¬ IsOfStream e → ¬ MayComeIn bu
 no_stream busy e none may = none (stream_of busy e may)
 
 module _ (events taken : List Event) (k : ℕ) (is : taken ≡ take k events) where
-  taken_form : k ≤ length events → IsInFormUpTo events k → AreTaken events taken
+  pub taken_form : k ≤ length events → IsInFormUpTo events k → AreTaken events taken
   taken_form within form = record {
     form = subst (λ (n : ℕ). IsInFormUpTo events n) (sym long) form;
     same = is ∙ ap (λ (n : ℕ). take n events) (sym long);

@@ -31,7 +31,7 @@ use Rattle.stamp_watch.proofs.BeginningLate.{writes-append}
 use Rattle.stamp_watch.proofs.Ways.{never_among, ends_past}
 use Rattle.stamp_watch.proofs.LosingNothing.{late_loses_nothing}
 
-same_stamp : {a b : ℕ} → Stamp a ≡ Stamp b → a ≡ b
+pub same_stamp : {a b : ℕ} → Stamp a ≡ Stamp b → a ≡ b
 same_stamp is = cc
 
 -- a call that acquired write mode has this stamp

@@ -1,6 +1,7 @@
 pub mod inner
 pub mod Stream
 pub mod Names
+pub mod Overtaking
 pub mod EndedCall
 pub mod Start
 pub mod Foretold
@@ -17,6 +18,9 @@ pub mod AsObserved
 pub mod Ordered
 pub mod Corresponding
 pub mod AsEvents
+pub mod History
+pub mod ReplyLaws
+pub mod Replies
 pub mod WatchLaws
 pub mod Issued
 pub mod Late

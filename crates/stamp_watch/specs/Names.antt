@@ -5,14 +5,9 @@ use Rattle.std.specs.declared.alloc.Global.{Global}
 use Rattle.std.specs.List.{All}
 use Rattle.std.specs.Option.{option_map_or}
 use Rattle.stamp_core.specs.Content.{same_words, zeros}
-use Rattle.stamp_core.specs.declared.call.Call.{Call}
-use Rattle.stamp_core.specs.declared.call.Call.TheVariants.{Put, PutIf}
-use Rattle.stamp_core.specs.declared.reply.Reply.{Reply}
-use Rattle.stamp_core.specs.declared.reply.Reply.TheVariants.{Content}
-use Rattle.stamp_runs.specs.Names.{Names, event_by}
+use Rattle.stamp_runs.specs.Names.{EachOfEvent, Names, event_by}
 use Rattle.stamp_runs.specs.Run.{lane_of}
 use Rattle.stamp_runs.specs.declared.event.Event.{Event}
-use Rattle.stamp_runs.specs.declared.event.Event.TheVariants.{Begins, Returns, Withdraws}
 
 -- the contents that are kept
 abbrev pub rows : List (Vec ℕ Global) → List (List ℕ)
@@ -44,21 +39,6 @@ StaysWide old new = (width : ℕ) → AreContents width old → AreContents widt
 pub record IsGrown (old new : List (List ℕ)) : Type 0 where
   pub more : List (List ℕ)
   pub are : new ≡ old ++ more
-
--- so it is of each content that a call, a reply and an event tell
-abbrev pub EachOfCall : (List ℕ → Type 0) → Call → Type 0
-EachOfCall P (Put words) = P words
-EachOfCall P (PutIf expected words) = P expected × P words
-EachOfCall P call = Unit {0}
-
-abbrev pub EachOfReply : (List ℕ → Type 0) → Reply → Type 0
-EachOfReply P (Content words) = P words
-EachOfReply P reply = Unit {0}
-
-abbrev pub EachOfEvent : (List ℕ → Type 0) → Event → Type 0
-EachOfEvent P (Begins lane call) = EachOfCall P call
-EachOfEvent P (Returns lane reply) = EachOfReply P reply
-EachOfEvent P (Withdraws lane) = Unit {0}
 
 -- the content has a number
 abbrev pub IsNamed : List (List ℕ) → List ℕ → Type 0

@@ -35,7 +35,7 @@ use Rattle.stamp_watch.specs.AsEvents.{AreEventsOf, AreNamesFor, IsReturnOf, cut
 use Rattle.stamp_watch.specs.AsEvents.{state_at_first}
 use Rattle.stamp_watch.specs.AsObserved.{observed_of, IsStuckAtPosition, NoneIsWithdrawnLater}
 use Rattle.stamp_watch.specs.Corresponding.{Correspond}
-use Rattle.stamp_watch.specs.Ordered.{Explains}
+use Rattle.stamp_watch.specs.Ordered.{Explains, ExplainsAt}
 
 -- the lane is idle, and nothing is lost if its call begins at once
 pub record BeginsAtOnce {S : Type 0} (O : Object S) (lane : ℕ) (call : Call) (events : List Event) (s : S)
@@ -217,6 +217,21 @@ StuckByNumbers =
     (at : IsReturnAt h.entries i) → IsObserved h → AreEventsOf h moments events → AreNamesFor h name →
     slice_get moments k ≡ Some (return_of i at.return) →
     IsStuck h i ↔ AreStuckAt h.limits (map (event_by name) events) k
+
+-- And the order of effects on a way along them is one of the history; so it is up to each of its moments.
+abbrev pub OrderOfHistory : Type 0
+OrderOfHistory =
+    (h : ObservedHistory) (moments : List Moment) (events : List Event) (name : Names) (order : List Taken)
+    (s : State) (lanes : Lanes) → IsObserved h → AreEventsOf h moments events → AreNamesFor h name →
+    LeadsBy (Both h.limits) 0 order (map (event_by name) events) start all_idle s lanes → ExplainsAt h moments order
+
+abbrev pub OrderUpTo : Type 0
+OrderUpTo =
+    (h : ObservedHistory) (moments : List Moment) (events : List Event) (name : Names) (k : ℕ) (m : Moment)
+    (order : List Taken) (s : State) (lanes : Lanes) → IsObserved h → AreEventsOf h moments events →
+    AreNamesFor h name → slice_get moments k ≡ Some m →
+    LeadsBy (Both h.limits) 0 order (take k (map (event_by name) events)) start all_idle s lanes →
+    ExplainsAt (cut_to m h) moments order
 
 -- the verdict gives up at an event before this one
 abbrev pub GivesUpBefore : Verdict → ℕ → Type 0

@@ -2,7 +2,12 @@ pub mod Judging
 pub mod Course
 pub mod Stream
 pub mod Names
+pub mod Overtaking
 pub mod Delay
 pub mod Possible
 pub mod Kept
 pub mod AsEvents
+pub mod History
+pub mod Ordering
+pub mod Candidates
+pub mod Trial

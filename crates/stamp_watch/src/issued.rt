@@ -25,7 +25,7 @@ fn issues_stamp(call: &Call) -> bool
 }
 
 /// The version that the number is a stamp of, if it is one.
-fn version_of(layout: Layout, stamp: u64) -> Option<u64>
+pub(crate) fn version_of(layout: Layout, stamp: u64) -> Option<u64>
     ensures { MatchOption result ((k : ℕ) → ¬ IsStamp (units_of layout) k stamp)
         (λ k. IsStamp (units_of layout) k stamp) }
 {

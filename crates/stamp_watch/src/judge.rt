@@ -1,11 +1,12 @@
 //! Judging runs that are in memory.
-ghost use Rattle.std.specs.Prelude.{◌≡◌, ◌+◌, ◌^◌, ◌<◌, ◌∷◌, ◌++◌, IfOk, List, None, Option, ℕ, length};
+ghost use Rattle.std.specs.Prelude.{◌≡◌, ◌+◌, ◌^◌, ◌<◌, [], ◌∷◌, ◌++◌, IfOk, List, None, Option, ℕ, length};
 ghost use Rattle.stamp_core.specs.Limits.{Bounds};
 ghost use Rattle.stamp_runs.specs.declared.event.Event.{Event};
-ghost use Rattle.stamp_sets.specs.Watch.{IsWatched};
-ghost use Rattle.stamp_watch.specs.Verdict.{IsVerdict};
+ghost use Rattle.stamp_sets.specs.Tracing.{StaysTraced};
+ghost use Rattle.stamp_sets.specs.Watch.{IsTaken, IsUntold, IsWatched, IsWatching};
+ghost use Rattle.stamp_watch.specs.Verdict.{AreOfLanes, IsVerdict};
 ghost use Rattle.stamp_watch.specs.Judging.{IsFound, IsJudging};
-ghost use Rattle.stamp_watch.specs.inner.Judging.{IsBase, IsEndTold, IsJudgingOn, IsOutcome, IsStep, IsStuckAmong, IsStuckBehind, IsStuckFrom};
+ghost use Rattle.stamp_watch.specs.inner.Judging.{AreTaken, GivesUpAmong, HasSeen, HasSeenAll, IsManyAtReturn, StopsAtReturn, IsBase, IsEndTold, IsJudgingOn, IsOutcome, IsStep, IsStuckAmong, IsStuckBehind, IsStuckFrom};
 
 use crate::ahead::end_ahead;
 use crate::lanes::in_form;
@@ -48,35 +49,40 @@ pub(crate) fn step(
     most: u64,
 ) -> Result<Progress, AllocError>
     requires { IsWatched watch.old }
-    ensures { IfOk result (λ progress. (limits : Bounds) (n : ℕ) (past ahead : List Event)
+    ensures step { IfOk result (λ progress. (limits : Bounds) (n : ℕ) (past ahead : List Event)
         → IsEndTold event.now (n + 1) ahead ends
         → IsJudging limits n past (event.now ∷ ahead) watch.old
         → IsStep limits n past event.now ahead most watch.new progress) }
+    ensures at_return { IfOk result (λ progress. IsManyAtReturn event.now progress) }
+    ensures traced { IfOk result (λ progress. IsTaken progress → StaysTraced event.now watch.old watch.new) }
 {
     match event.small() {
-        SmallEvent::Begins(lane, call) => Ok(watch.begins(lane as u64, call, ends)),
+        SmallEvent::Begins(lane, call) => watch.begins(lane as u64, call, ends),
         SmallEvent::Returns(lane, reply) => watch.returns(lane as u64, reply, most),
-        SmallEvent::Withdraws(lane) => Ok(watch.withdraws(lane as u64)),
+        SmallEvent::Withdraws(lane) => watch.withdraws(lane as u64),
     }
 }
 
 /// Judges the events that come behind those that the watch has seen: a call that does not end among them never ends.
-pub(crate) fn judge_rest(
-    start: Watch,
+/// Where they are explained, the watch has seen them, too, and is traced if it was.
+pub(crate) fn judge_on(
+    watch: &mut Watch,
     first: u64,
     events: &[StreamEvent],
     most: u64,
 ) -> Result<Outcome, AllocError>
     requires room { first + length events.now < 2 ^ 64 }
-    requires judging { IsJudgingOn first events.now start }
-    ensures { IfOk result (λ outcome. (limits : Bounds) (past : List Event)
-        → IsJudging limits first past events.now start
+    requires judging { IsJudgingOn first events.now watch.old }
+    ensures outcome { IfOk result (λ outcome. (limits : Bounds) (past : List Event)
+        → IsJudging limits first past events.now watch.old
         → IsOutcome limits first past events.now most outcome) }
+    ensures at_return { IfOk result (λ outcome. StopsAtReturn events.now outcome) }
+    ensures seen { IfOk result (λ outcome. outcome ≡ Outcome.Explained
+        → HasSeen first events.now watch.old watch.new) }
 {
-    let mut watch = start;
     for (k, event) in events.iter().enumerate() {
         let ends = end_told(event, &events[k + 1..], first + k as u64 + 1);
-        let progress = step(&mut watch, event, ends, most)?;
+        let progress = step(watch, event, ends, most)?;
         match progress {
             Progress::Going => {}
             Progress::Dead => return Ok(Outcome::Unexplained(k)),
@@ -85,6 +91,24 @@ pub(crate) fn judge_rest(
         }
     }
     Ok(Outcome::Explained)
+}
+
+/// The same from a watch that is no longer needed.
+pub(crate) fn judge_rest(
+    start: Watch,
+    first: u64,
+    events: &[StreamEvent],
+    most: u64,
+) -> Result<Outcome, AllocError>
+    requires room { first + length events.now < 2 ^ 64 }
+    requires judging { IsJudgingOn first events.now start }
+    ensures outcome { IfOk result (λ outcome. (limits : Bounds) (past : List Event)
+        → IsJudging limits first past events.now start
+        → IsOutcome limits first past events.now most outcome) }
+    ensures at_return { IfOk result (λ outcome. StopsAtReturn events.now outcome) }
+{
+    let mut watch = start;
+    judge_on(&mut watch, first, events, most)
 }
 
 /// Finds where events that are not explained are stuck, by judging shorter and shorter runs from this watch on. So
@@ -122,6 +146,59 @@ pub(crate) fn find_stuck(
     Ok(Verdict::Stuck(first + low as u64))
 }
 
+/// Judges the events, from the first on, that are in form, of a run of so many, with a watch that has seen none. Where
+/// they are explained, the watch has seen them, and is traced if it was.
+pub(crate) fn judge_by(
+    alloc: Global,
+    limits: Limits,
+    watch: &mut Watch,
+    taken: &[StreamEvent],
+    many: usize,
+    most: u64,
+) -> Result<Verdict, AllocError>
+    requires lanes { AreOfLanes taken.now }
+    requires watching { IsWatching [] watch.old }
+    requires untold { IsUntold watch.old limits }
+    ensures verdict { IfOk result (λ verdict. (run : List Event) → AreTaken run taken.now
+        → length run ≡ many → IsVerdict limits run most None verdict) }
+    ensures among { IfOk result (λ verdict. GivesUpAmong taken.now verdict) }
+    ensures seen { IfOk result (λ verdict. verdict ≡ Verdict.Explained
+        → HasSeenAll many taken.now watch.old watch.new) }
+{
+    let outcome = judge_on(watch, 0, taken, most)?;
+    match outcome {
+        Outcome::Explained => {
+            if taken.len() == many {
+                Ok(Verdict::Explained)
+            } else {
+                Ok(Verdict::Broken(taken.len() as u64))
+            }
+        }
+        Outcome::Unexplained(k) => {
+            let base = Watch::new(alloc, limits)?;
+            find_stuck(&base, 0, taken, k, most)
+        }
+        Outcome::TooMany(k) => Ok(Verdict::Undecided(k as u64, Why::TooMany)),
+    }
+}
+
+/// The same with a watch of its own.
+pub(crate) fn judge_taken(
+    alloc: Global,
+    limits: Limits,
+    taken: &[StreamEvent],
+    many: usize,
+    most: u64,
+) -> Result<Verdict, AllocError>
+    requires { AreOfLanes taken.now }
+    ensures verdict { IfOk result (λ verdict. (run : List Event) → AreTaken run taken.now
+        → length run ≡ many → IsVerdict limits run most None verdict) }
+    ensures among { IfOk result (λ verdict. GivesUpAmong taken.now verdict) }
+{
+    let mut watch = Watch::new(alloc, limits)?;
+    judge_by(alloc, limits, &mut watch, taken, many, most)
+}
+
 /// Judges a run of a lock and its record that is in memory, from a new lock on: whether it is explained, and if not, at
 /// which event it is stuck. More than `most` positions before an event are too many to go on. A run that is not
 /// explained may be judged again up to 64 times, each time up to an earlier event. A call may be open for as long as it
@@ -134,21 +211,6 @@ pub fn judge_run(
 ) -> Result<Verdict, AllocError>
     ensures { IfOk result (IsVerdict limits events.now most None) }
 {
-    let held = in_form(alloc, events)?;
-    let taken = held.as_slice();
-    let many = taken.len();
-    let base = Watch::new(alloc, limits)?;
-    let start = base.copied()?;
-    let outcome = judge_rest(start, 0, taken, most)?;
-    match outcome {
-        Outcome::Explained => {
-            if many == events.len() {
-                Ok(Verdict::Explained)
-            } else {
-                Ok(Verdict::Broken(many as u64))
-            }
-        }
-        Outcome::Unexplained(k) => find_stuck(&base, 0, taken, k, most),
-        Outcome::TooMany(k) => Ok(Verdict::Undecided(k as u64, Why::TooMany)),
-    }
+    let taken = in_form(alloc, events)?;
+    judge_taken(alloc, limits, taken.as_slice(), events.len(), most)
 }

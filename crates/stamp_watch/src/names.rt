@@ -3,9 +3,9 @@ ghost use Rattle.std.specs.Prelude.{ℕ, List, ◌≡◌, ◌≤◌, ◌==◌, �
 ghost use Rattle.stamp_core.specs.Content.{same_words, zeros};
 ghost use Rattle.stamp_core.specs.declared.call.Call.{Call};
 ghost use Rattle.stamp_core.specs.declared.reply.Reply.{Reply};
-ghost use Rattle.stamp_runs.specs.Names.{call_by, reply_by};
-ghost use Rattle.stamp_watch.specs.Names.{AreContents, EachOfCall, EachOfReply, IsByNumber, IsGrown, IsNamed, StaysWide, name_in, width_of};
-ghost use Rattle.stamp_watch.specs.inner.Names.{IsSmallCall, IsSmallReply};
+ghost use Rattle.stamp_runs.specs.Names.{EachOfCall, EachOfReply, call_by, reply_by};
+ghost use Rattle.stamp_watch.specs.Names.{AreContents, IsByNumber, IsGrown, IsNamed, StaysWide, name_in, width_of};
+ghost use Rattle.stamp_watch.specs.inner.Names.{IsSmallCall, IsSmallReply, IsToldAs};
 ghost use Rattle.stamp_watch.specs.Names.{IsNumberOf};
 
 use crate::stream_event::{StreamEvent, small_lane};
@@ -130,7 +130,7 @@ impl Names {
     }
 
     /// The reply with its content by number, which is added if it is new; nothing if it has another width.
-    fn reply(&mut self, reply: &Reply) -> Result<Option<SmallReply>, AllocError>
+    pub(crate) fn reply(&mut self, reply: &Reply) -> Result<Option<SmallReply>, AllocError>
         ensures reply { IfOk result (IsSmallReply self.old self.new reply.now) }
         ensures grows { IsGrown self.old self.new }
         ensures wide { StaysWide self.old self.new }
@@ -186,6 +186,22 @@ impl Names {
         match self.words_at(name.as_slice()[0]) {
             Some(words) => words,
             None => *name,
+        }
+    }
+
+    /// The reply in words that has this number, if one has.
+    pub(crate) fn told_as(&self, reply: SmallReply) -> Option<Reply>
+        ensures { IsToldAs self.now reply result }
+    {
+        match reply {
+            SmallReply::OfLock(own) => Some(own.as_reply()),
+            SmallReply::Content(number) => {
+                let words = self.words_at(number)?;
+                match self.find(words.as_slice()) {
+                    Some(found) if found == number => Some(Reply::Content(words)),
+                    _ => None,
+                }
+            }
         }
     }
 

@@ -36,7 +36,7 @@ fn either(alloc: Global, one: LockReply, other: LockReply) -> Result<Vec<SmallRe
 }
 
 /// The replies that a call may be given, if none of them is a stamp or a content.
-fn plain_replies(
+pub(crate) fn plain_replies(
     alloc: Global,
     limits: Limits,
     call: &Call,
@@ -59,7 +59,7 @@ fn plain_replies(
     }
 }
 
-fn reply_at(replies: &[SmallReply], place: usize) -> SmallReply
+pub(crate) fn reply_at(replies: &[SmallReply], place: usize) -> SmallReply
     requires { place < length replies.now }
     ensures { slice_get replies.now place ≡ Some result }
 {

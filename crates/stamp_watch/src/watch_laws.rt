@@ -4,7 +4,8 @@ ghost use Rattle.stamp_core.specs.Limits.{Bounds};
 ghost use Rattle.stamp_runs.specs.BothRun.{Both};
 ghost use Rattle.stamp_watch.specs.Late.{LaterExplainsNoMore};
 ghost use Rattle.stamp_watch.specs.LateLaws.{LateLosesNothing, LateStampLosesNothing, OlderIsTold, StampTellsVersion};
-ghost use Rattle.stamp_watch.specs.WatchLaws.{BeginsFirst, BeginsLate, BeginsSooner, BrokenIsTold, BrokenIsToldLate, CutAsEvents, ExplainedAsEvents, ExplainedAsObserved, ExplainedByNumbers, OrderExplains, PositionsTellOrder, ReturnsFirst, ShorterStayExplained, StuckAsEvents, StuckAsObserved, StuckAsSeen, StuckAtReturns, StuckByNumbers, TakesEffectFirst, TracesExplain, UnchangingNeverNeeded, WithdrawnMayBeLeftOut, WithdrawnTakesNoEffect, WithdrawsFirst};
+ghost use Rattle.stamp_watch.specs.ReplyLaws.{PossibleByNumbers, RepliesAreOfRecord};
+ghost use Rattle.stamp_watch.specs.WatchLaws.{BeginsFirst, BeginsLate, BeginsSooner, BrokenIsTold, BrokenIsToldLate, CutAsEvents, ExplainedAsEvents, ExplainedAsObserved, ExplainedByNumbers, OrderExplains, OrderOfHistory, OrderUpTo, PositionsTellOrder, ReturnsFirst, ShorterStayExplained, StuckAsEvents, StuckAsObserved, StuckAsSeen, StuckAtReturns, StuckByNumbers, TakesEffectFirst, TracesExplain, UnchangingNeverNeeded, WithdrawnMayBeLeftOut, WithdrawnTakesNoEffect, WithdrawsFirst};
 
 /// Where a call begins next, nothing is lost if it begins before other calls take effect.
 pub fn begins_first()
@@ -147,6 +148,16 @@ pub fn stuck_by_numbers()
     ensures { StuckByNumbers }
 {}
 
+/// An order in which calls took effect along those events is one of the history.
+pub fn order_of_history()
+    ensures { OrderOfHistory }
+{}
+
+/// So it is up to each of its moments, where what returns later is under way.
+pub fn order_up_to()
+    ensures { OrderUpTo }
+{}
+
 /// Where a run is explained before an event, and the event may not come there, the run is told as broken at the event,
 /// or was given up at an event before.
 pub fn broken_is_told()
@@ -156,4 +167,15 @@ pub fn broken_is_told()
 /// So it is where calls may be open for long.
 pub fn broken_is_told_late()
     ensures { BrokenIsToldLate }
+{}
+
+/// A reply of an observed history is possible exactly where its run by numbers is explained up to the return, with the
+/// reply there.
+pub fn possible_by_numbers()
+    ensures { PossibleByNumbers }
+{}
+
+/// A content that an explained history tells in a reply is one that its record may hold.
+pub fn replies_are_of_record()
+    ensures { RepliesAreOfRecord }
 {}

@@ -3,7 +3,11 @@
 #![tactic(auto)]
 
 #[cfg(test)]
+mod candidates_tests;
+#[cfg(test)]
 mod fixtures;
+#[cfg(test)]
+mod history_tests;
 #[cfg(test)]
 mod judge_tests;
 #[cfg(test)]
@@ -11,4 +15,8 @@ mod late_tests;
 #[cfg(test)]
 mod online_tests;
 #[cfg(test)]
+mod overtaking_tests;
+#[cfg(test)]
 mod record_tests;
+#[cfg(test)]
+mod reply_tests;

@@ -12,7 +12,7 @@ use Rattle.stamp_observed.specs.declared.judging.ObservedWhy.{ObservedWhy}
 use Rattle.stamp_observed.specs.declared.judging.ObservedWhy.TheVariants.{Interval, Overlap}
 use Rattle.stamp_observed.specs.declared.judging.ObservedFault.{ObservedFault}
 use Rattle.stamped_explain.specs.declared.finding.Finding.{Finding}
-use Rattle.stamped_explain.specs.declared.finding.Finding.TheVariants.{Faulty, Explained, Stuck, Unexplained}
+use Rattle.stamped_explain.specs.declared.finding.Finding.TheVariants.{Faulty, Explained, Stuck, StuckWithin}
 use Rattle.stamped_explain.specs.declared.finding.Finding.TheVariants.{Undecided}
 use Rattle.stamped_explain.specs.declared.orders.Explaining.{Explaining}
 use Rattle.stamped_explain.specs.declared.orders.Shown.{Shown}
@@ -54,12 +54,12 @@ abbrev pub IsFindingText : ObservedHistory → Explaining → Finding → List �
 IsFindingText h asked (Faulty fault) text = text ≡ bad_text fault
 IsFindingText h asked (Explained made) text = text ≡ explained_text asked.form made
 IsFindingText h asked (Stuck i) text = IsStuckText asked.shown h asked.most i text
-IsFindingText h asked (Unexplained i) text = text ≡ undecided_line i
+IsFindingText h asked (StuckWithin i j) text = text ≡ undecided_line i
 IsFindingText h asked (Undecided i) text = text ≡ undecided_line i
 
 abbrev pub finding_verdict : Finding → Verdict
 finding_verdict (Faulty fault) = Bad
 finding_verdict (Explained made) = Accepted
 finding_verdict (Stuck i) = Bad
-finding_verdict (Unexplained i) = Bad
+finding_verdict (StuckWithin i j) = Bad
 finding_verdict (Undecided i) = Bad

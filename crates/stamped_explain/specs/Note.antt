@@ -12,7 +12,7 @@ use Rattle.stamp_explain.specs.declared.observed.Observation.{Observation}
 use Rattle.stamp_explain.specs.Observed.{ObservedHistory, IsReturnAt}
 use Rattle.stamp_observed.specs.Small.{ArePossibleAt}
 use Rattle.stamped_explain.specs.declared.finding.Finding.{Finding}
-use Rattle.stamped_explain.specs.declared.finding.Finding.TheVariants.{Explained, Stuck, Unexplained}
+use Rattle.stamped_explain.specs.declared.finding.Finding.TheVariants.{Explained, Stuck, StuckWithin}
 use Rattle.stamped_explain.specs.declared.orders.Explaining.{Explaining}
 use Rattle.stamped_explain.specs.declared.orders.Told as orders
 use Rattle.stamped_explain.specs.declared.orders.Told.TheVariants.{Nothing, Trials}
@@ -64,7 +64,7 @@ IsNote h asked (Explained made) note = IsToldNote asked.told made note
 IsNote h asked (Stuck i) (Ok (Some text)) = IsStuckNote h asked.most i (string_bytes text)
 IsNote h asked (Stuck i) (Ok None) = ⊥
 IsNote h asked (Stuck i) (Err e) = Unit {0}
-IsNote h asked (Unexplained i) (Ok (Some text)) = string_bytes text ≡ unexplained_text
-IsNote h asked (Unexplained i) (Ok None) = ⊥
-IsNote h asked (Unexplained i) (Err e) = Unit {0}
+IsNote h asked (StuckWithin i j) (Ok (Some text)) = string_bytes text ≡ unexplained_text
+IsNote h asked (StuckWithin i j) (Ok None) = ⊥
+IsNote h asked (StuckWithin i j) (Err e) = Unit {0}
 IsNote h asked found note = note ≡ Ok None

@@ -132,7 +132,7 @@ pub(crate) fn line_of_finding(
         Finding::Explained(record) => Ok(accepted(text_of_explained(alloc, asked.form, record)?)),
         Finding::Faulty(fault) => Ok(rejected(BadText(*fault).to_string(alloc)?.into_bytes())),
         Finding::Stuck(entry) => Ok(rejected(text_of_stuck(alloc, asked, observed, *entry)?)),
-        Finding::Unexplained(entry) | Finding::Undecided(entry) => {
+        Finding::StuckWithin(entry, _) | Finding::Undecided(entry) => {
             Ok(rejected(format!(in alloc; "undecided {entry}")?.into_bytes()))
         }
     }

@@ -13,7 +13,8 @@ use crate::finding::Finding;
 use crate::orders::{Explaining, Told};
 use crate::trials::trials_text;
 use stamp_core::{Call, Record, Reply};
-use stamp_explain::{Observation, Observed, PossibleError, possible_at};
+use stamp_explain::{Observation, Observed};
+use stamp_watch::{PossibleError, possible_at};
 use std::alloc::{AllocError, Global};
 use std::fmt;
 
@@ -149,8 +150,7 @@ fn told_note(alloc: Global, made: &Record, told: Told) -> Result<Option<String>,
     }
 }
 
-/// The note of what was found, for standard error. A search gives up once it has looked at more than `most`
-/// configurations.
+/// The note of what was found, for standard error.
 pub(crate) fn note_of(
     alloc: Global,
     observed: &Observed,
@@ -163,7 +163,7 @@ pub(crate) fn note_of(
     match finding {
         Finding::Explained(record) => told_note(alloc, record, asked.told),
         Finding::Stuck(entry) => Ok(Some(stuck_note(alloc, observed, *entry, asked.most)?)),
-        Finding::Unexplained(_) => Ok(Some(unexplained_text(alloc)?)),
+        Finding::StuckWithin(_, _) => Ok(Some(unexplained_text(alloc)?)),
         _ => Ok(None),
     }
 }

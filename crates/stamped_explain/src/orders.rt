@@ -6,8 +6,8 @@ ghost use Rattle.stamped_explain.specs.Order as order;
 
 use stamp_cli::{CommandFault, Given, Options, given_in, number_in};
 
-/// The most configurations that a search looks at, if the command line says no other number.
-pub const MOST_CONFIGURATIONS: u64 = 4_000_000;
+/// The most positions that are kept of the lock, and of the record, if the command line says no other number.
+pub const MOST_POSITIONS: u64 = 4_000_000;
 
 /// What is written of a history that is explained.
 #[derive(Clone, Copy, Debug, PartialEq, Eq)]
@@ -45,7 +45,7 @@ pub struct Explaining {
     pub told: Told,
     /// What is written of it, if it is stuck.
     pub shown: Shown,
-    /// The most configurations that a search looks at.
+    /// The most positions that are kept of the lock, and of the record.
     pub most: u64,
 }
 
@@ -99,7 +99,7 @@ fn most_in(given: &Given) -> Option<u64>
 {
     match given.word_of("--most") {
         Some(word) => number_in(word),
-        None => Some(MOST_CONFIGURATIONS),
+        None => Some(MOST_POSITIONS),
     }
 }
 
@@ -139,7 +139,7 @@ fn form_of(args: &[&str]) -> Option<ExplainOrder>
 
 /// What the program's arguments ask for. `--help` alone asks how it is called. Otherwise a history is
 /// explained: `--judge` asks for a judgement of what was found, `--told` for what its calls tried, `--small`
-/// for a small history of one that is stuck, and `--most N` gives the most configurations, a number below
+/// for a small history of one that is stuck, and `--most N` gives the most positions, a number below
 /// 2^64 in decimal digits alone; without it they are 4,000,000. These stand in any order, each at most once.
 /// It refuses as 1 `Bad` exactly where the arguments are no such form.
 pub fn order_of(args: &[&str]) -> Result<ExplainOrder, CommandFault>

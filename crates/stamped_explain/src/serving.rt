@@ -21,10 +21,10 @@ use std::alloc::Global;
 /// which that isn't known. Or it says why there is no line. Of a history that no order explains it
 /// answers a line for standard error: where it is stuck, what the call answered, and all that it could
 /// have answered, or that this is undecided; elsewhere, that none explains it. If that is asked for, it
-/// answers one of a history that is explained, too: what its calls tried. A search gives up once it has
-/// looked at more than `most` configurations. It reads, writes and refuses as `serve` of `stamp_cli`
-/// does for a check: of at most 16,777,216 bytes, and what was read is gone also after a refusal. But
-/// that nothing came in is a fault of its own.
+/// answers one of a history that is explained, too: what its calls tried. At most `most` positions of the
+/// lock, and of the record, are kept. It reads, writes and refuses as `serve` of `stamp_cli` does for a
+/// check: of at most 16,777,216 bytes, and what was read is gone also after a refusal. But that nothing
+/// came in is a fault of its own.
 pub fn serve_explanation<S: Source, K: Sink>(
     alloc: Global,
     asked: Explaining,

@@ -5,18 +5,18 @@ use Rattle.std.specs.Prelude.{slice_get}
 use Rattle.std.specs.declared.alloc.Global.{Global}
 use Rattle.std.proofs.lemmas.Option.{same_Some}
 use Rattle.stamp_core.specs.declared.reply.Reply.{Reply}
-use Rattle.stamp_explain.specs.Answer.{IsAnswer}
 use Rattle.stamp_explain.specs.Cut.{IsStuck, cut_before}
 use Rattle.stamp_explain.specs.Explained.{IsExplained}
 use Rattle.stamp_explain.specs.Observed.{ObservedHistory, IsObserved, IsReturnAt}
 use Rattle.stamp_explain.specs.Possible.{AreAllPossible, IsPossible, IsSeenUntil}
-use Rattle.stamp_explain.specs.declared.explaining.ExplainError.{ExplainError}
-use Rattle.stamp_explain.specs.declared.explaining.ExplainError.TheVariants.{Stuck, Unexplained, Undecided, Memory}
 use Rattle.stamp_explain.specs.declared.observed.Observation.{Observation}
 use Rattle.stamp_explain.specs.declared.observed.Returned.{Returned}
-use Rattle.stamp_explain.proofs.Cutting.{explained_is_not_stuck}
+use Rattle.stamp_explain.proofs.Cutting.{cuts_stay_explained, explained_is_not_stuck}
 use Rattle.stamp_explain.proofs.Replying.{possible_is_seen}
 use Rattle.stamp_explain.proofs.Seeing.{seen_explains_as_much}
+use Rattle.stamp_watch.specs.History.{IsAnswer}
+use Rattle.stamp_watch.specs.declared.history.ExplainError.{ExplainError}
+use Rattle.stamp_watch.specs.declared.history.ExplainError.TheVariants.{Stuck, StuckWithin, Undecided, Memory}
 use Rattle.stamped_picture.specs.Explanation.{ArePossibleAt, GivesNoOrder, first_of}
 use Rattle.stamped_picture.specs.inner.Explanation.{IsExplainedUntil}
 
@@ -48,10 +48,11 @@ pub explained_until : {h : ObservedHistory} {i : ℕ} (most : ℕ) (possible : O
 explained_until most None observed stuck are = explained_before observed stuck
 explained_until most (Some replies) observed stuck are = with_first replies.items observed stuck are
 
--- what is explained is refused only where a search gives up
+-- what is explained is refused only where that is undecided
 pub gives_no_order : {h : ObservedHistory} {most : ℕ} (refused : ExplainError) → IsExplained h → refused ≢ Memory →
     IsAnswer h most (Err refused) → GivesNoOrder h most
 gives_no_order {h} (Stuck i) explained not is = absurd (explained_is_not_stuck h i explained is)
-gives_no_order (Unexplained i) explained not is = absurd (is.unexplained explained)
+gives_no_order {h} (StuckWithin i j) explained not is =
+    absurd (is.stuck (cuts_stay_explained h is.then.at.return.last (j + 1) explained))
 gives_no_order (Undecided i) explained not is = record { entry = i; is = is }
 gives_no_order Memory explained not is = absurd (not refl)

@@ -18,7 +18,7 @@ use Rattle.stamp_picture.specs.declared.picture.Fault.{Fault}
 use Rattle.stamp_picture.specs.Picture.{IsJudged}
 use Rattle.stamped_picture.specs.declared.explanation.Explanation.{Explanation}
 use Rattle.stamped_picture.specs.declared.explanation.Explanation.TheVariants.{Faulty, Explained, Stuck}
-use Rattle.stamped_picture.specs.declared.explanation.Explanation.TheVariants.{Unexplained, Undecided}
+use Rattle.stamped_picture.specs.declared.explanation.Explanation.TheVariants.{StuckWithin, Undecided}
 use Rattle.stamped_picture.specs.declared.faults.PictureFault.{PictureFault}
 use Rattle.stamped_picture.specs.declared.faults.PictureFault.TheVariants.{Serve, NoInput, TooMany}
 use Rattle.stamped_picture.specs.Answer.{DrawingView, verdict_in}
@@ -36,7 +36,7 @@ abbrev pub explanation_verdict : Explanation → Verdict
 explanation_verdict (Faulty fault) = Bad
 explanation_verdict (Explained order) = Accepted
 explanation_verdict (Stuck stuck) = Bad
-explanation_verdict (Unexplained i) = Bad
+explanation_verdict (StuckWithin i j) = Bad
 explanation_verdict (Undecided i) = Bad
 
 -- the page has an observed history's text, and what explains it, as its data

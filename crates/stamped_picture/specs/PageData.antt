@@ -15,7 +15,7 @@ use Rattle.stamp_picture.specs.declared.picture.Fault.{Fault}
 use Rattle.stamped_picture.specs.declared.explanation.StuckReturn.{StuckReturn}
 use Rattle.stamped_picture.specs.declared.explanation.Explanation.{Explanation}
 use Rattle.stamped_picture.specs.declared.explanation.Explanation.TheVariants.{Faulty, Explained, Stuck}
-use Rattle.stamped_picture.specs.declared.explanation.Explanation.TheVariants.{Unexplained, Undecided}
+use Rattle.stamped_picture.specs.declared.explanation.Explanation.TheVariants.{StuckWithin, Undecided}
 
 abbrev pub number_text : ℕ → List ℕ
 number_text n = compact_text (number_data n)
@@ -67,7 +67,7 @@ abbrev pub explanation_text : Explanation → List ℕ
 explanation_text (Faulty fault) = codes ",\"wrong\":{" ++ place_text fault.entry (observed_why_text fault.why)
 explanation_text (Explained order) = codes ",\"order\":" ++ history_text order
 explanation_text (Stuck stuck) = stuck_text stuck
-explanation_text (Unexplained i) = codes ",\"unexplained\":" ++ number_text i
+explanation_text (StuckWithin i j) = codes ",\"unexplained\":" ++ number_text i
 explanation_text (Undecided i) = codes ",\"undecided\":" ++ number_text i
 
 -- an observed history with what explains it

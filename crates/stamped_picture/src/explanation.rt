@@ -8,8 +8,9 @@ ghost use Rattle.stamped_picture.specs.Explanation.{ArePossibleAt, IsExplanation
 ghost use Rattle.stamped_picture.specs.inner.Explanation.{IsExplainedUntil};
 
 use stamp_core::{Record, Reply};
-use stamp_explain::{ExplainError, Observed, PossibleError, explain, possible_at, seen_until};
+use stamp_explain::{Observed, seen_until};
 use stamp_observed::{ObservedFault, fault_of};
+use stamp_watch::{ExplainError, PossibleError, explain, possible_at};
 use std::alloc::{AllocError, Global};
 
 /// A return that no order explains.
@@ -20,7 +21,7 @@ pub(crate) struct StuckReturn {
     /// All replies that were possible; nothing where that is undecided.
     pub(crate) possible: Option<Vec<Reply>>,
     /// What explains the history up to there, with the first of these in place of its reply, or, without
-    /// one, with its call under way; nothing where the search gives up.
+    /// one, with its call under way; nothing where that is undecided.
     pub(crate) order: Option<Record>,
 }
 
@@ -33,9 +34,10 @@ pub(crate) enum Explanation {
     Explained(Record),
     /// It is explained until a call returns, and no longer.
     Stuck(StuckReturn),
-    /// No order explains it; it is explained until this entry returns, and there the search gives up.
-    Unexplained(usize),
-    /// The search of it gives up; it is explained until this entry returns.
+    /// No order explains it. It is explained until the first of these entries returns, and no longer once the other
+    /// one has.
+    StuckWithin(usize, usize),
+    /// It is explained until this entry returns. Just before that more positions are possible than are kept.
     Undecided(usize),
 }
 
@@ -68,7 +70,7 @@ fn first_of(possible: &Option<Vec<Reply>>) -> Option<Reply>
 }
 
 /// What explains the history up to the return of this entry, with this reply of it or with none;
-/// nothing where the search gives up.
+/// nothing where that is undecided.
 fn order_until(
     alloc: Global,
     observed: &Observed,
@@ -111,8 +113,8 @@ fn stuck_return(
     })
 }
 
-/// What the search finds.
-fn searched(alloc: Global, observed: &Observed, most: u64) -> Result<Explanation, AllocError>
+/// What is found of a history that may be observed.
+fn judged(alloc: Global, observed: &Observed, most: u64) -> Result<Explanation, AllocError>
     requires { IsObserved observed.now }
     ensures { IfOk result (λ found. IsExplanation observed.now most found) }
 {
@@ -121,14 +123,14 @@ fn searched(alloc: Global, observed: &Observed, most: u64) -> Result<Explanation
         Err(ExplainError::Stuck(entry)) => {
             Ok(Explanation::Stuck(stuck_return(alloc, observed, entry, most)?))
         }
-        Err(ExplainError::Unexplained(entry)) => Ok(Explanation::Unexplained(entry)),
+        Err(ExplainError::StuckWithin(first, last)) => Ok(Explanation::StuckWithin(first, last)),
         Err(ExplainError::Undecided(entry)) => Ok(Explanation::Undecided(entry)),
         Err(ExplainError::Memory) => Err(AllocError),
     }
 }
 
-/// What is found: a fault of the observation, or else what the search finds. A search gives up once it has
-/// looked at more than `most` configurations.
+/// What is found: a fault of the observation, or else what the judge of its events finds, which keeps at most `most`
+/// positions of the lock, and of the record.
 pub(crate) fn explanation_of(
     alloc: Global,
     observed: &Observed,
@@ -139,6 +141,6 @@ pub(crate) fn explanation_of(
 {
     match fault_of(alloc, observed)? {
         Some(fault) => Ok(Explanation::Faulty(fault)),
-        None => searched(alloc, observed, most),
+        None => judged(alloc, observed, most),
     }
 }

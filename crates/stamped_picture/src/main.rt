@@ -2,7 +2,7 @@
 #![tactic(auto)]
 
 ghost use Rattle.stamp_cli.specs.Shell.{ServesEnds};
-ghost use Rattle.stamped_picture.specs.declared.TheConstants.{MOST_CONFIGURATIONS};
+ghost use Rattle.stamped_picture.specs.declared.TheConstants.{MOST_POSITIONS};
 ghost use Rattle.stamped_picture.specs.declared.help.TheConstants.{HELP};
 ghost use Rattle.stamped_picture.specs.declared.page_text.TheConstants.{PAGE_HEAD, PAGE_TAIL};
 ghost use Rattle.stamped_picture.specs.declared.style.TheConstants.{STYLE};
@@ -30,8 +30,8 @@ use stamp_cli::{Answered, CommandFault, Program, Sink, Source, run, serve_help};
 use std::alloc::Global;
 use std::process::ExitCode;
 
-/// The most configurations that a search looks at.
-const MOST_CONFIGURATIONS: u64 = 4_000_000;
+/// The most positions that are kept of the lock, and of the record.
+const MOST_POSITIONS: u64 = 4_000_000;
 
 /// The program `stamped_picture`.
 struct StampedPicture;
@@ -44,7 +44,7 @@ impl Program for StampedPicture {
     ghost order_in = { order_in };
 
     ghost serves = { λ command. ServesEnds
-        (IsServed MOST_CONFIGURATIONS STYLE.now PAGE_HEAD.now PAGE_TAIL.now HELP.now command) };
+        (IsServed MOST_POSITIONS STYLE.now PAGE_HEAD.now PAGE_TAIL.now HELP.now command) };
 
     fn order_of(arguments: &[&str]) -> Result<PictureCommand, CommandFault> {
         order_of(arguments)
@@ -63,7 +63,7 @@ impl Program for StampedPicture {
             PictureCommand::Draw(order) => serve_drawing(alloc, order, STYLE, source, sink),
             PictureCommand::Page => serve_asked_page(
                 alloc,
-                MOST_CONFIGURATIONS,
+                MOST_POSITIONS,
                 PAGE_HEAD,
                 PAGE_TAIL,
                 source,

@@ -34,7 +34,7 @@ fn explanation_verdict(found: &Explanation) -> Verdict
         Explanation::Explained(_) => Verdict::Accepted,
         Explanation::Faulty(_) => Verdict::Bad,
         Explanation::Stuck(_) => Verdict::Bad,
-        Explanation::Unexplained(_) => Verdict::Bad,
+        Explanation::StuckWithin(_, _) => Verdict::Bad,
         Explanation::Undecided(_) => Verdict::Bad,
     }
 }
@@ -60,8 +60,7 @@ fn recorded_page(
     })
 }
 
-/// The page of an observed history. A search gives up once it has looked at more than `most`
-/// configurations.
+/// The page of an observed history. At most `most` positions of the lock, and of the record, are kept.
 fn observed_page(
     alloc: Global,
     most: u64,

@@ -156,7 +156,7 @@ fn push_explanation(
         }
         Explanation::Explained(order) => push_history(alloc, text, ",\"order\":", order)?,
         Explanation::Stuck(stuck) => push_stuck(alloc, text, stuck)?,
-        Explanation::Unexplained(entry) => {
+        Explanation::StuckWithin(entry, _) => {
             push_numbered(text, ",\"unexplained\":", *entry as u64)?;
         }
         Explanation::Undecided(entry) => push_numbered(text, ",\"undecided\":", *entry as u64)?,

@@ -203,7 +203,7 @@ const faultName = data.undecided !== undefined ? 'undecided from this return on'
 function faultText(c) {
   if (stuck !== null) return 'no order explains this return; ' + possibleText();
   if (data.unexplained !== undefined) return 'no order explains the history, from this return or a later one on';
-  if (data.undecided !== undefined) return 'undecided from this return on: a search gave up';
+  if (data.undecided !== undefined) return 'undecided from this return on: too many positions are possible';
   return whyText(c);
 }
 function factsOf(c) {

@@ -52,8 +52,8 @@ pub(crate) fn serve<S: Source, K: Sink>(
     Ok(drawing.verdict)
 }
 
-/// Answers a command that asks for a page: reads all of the source and writes one page, or says why not. A
-/// search gives up once it has looked at more than `most` configurations.
+/// Answers a command that asks for a page: reads all of the source and writes one page, or says why not. At
+/// most `most` positions of the lock, and of the record, are kept.
 pub(crate) fn serve_page<S: Source, K: Sink>(
     alloc: Global,
     most: u64,

@@ -11,7 +11,8 @@ use Rattle.stamp_core.specs.Limits.{Bounds}
 use Rattle.stamp_runs.specs.declared.event.Event.{Event}
 use Rattle.stamp_runs.specs.declared.event.Event.TheVariants.{Begins, Returns, Withdraws}
 use Rattle.stamp_watch.specs.declared.late.LateJudge.{LateJudge}
-use Rattle.stamp_watch.specs.Names.{AreContents, EachOfEvent, IsEventBy, IsNamed}
+use Rattle.stamp_runs.specs.Names.{EachOfEvent}
+use Rattle.stamp_watch.specs.Names.{AreContents, IsEventBy, IsNamed}
 use Rattle.stamp_watch.proofs.JudgingLate.{late_way, run_long}
 use Rattle.stamp_watch.proofs.Named.{one_content}
 use Rattle.stamped_watch.specs.declared.header.Header.{Header}

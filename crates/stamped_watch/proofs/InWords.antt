@@ -14,7 +14,7 @@ use Rattle.stamp_core.specs.declared.call.Call.TheVariants as call
 use Rattle.stamp_core.specs.declared.reply.Reply.{Reply}
 use Rattle.stamp_core.specs.declared.reply.Reply.TheVariants as reply
 use Rattle.stamp_runs.specs.BothRun.{AreExplained, AreExplainedAt, AreStuckAt, AreStuckIn, Both}
-use Rattle.stamp_runs.specs.Names.{Names, call_by, event_by, reply_by}
+use Rattle.stamp_runs.specs.Names.{EachOfCall, EachOfEvent, EachOfReply, Names, call_by, event_by, reply_by}
 use Rattle.stamp_runs.specs.OneWord.{has_one_word, is_small_call, is_small_reply}
 use Rattle.stamp_runs.specs.Own.{none_open, open_after, open_then}
 use Rattle.stamp_runs.specs.Run.{AreExplainedFrom, AreStuckFrom, lane_of}
@@ -25,7 +25,7 @@ use Rattle.stamp_watch.specs.declared.ended_call.EndedCall.{EndedCall}
 use Rattle.stamp_watch.specs.Ahead.{IsSpared}
 use Rattle.stamp_watch.specs.EndedCall.{IsEndedAt, end_in}
 use Rattle.stamp_watch.specs.Form.{is_busy_after}
-use Rattle.stamp_watch.specs.Names.{EachOfCall, EachOfEvent, EachOfReply, IsEventBy, IsNamed, name_in}
+use Rattle.stamp_watch.specs.Names.{IsEventBy, IsNamed, name_in}
 use Rattle.stamp_watch.specs.Verdict.{AreOfLanes, IsOfLane}
 use Rattle.stamped_watch.specs.declared.header.Header.{Header}
 use Rattle.stamped_watch.specs.declared.misplaced.Misplaced.{Misplaced}

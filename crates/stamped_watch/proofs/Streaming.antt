@@ -14,10 +14,10 @@ use Rattle.stamp_core.specs.declared.call.Call.{Call}
 use Rattle.stamp_core.specs.declared.call.Call.TheVariants as call
 use Rattle.stamp_core.specs.declared.reply.Reply.{Reply}
 use Rattle.stamp_core.specs.declared.reply.Reply.TheVariants as reply
-use Rattle.stamp_runs.specs.Names.{event_by}
+use Rattle.stamp_runs.specs.Names.{EachOfCall, EachOfEvent, EachOfReply, event_by}
 use Rattle.stamp_runs.specs.declared.event.Event.{Event}
 use Rattle.stamp_runs.specs.declared.event.Event.TheVariants.{Begins, Returns, Withdraws}
-use Rattle.stamp_watch.specs.Names.{EachOfCall, EachOfEvent, EachOfReply, IsEventBy, IsGrown, IsNamed, IsWide}
+use Rattle.stamp_watch.specs.Names.{IsEventBy, IsGrown, IsNamed, IsWide}
 use Rattle.stamp_watch.specs.Names.{StaysWide}
 use Rattle.stamp_watch.specs.Names.{name_in}
 use Rattle.stamp_watch.proofs.JudgingLate.{late_way, run_long}

@@ -15,17 +15,17 @@ use Rattle.stamp_core.specs.declared.reply.Reply.TheVariants.{Stamp, Yes, No, Do
 use Rattle.stamp_runs.specs.Run.{lane_of}
 use Rattle.stamp_runs.specs.declared.event.Event.{Event}
 use Rattle.stamp_runs.specs.declared.event.Event.TheVariants.{Begins, Returns, Withdraws}
-use Rattle.stamp_watch.specs.Names.{EachOfEvent, IsWide}
+use Rattle.stamp_watch.specs.Names.{IsWide}
 use Rattle.stamped_watch.specs.declared.event_bytes.BadEvent.{BadEvent}
 use Rattle.stamped_watch.specs.declared.event_bytes.BadEvent.TheVariants as bad
 use Rattle.std.specs.Prelude.{ℕ, ◌≡◌, ◌≢◌, ◌+◌, ◌≤◌, List, [], Option, Some, None, MatchOption, true, ⊤}
 use Rattle.stamp_core.specs.LockDecision.{reply_as}
 use Rattle.stamp_core.specs.declared.lock_decision.LockReply.{LockReply}
 use Rattle.stamp_core.specs.declared.reply.Reply.TheVariants.{Content}
-use Rattle.stamp_runs.specs.Names.{Names, event_by}
+use Rattle.stamp_runs.specs.Names.{EachOfEvent, Names, event_by}
 use Rattle.stamp_core.specs.declared.lock_call.LockCall.{LockCall}
 use Rattle.stamp_core.specs.LockCall.{call_as}
-use Rattle.stamp_watch.specs.Names.{EachOfEvent, IsNamed}
+use Rattle.stamp_watch.specs.Names.{IsNamed}
 use Rattle.stamped_watch.specs.declared.event_bytes.Front.{Front}
 use Rattle.stamped_watch.specs.declared.event_bytes.Front.TheVariants.{Whole, Longer}
 

@@ -55,7 +55,7 @@ pub record BeganLate (ahead : ℕ) (bytes : List ℕ) (k : ℕ) : Type 0 where
   pub by : first ≤ k
   pub open_for : IsOpenFor run first (ahead - 64)
 
--- with one of the replies that the call may be given more than so many configurations are possible
+-- with one of the replies that the call may be given more than so many positions are possible
 pub record AreTooManyAt (most : ℕ) (bytes : List ℕ) (k : ℕ) (call : Call) : Type 0 where
   pub header : Header
   pub run : List Event

@@ -2,9 +2,9 @@
 use Rattle.std.specs.Prelude.{ℕ, ◌≡◌, ◌<◌, ◌≤◌, ◌⊎◌, ◌++◌, List, [], ◌∷◌, Option, length, map, take, drop, unwrap_or}
 use Rattle.std.specs.List.{All}
 use Rattle.stamp_core.specs.Content.{zeros}
-use Rattle.stamp_runs.specs.Names.{AreDifferent, Names, event_by}
+use Rattle.stamp_runs.specs.Names.{AreDifferent, EachOfEvent, Names, event_by}
 use Rattle.stamp_runs.specs.declared.event.Event.{Event}
-use Rattle.stamp_watch.specs.Names.{AreContents, EachOfEvent, IsNamed, name_in}
+use Rattle.stamp_watch.specs.Names.{AreContents, IsNamed, name_in}
 use Rattle.stamped_watch.specs.declared.header.Header.{Header}
 use Rattle.stamped_watch.specs.EventBytes.{HasBytes, HasFront, size_of}
 use Rattle.stamped_watch.specs.Header.{IsHeader}

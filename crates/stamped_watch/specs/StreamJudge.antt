@@ -22,12 +22,12 @@ use Rattle.stamp_core.specs.Content.{zeros}
 use Rattle.stamp_core.specs.Limits.{Bounds}
 use Rattle.stamp_runs.specs.declared.event.Event.TheVariants.{Begins, Returns, Withdraws}
 use Rattle.stamp_runs.specs.BothRun.{AreExplained}
-use Rattle.stamp_runs.specs.Names.{call_by, reply_by}
+use Rattle.stamp_runs.specs.Names.{EachOfCall, EachOfReply, call_by, reply_by}
 use Rattle.stamp_runs.specs.OneWord.{is_small_call, is_small_reply}
 use Rattle.stamp_watch.specs.declared.late_verdict.LateVerdict.{LateVerdict}
 use Rattle.stamp_watch.specs.EndedCall.{IsEndedAt}
 use Rattle.stamp_watch.specs.Late.{IsLateFound, IsLateVerdict}
-use Rattle.stamp_watch.specs.Names.{EachOfCall, EachOfReply, IsEventBy, IsGrown, IsNamed, StaysWide, name_in}
+use Rattle.stamp_watch.specs.Names.{IsEventBy, IsGrown, IsNamed, StaysWide, name_in}
 use Rattle.stamp_watch.specs.PossibleLate.{KeepsLater}
 use Rattle.stamp_watch.specs.Verdict.{AreOfLanes}
 use Rattle.stamped_watch.specs.declared.event_bytes.BadEvent.{BadEvent}
@@ -82,7 +82,7 @@ abbrev pub IsGivenOne : Bounds → ℕ → ℕ → List Event → Event → Late
 IsGivenOne limits most ahead run e judge None = IsGoingOn limits most ahead (run ++ e ∷ []) judge
 IsGivenOne limits most ahead run e judge (Some finding) = IsFoundWith limits most ahead run e finding
 
--- what the judge keeps is of the run, and for it as many configurations are too many, and calls begin later, as before
+-- what the judge keeps is of the run, and for it as many positions are too many, and calls begin later, as before
 pub record KeepsRun (limits : Bounds) (run : List Event) (old new : LateJudge) : Type 0 where
   pub keeps : KeepsLater limits run new
   pub most_is : new.delay.judge.most ≡ old.delay.judge.most

@@ -40,7 +40,7 @@ use Rattle.stamped_watch.specs.StreamJudge.{ended_of}
 abbrev pub most_starts : ℕ
 most_starts = 64
 
--- so many configurations are looked at by a search at most
+-- so many positions are kept at most where one is sought
 abbrev pub most_searched : ℕ
 most_searched = 16384
 
@@ -76,7 +76,7 @@ told_before judge number start =
     told_along (waiting_of judge.course.base start) (take (number - judge.course.first) judge.course.events.items)
 
 -- a small history was sought that is stuck at the call that ended there, behind the word of this start, of all other
--- calls that are told from there on, by searches that give up so
+-- calls that are told from there on, where no more than so many positions are kept
 pub record IsSoughtFrom (judge : Judge) (number : ℕ) (ended : EndedCall) (most start : ℕ) (sought : Sought) : Type 0
   where
     pub word : ℕ

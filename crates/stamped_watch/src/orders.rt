@@ -6,8 +6,8 @@ ghost use Rattle.stamped_watch.specs.Order as order;
 
 use stamp_cli::{CommandFault, Given, Options, given_in, number_in};
 
-/// The most configurations before an event, if the command line says no other number.
-pub const MOST_CONFIGURATIONS: u64 = 1_000_000;
+/// The most positions before an event, if the command line says no other number.
+pub const MOST_POSITIONS: u64 = 1_000_000;
 
 /// Among so many events the end of a call is looked for, if the command line says no other number.
 pub const EVENTS_AHEAD: usize = 4_194_304;
@@ -18,7 +18,7 @@ pub const MOST_AHEAD: u64 = 4_294_967_296;
 /// How a stream is to be judged.
 #[derive(Clone, Copy, Debug, PartialEq, Eq)]
 pub struct Watching {
-    /// The most configurations before an event.
+    /// The most positions before an event.
     pub most: u64,
     /// Among so many events the end of a call is looked for.
     pub ahead: usize,
@@ -69,7 +69,7 @@ fn most_in(given: &Given) -> Option<u64>
 {
     match given.word_of("--most") {
         Some(word) => number_in(word),
-        None => Some(MOST_CONFIGURATIONS),
+        None => Some(MOST_POSITIONS),
     }
 }
 
@@ -132,7 +132,7 @@ fn form_of(args: &[&str]) -> Option<WatchOrder>
 }
 
 /// What the program's arguments ask for. `--help` alone asks how it is called. Otherwise a stream is judged.
-/// `--progress` asks to be told how far. `--most N` gives the most configurations before an event,
+/// `--progress` asks to be told how far. `--most N` gives the most positions before an event,
 /// and `--ahead N` among how many events the end of a call is looked for, up to 2^32, both numbers below 2^64 in decimal
 /// digits alone; without them they are 1,000,000 and 4,194,304. `--witness FILE` names a file for a witness. A file that
 /// is judged may be named, too. These come in any order, each at most once. A word that begins with `-` names no file.

@@ -112,7 +112,7 @@ pub struct Watched {
 /// refusal. If it is asked for, it tells on the way how far the stream is judged, by a line behind each 2^24 events. A
 /// write of such a line that fails, or takes no byte, is the last of those, and changes nothing else.
 /// If a witness is asked for, the text of one is written where the stream is stuck: an observed history, judged by
-/// `explain`, that is stuck at the call which returned there. Or it answers why there is none. A write of it that fails
+/// `judge_history`, that is stuck at the call which returned there. Or it answers why there is none. A write of it that fails
 /// changes nothing else either.
 pub fn serve_stream<S: Source, K: Sink, T: Sink, W: Sink>(
     alloc: Global,

@@ -52,7 +52,7 @@ pub(crate) struct StreamJudge {
 }
 
 impl StreamJudge {
-    /// The judge of a stream of which nothing has come. More than `most` configurations before an event are too many
+    /// The judge of a stream of which nothing has come. More than `most` positions before an event are too many
     /// to go on. A call begins later that is open for all but 64 of `ahead` events.
     pub(crate) fn new(alloc: Global, most: u64, ahead: usize) -> StreamJudge
         ensures fed { IsFed most ahead [] result }
@@ -381,8 +381,8 @@ impl StreamJudge {
         })
     }
 
-    /// The text of a witness that the stream is stuck at the event with this number, or why there is none. A search
-    /// for it gives up once it has looked at more than `most` configurations.
+    /// The text of a witness that the stream is stuck at the event with this number, or why there is none. Where it is
+    /// sought no more than `most` positions are kept.
     pub(crate) fn witness_at(&self, number: u64, most: u64) -> Result<Vec<u8>, NoWitness>
         requires keeps { KeepsFedSome self.now }
         requires end { KeepsEndAt self.now.judge number }

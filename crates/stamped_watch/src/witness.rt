@@ -22,7 +22,7 @@ use std::alloc::{AllocError, AllocFailed, Global};
 /// So many starts are tried at most.
 const MOST_STARTS: usize = 64;
 
-/// A search for a witness looks at so many configurations at most.
+/// Where a witness is sought so many positions are kept at most.
 const MOST_SEARCHED: u64 = 16_384;
 
 /// Why there is no witness.
@@ -154,8 +154,8 @@ fn any_witness(
 
 /// A witness that the run is stuck at the event with this number: a small history that is stuck at the call which ends
 /// there. It begins where the events begin that the judge keeps. A run that is stuck there is so from one of the starts.
-/// There is none of a call that was withdrawn, and none may be found from the first 64 starts: a search gives up once it
-/// has looked at more than `most` configurations, or 16,384.
+/// There is none of a call that was withdrawn, and none may be found from the first 64 starts: no more than `most`
+/// positions are kept, nor than 16,384.
 fn witness_of(
     alloc: Global,
     judge: &Judge,

@@ -7,7 +7,7 @@ use Rattle.stamp_sets.specs.declared.open_call.OpenCall.{OpenCall}
 use Rattle.stamp_sets.specs.declared.position.Position.{Position}
 use Rattle.stamp_sets.specs.Judged.{Judged}
 use Rattle.stamp_sets.specs.Told.{open_at}
-use Rattle.stamp_sets.specs.Lanes.{SetsBit}
+use Rattle.stamp_sets.specs.Tracing.{IsReturnedFrom}
 use Rattle.stamp_sets.specs.inner.Lanes.{lanes_in}
 use Rattle.stamp_sets.specs.inner.Effect.{IsAfterEffect, IsEffect, IsLeftOut}
 use Rattle.stamp_sets.specs.inner.Start.{Includes, StartsWith}
@@ -58,13 +58,6 @@ pub record FollowsOne {S : Type 0} (o : Judged S) (table : List (Option OpenCall
   pub from : Position
   pub among : Contains layer from
   pub follows : FollowsIt o table awaited from x
-
--- the call of this lane is in effect in the first position, and the other is the first without it
-pub record IsReturnedFrom (lane : ℕ) (p q : Position) : Type 0 where
-  pub taken : bit_at p.in_effect lane ≡ 1
-  pub state : q.state ≡ p.state
-  pub clears : SetsBit p.in_effect q.in_effect lane 0
-  pub free : q.free ≡ p.free
 
 -- so it is in one of these
 pub record ReturnsFromOne (lane : ℕ) (layer : List Position) (x : Position) : Type 0 where

@@ -1,6 +1,7 @@
 -- The order of effects as it is read back.
-use Rattle.std.specs.Prelude.{ℕ, ◌≡◌, ◌++◌, List, [], ◌∷◌, map, reverse}
+use Rattle.std.specs.Prelude.{ℕ, ◌≡◌, ◌<◌, ◌≤◌, ◌-◌, ◌++◌, List, [], ◌∷◌, get_or, map, reverse}
 use Rattle.stamp_core.specs.declared.reply.Reply.{Reply}
+use Rattle.stamp_runs.specs.Merged.{Ascends, Merges}
 use Rattle.stamp_runs.specs.Run.{Lanes, all_idle}
 use Rattle.stamp_runs.specs.Trace.{LeadsBy, Move, Taken, order_from}
 use Rattle.stamp_runs.specs.declared.event.Event.{Event}
@@ -9,11 +10,8 @@ use Rattle.stamp_sets.specs.declared.order.EffectAt.{EffectAt}
 use Rattle.stamp_sets.specs.declared.order.Walk.{Walk}
 use Rattle.stamp_sets.specs.declared.trail.Entry.{Entry}
 use Rattle.stamp_sets.specs.declared.trail.Link.{Link}
-use Rattle.stamp_sets.specs.inner.Trail.{Says, events_in, lane_in, readers_of}
-
--- an effect without its reply
-abbrev pub effect_at : Taken → EffectAt
-effect_at x = record { lane = x.lane; point = x.point }
+use Rattle.stamp_sets.specs.Order.{effect_at}
+use Rattle.stamp_sets.specs.Tracing.{Says, events_in, lane_in, readers_of}
 
 abbrev pub at_point : ℕ → ℕ → EffectAt
 at_point point lane = record { lane = lane; point = point }
@@ -50,3 +48,29 @@ pub record IsOrderOf {S : Type 0} (o : Judged S) (past : List Event) (effects : 
   pub lanes : Lanes
   pub leads : LeadsBy o.step 0 order past o.start all_idle state lanes
   pub effects_are : map effect_at order ≡ reverse effects
+
+-- an effect by the numbers of all events, where the own events have these
+abbrev pub told_among : List ℕ → ℕ → EffectAt → EffectAt
+told_among numbers events x = at_point (get_or numbers x.point events) x.lane
+
+-- so the order is told of which the own events tell
+pub record IsOrderAmong {S : Type 0} (o : Judged S) (past : List Event) (numbers : List ℕ) (events : ℕ)
+    (effects : List EffectAt) : Type 0 where
+  pub own : List EffectAt
+  pub is : IsOrderOf o past own
+  pub told : effects ≡ map (told_among numbers events) own
+
+-- the effect before this place of the one order comes before that of the other, if it has one
+abbrev pub point_before : List EffectAt → ℕ → ℕ
+point_before effects place = (get_or effects (place - 1) (at_point 0 0)).point
+
+pub record IsNext (one : List EffectAt) (place : ℕ) (other : List EffectAt) (place_too : ℕ) : Type 0 where
+  pub some : 0 < place
+  pub low : 0 < place_too → point_before one place ≤ point_before other place_too
+
+-- these effects are those of both orders, in the order of their points
+pub record MergesTo (first second : List Taken) (effects : List EffectAt) : Type 0 where
+  pub order : List Taken
+  pub merges : Merges first second order
+  pub ascends : Ascends 0 order
+  pub effects_are : map effect_at order ≡ effects

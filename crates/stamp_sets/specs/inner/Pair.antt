@@ -7,11 +7,13 @@ use Rattle.stamp_sets.specs.declared.open_call.OpenCall.{OpenCall}
 use Rattle.stamp_sets.specs.declared.progress.Progress.{Progress}
 use Rattle.stamp_sets.specs.declared.progress.Progress.TheVariants.{Going, Dead, TooMany, Refused}
 use Rattle.stamp_sets.specs.declared.watch.Watch.{Watch}
+use Rattle.stamp_sets.specs.Tracing.{StaysTraced}
 use Rattle.stamp_sets.specs.Watch.{IsHopeless, IsWatching, SetsOpen, open_of}
 
 -- the half that an event is of takes it: its lane has this open call then, and the last return was at this place
 pub record GoesOnBy (event : Event) (slot : Option OpenCall) (place : ℕ) (old new : Watch) : Type 0 where
   pub watching : (past : List Event) → IsWatching past old → IsWatching (past ++ event ∷ []) new
+  pub tracing : StaysTraced event old new
   pub opens : SetsOpen (open_of old) (open_of new) (lane_of event) slot
   pub last : new.last ≡ place
   pub limits : new.limits ≡ old.limits
@@ -22,6 +24,8 @@ with_last place watch = record {
   limits = watch.limits;
   lock = watch.lock;
   «record» = watch.record;
+  lock_trace = watch.lock_trace;
+  record_trace = watch.record_trace;
   last = place;
 }
 

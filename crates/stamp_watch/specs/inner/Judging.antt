@@ -1,6 +1,6 @@
 -- How a run is judged whose events are all known.
 use Rattle.std.specs.Prelude.{ℕ, ◌≡◌, ◌≢◌, ◌+◌, ◌<◌, ◌≤◌, ◌++◌, List, [], ◌∷◌, length, take, drop}
-use Rattle.std.specs.Prelude.{Option, Some, None, IsTrue}
+use Rattle.std.specs.Prelude.{Option, Some, None, IsTrue, slice_get}
 use Rattle.std.specs.Int.{bit_at}
 use Rattle.stamp_core.specs.Limits.{Bounds}
 use Rattle.stamp_runs.specs.declared.event.Event.{Event}
@@ -20,6 +20,7 @@ use Rattle.stamp_watch.specs.Foretold.{told_as}
 use Rattle.stamp_watch.specs.Judging.{IsJudging}
 use Rattle.stamp_watch.specs.Verdict.{AreTooMany, IsInFormUpTo}
 use Rattle.stamp_sets.specs.Lanes.{SetsBit}
+use Rattle.stamp_sets.specs.Tracing.{IsTracing}
 
 abbrev pub IsFreeLane : ℕ → ℕ → Type 0
 IsFreeLane busy lane = (lane < 64) × (bit_at busy lane ≢ 1)
@@ -60,6 +61,17 @@ pub record IsJudgingOn (n : ℕ) (events : List Event) (watch : Watch) : Type 0 
   pub past : List Event
   pub judging : IsJudging limits n past events watch
 
+-- it has seen these events, behind any others that it had seen, and is traced if it was; nothing comes then
+pub record HasSeen (n : ℕ) (events : List Event) (old new : Watch) : Type 0 where
+  pub judging : (limits : Bounds) (past : List Event) → IsJudging limits n past events old →
+      IsJudging limits (n + length events) (past ++ events) [] new
+  pub traced : (past : List Event) → IsTracing past old → IsTracing (past ++ events) new
+
+-- these are all events of a run of so many, and a watch that had seen none has seen them
+pub record HasSeenAll (many : ℕ) (events : List Event) (old new : Watch) : Type 0 where
+  pub all : length events ≡ many
+  pub seen : HasSeen 0 events old new
+
 -- how the call that begins by this event ends among those that come, the first of which has this number
 abbrev pub IsEndTold : Event → ℕ → List Event → Ending → Type 0
 IsEndTold (event.Begins lane call) n ahead ends = told_as ends ≡ ending_of lane n ahead
@@ -72,6 +84,39 @@ IsStep limits n past e ahead most new progress.Going = IsJudging limits (n + 1) 
 IsStep limits n past e ahead most new progress.Dead = ¬ AreExplained limits (past ++ e ∷ ahead)
 IsStep limits n past e ahead most new progress.TooMany = AreTooMany limits n past (e ∷ ahead) most
 IsStep limits n past e ahead most new progress.Refused = ⊥
+
+-- the event is a return
+abbrev pub IsReturn : Event → Type 0
+IsReturn (event.Begins lane call) = ⊥
+IsReturn (event.Returns lane reply) = Unit {0}
+IsReturn (event.Withdraws lane) = ⊥
+
+-- too many positions are told of at a return alone
+abbrev pub IsManyAtReturn : Event → Progress → Type 0
+IsManyAtReturn e progress.Going = Unit {0}
+IsManyAtReturn e progress.Dead = Unit {0}
+IsManyAtReturn e progress.TooMany = IsReturn e
+IsManyAtReturn e progress.Refused = Unit {0}
+
+-- the event at this place is a return
+pub record ReturnsHere (events : List Event) (k : ℕ) : Type 0 where
+  pub event : Event
+  pub here : slice_get events k ≡ Some event
+  pub is : IsReturn event
+
+-- so it is where events are judged one by one
+abbrev pub StopsAtReturn : List Event → Outcome → Type 0
+StopsAtReturn events Explained = Unit {0}
+StopsAtReturn events (Unexplained k) = Unit {0}
+StopsAtReturn events (TooMany k) = ReturnsHere events k
+
+-- a verdict that gives up does so at a return among these events, and one that breaks off does so behind them
+abbrev pub GivesUpAmong : List Event → Verdict → Type 0
+GivesUpAmong events verdict.Explained = Unit {0}
+GivesUpAmong events (verdict.Stuck k) = Unit {0}
+GivesUpAmong events (verdict.StuckWithin k m) = Unit {0}
+GivesUpAmong events (verdict.Undecided k why) = ReturnsHere events k
+GivesUpAmong events (verdict.Broken k) = k ≡ length events
 
 -- what is found of events that come behind others; the first of them has this number
 abbrev pub IsOutcome : Bounds → ℕ → List Event → List Event → ℕ → Outcome → Type 0
@@ -92,13 +137,14 @@ pub record IsStuckBehind (limits : Bounds) (past events : List Event) (k : ℕ) 
   pub explained : AreExplained limits (past ++ take k events)
   pub stuck : ¬ AreExplained limits (past ++ events)
 
--- the verdict tells of one of the events with these numbers, if it tells of a stuck one
+-- the verdict tells of one of the events with these numbers, if it tells of a stuck one; it gives up at
+-- none, and breaks off at none
 abbrev pub IsStuckAmong : ℕ → ℕ → Verdict → Type 0
 IsStuckAmong from to verdict.Explained = Unit {0}
 IsStuckAmong from to (verdict.Stuck k) = (from ≤ k) × (k < to)
 IsStuckAmong from to (verdict.StuckWithin k m) = Unit {0}
-IsStuckAmong from to (verdict.Undecided k why) = Unit {0}
-IsStuckAmong from to (verdict.Broken k) = Unit {0}
+IsStuckAmong from to (verdict.Undecided k why) = ⊥
+IsStuckAmong from to (verdict.Broken k) = ⊥
 
 -- so it is behind some events
 pub record IsStuckFrom (n k : ℕ) (events : List Event) (watch : Watch) : Type 0 where

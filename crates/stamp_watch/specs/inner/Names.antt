@@ -1,13 +1,12 @@
 -- Contents by numbers, step by step.
-use Rattle.std.specs.Prelude.{ℕ, ◌≡◌, List, [], ◌∷◌, Option, MatchOption, Vec, map}
-use Rattle.std.specs.declared.alloc.Global.{Global}
+use Rattle.std.specs.Prelude.{ℕ, ◌≡◌, List, Option, MatchOption}
 use Rattle.stamp_core.specs.declared.call.Call.{Call}
 use Rattle.stamp_core.specs.declared.reply.Reply.{Reply}
-use Rattle.stamp_runs.specs.Names.{call_by, reply_by}
+use Rattle.stamp_runs.specs.Names.{EachOfCall, EachOfReply, call_by, reply_by}
 use Rattle.stamp_sets.specs.SmallCall.{call_of, reply_of}
 use Rattle.stamp_sets.specs.declared.small_call.SmallCall.{SmallCall}
 use Rattle.stamp_sets.specs.declared.small_call.SmallReply.{SmallReply}
-use Rattle.stamp_watch.specs.Names.{EachOfCall, EachOfReply, IsNamed, IsWide, name_in, width_of}
+use Rattle.stamp_watch.specs.Names.{IsNamed, IsWide, name_in, width_of}
 
 -- the call by the numbers of its contents; or one has another width
 pub record IsCallBy (contents : List (List ℕ)) (call : Call) (small : SmallCall) : Type 0 where
@@ -25,3 +24,9 @@ pub record IsReplyBy (contents : List (List ℕ)) (reply : Reply) (small : Small
 abbrev pub IsSmallReply : List (List ℕ) → List (List ℕ) → Reply → Option SmallReply → Type 0
 IsSmallReply old new reply small =
     MatchOption small (¬ EachOfReply (IsWide (width_of old)) reply) (IsReplyBy new reply)
+
+-- the reply that this one tells by numbers; or none does
+abbrev pub IsToldAs : List (List ℕ) → SmallReply → Option Reply → Type 0
+IsToldAs contents small told =
+    MatchOption told ((reply : Reply) → ¬ IsReplyBy contents reply small)
+    (λ (reply : Reply). IsReplyBy contents reply small)

@@ -6,12 +6,12 @@ use Rattle.stamp_core.specs.declared.call.Call.{Call}
 use Rattle.stamp_core.specs.declared.lock_decision.LockReply.{LockReply}
 use Rattle.stamp_core.specs.declared.reply.Reply.{Reply}
 use Rattle.stamp_core.specs.declared.reply.Reply.TheVariants.{Content}
-use Rattle.stamp_runs.specs.Names.{Names, event_by}
+use Rattle.stamp_runs.specs.Names.{EachOfEvent, Names, event_by}
 use Rattle.stamp_runs.specs.Run.{lane_of}
 use Rattle.stamp_runs.specs.declared.event.Event.{Event}
 use Rattle.stamp_core.specs.declared.lock_call.LockCall.{LockCall}
 use Rattle.stamp_core.specs.LockCall.{call_as}
-use Rattle.stamp_watch.specs.Names.{EachOfEvent, IsNamed}
+use Rattle.stamp_watch.specs.Names.{IsNamed}
 use Rattle.stamped_watch.specs.declared.event_bytes.Front.{Front}
 use Rattle.stamped_watch.specs.declared.event_bytes.Front.TheVariants.{Whole, Longer}
 use Rattle.stamped_watch.specs.EventBytes.{HasFront, IsOfWidth, call_kind, call_number, is_of_lock, kind_of}

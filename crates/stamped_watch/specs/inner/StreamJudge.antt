@@ -6,7 +6,7 @@ use Rattle.stamp_core.specs.Limits.{Bounds}
 use Rattle.stamp_runs.specs.declared.event.Event.{Event}
 use Rattle.stamp_runs.specs.declared.event.Event.TheVariants.{Begins, Returns, Withdraws}
 use Rattle.stamp_runs.specs.BothRun.{AreExplained}
-use Rattle.stamp_runs.specs.Names.{call_by, reply_by}
+use Rattle.stamp_runs.specs.Names.{EachOfCall, EachOfReply, call_by, reply_by}
 use Rattle.stamp_runs.specs.OneWord.{is_small_call, is_small_reply}
 use Rattle.stamp_watch.specs.declared.ended_call.EndedCall.{EndedCall}
 use Rattle.stamp_watch.specs.declared.late.LateJudge.{LateJudge}
@@ -14,7 +14,7 @@ use Rattle.stamp_watch.specs.declared.late_verdict.LateVerdict.{LateVerdict}
 use Rattle.stamp_watch.specs.EndedCall.{IsEndedAt}
 use Rattle.stamp_watch.specs.Late.{IsLateFound, IsLateVerdict}
 use Rattle.stamp_watch.specs.LateJudge.{HasFoundNothingLater, IsLateJudge}
-use Rattle.stamp_watch.specs.Names.{EachOfCall, EachOfReply, IsEventBy, IsGrown, IsNamed, StaysWide, name_in}
+use Rattle.stamp_watch.specs.Names.{IsEventBy, IsGrown, IsNamed, StaysWide, name_in}
 use Rattle.stamp_watch.specs.PossibleLate.{KeepsLater}
 use Rattle.stamp_watch.specs.Verdict.{AreOfLanes}
 use Rattle.stamped_watch.specs.declared.event_bytes.BadEvent.{BadEvent}

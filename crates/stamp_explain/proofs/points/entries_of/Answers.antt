@@ -1,5 +1,5 @@
 use Rattle.std.proofs.Common.{◌≡◌, sym, subst, arith}
-use Rattle.stamp_explain.specs.inner.Linearization.{IsLinearizationOf}
+use Rattle.stamp_explain.specs.inner.Points.{IsLinearizationOf}
 use Rattle.stamp_explain.specs.Observed.{IsLow}
 use Rattle.stamp_explain.specs.Points.{IsLastTold}
 use Rattle.stamp_explain.proofs.MakingEntries.{MakesNext, all_made, call_inside, has_points, makes_next, makes_none}

@@ -1,4 +1,4 @@
-use Rattle.stamp_explain.specs.inner.Linearization.{IsLinearizationOf}
+use Rattle.stamp_explain.specs.inner.Points.{IsLinearizationOf}
 use Rattle.stamp_explain.proofs.MakingEntries.{MakesEntries}
 use Rattle.stamp_explain.proofs.points.entries_of.Given as goal
 

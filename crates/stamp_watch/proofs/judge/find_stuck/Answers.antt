@@ -24,7 +24,8 @@ returns-in-TooMany-clause-found c ahead = search_too_many c.args.first c.args.ex
     c.loop-low.low
     c.loop-low.high c.loop-low.invariant (c.loop-low.low + (c.loop-low.high - c.loop-low.low) / 2) c.args.most
     c.in-TooMany.field-0 ahead c.in_ok-start.start c.in_ok-outcome.outcome (omega (arith, c.loop-low.invariant.apart))
-    (omega (arith, c.loop-low.invariant.apart)) refl c.in-TooMany.is c.in_ok-start.ensures c.in_ok-outcome.ensures
+    (omega (arith, c.loop-low.invariant.apart)) refl c.in-TooMany.is c.in_ok-start.ensures
+    c.in_ok-outcome.ensures.outcome
 
 pub returns-clause-found : goal.returns-clause-found
 returns-clause-found c ahead = search_ends c.args.first c.args.explained c.args.events.now c.args.base.now
@@ -43,7 +44,7 @@ loop-low-preserved-in-Explained c = searching_higher c.args.first c.args.explain
     c.loop-low.low c.loop-low.high c.loop-low.invariant (c.loop-low.low + (c.loop-low.high - c.loop-low.low) / 2)
     c.args.most
     c.in_ok-start.start c.in_ok-outcome.outcome (omega (arith, c.loop-low.invariant.apart))
-    (omega (arith, c.loop-low.invariant.apart)) c.in-Explained.is c.in_ok-start.ensures c.in_ok-outcome.ensures
+    (omega (arith, c.loop-low.invariant.apart)) c.in-Explained.is c.in_ok-start.ensures c.in_ok-outcome.ensures.outcome
 
 pub loop-low-preserved : goal.loop-low-preserved
 loop-low-preserved c = searching_lower c.args.first c.args.explained c.args.events.now c.args.base.now
@@ -51,4 +52,4 @@ loop-low-preserved c = searching_lower c.args.first c.args.explained c.args.even
     c.args.most
     c.in-Unexplained.field-0 c.in_ok-start.start c.in_ok-outcome.outcome
     (omega (arith, c.loop-low.invariant.apart)) (omega (arith, c.loop-low.invariant.apart)) c.in-Unexplained.is
-    c.in_ok-start.ensures c.in_ok-outcome.ensures
+    c.in_ok-start.ensures c.in_ok-outcome.ensures.outcome

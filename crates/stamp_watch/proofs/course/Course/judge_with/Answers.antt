@@ -54,4 +54,4 @@ pub returns : goal.returns
 returns c = IfOk-weaker c.judge_rest.result _ _ (λ outcome says limits run kept.
     let at = (goal.at.returns c).After-as_slice-2 in
     subst (λ (xs : List Event). IsOutcome limits c.args.self.now.first kept.past xs c.args.most outcome)
-    (same_trial at) (says limits kept.past (judging_here at limits run kept))) c.judge_rest.ensures
+    (same_trial at) (says limits kept.past (judging_here at limits run kept))) c.judge_rest.ensures.outcome

@@ -35,7 +35,7 @@ outcome_here : (c : In_ok-outcome) (limits : Bounds) (run : List Event) (is : Is
 outcome_here c limits run is = rest_outcome limits run c.args.self.now.first c.args.self.now.seen
     c.args.self.now.events.items c.args.self.now.base c.args.self.now.watch is.on c.as_slice-events.result.now
     c.as_slice-events.ensures.value c.args.most c.in_ok-outcome.outcome
-    (c.in_ok-outcome.ensures limits (is.on.past ++ take c.args.self.now.seen c.args.self.now.events.items)
+    (c.in_ok-outcome.ensures.outcome limits (is.on.past ++ take c.args.self.now.seen c.args.self.now.events.items)
     (rest_judged limits run c.args.self.now.first c.args.self.now.seen c.args.self.now.events.items
     c.args.self.now.base c.args.self.now.watch is.on c.as_slice-events.result.now c.as_slice-events.ensures.value
     c.in_ok-start.start c.in_ok-start.ensures))

@@ -25,7 +25,7 @@ step_here : (c : In_ok-progress) (limits : Bounds) (run : List Event) (is : IsCo
     (is.on.past ++ take c.args.self.now.seen c.args.self.now.events.items) c.args.event.now
     (drop (c.args.self.now.seen + 1) c.args.self.now.events.items) c.args.most c.step.new.watch
     c.in_ok-progress.progress
-step_here c limits run is = c.in_ok-progress.ensures limits (c.args.self.now.first + c.args.self.now.seen)
+step_here c limits run is = c.in_ok-progress.ensures.step limits (c.args.self.now.first + c.args.self.now.seen)
     (is.on.past ++ take c.args.self.now.seen c.args.self.now.events.items)
     (drop (c.args.self.now.seen + 1) c.args.self.now.events.items) c.requires.told.told
     (run_here limits run c.args.self.now.first c.args.self.now.seen c.args.self.now.events.items

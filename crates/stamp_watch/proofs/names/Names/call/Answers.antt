@@ -2,7 +2,8 @@ use Rattle.std.proofs.Common.{◌≡◌, ◌∙◌, ◌==◌, eq-eqb, false, len
 use Rattle.std.proofs.lemmas.Bool.{false≢true}
 use Rattle.stamp_core.specs.declared.call.Call.{Call}
 use Rattle.stamp_sets.specs.declared.small_call.SmallCall.TheVariants as small
-use Rattle.stamp_watch.specs.Names.{EachOfCall, IsWide, width_of}
+use Rattle.stamp_runs.specs.Names.{EachOfCall}
+use Rattle.stamp_watch.specs.Names.{IsWide, width_of}
 use Rattle.stamp_watch.specs.inner.Names.{IsCallBy}
 use Rattle.stamp_watch.specs.Names.{IsNumberOf}
 use Rattle.stamp_watch.proofs.Named.{put_if_named}

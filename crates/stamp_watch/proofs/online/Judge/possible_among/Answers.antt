@@ -5,7 +5,7 @@ use Rattle.std.proofs.lemmas.List.{map-append, take_all}
 use Rattle.stamp_sets.specs.SmallCall.{reply_of}
 use Rattle.stamp_sets.specs.declared.small_call.SmallReply.{SmallReply}
 use Rattle.stamp_core.specs.declared.reply.Reply.{Reply}
-use Rattle.stamp_explain.proofs.AddingNew.{contains_at}
+use Rattle.stamp_explain.proofs.Lists.{contains_at}
 use Rattle.stamp_explain.proofs.Choosing.{AreChosen, chosen, none_more_chosen, one_chosen}
 use Rattle.stamp_watch.specs.Possible.{IsPossibleReply}
 use Rattle.stamp_watch.specs.inner.Possible.{IsPossibleSo}

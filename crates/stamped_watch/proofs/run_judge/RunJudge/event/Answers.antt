@@ -1,6 +1,7 @@
 use Rattle.std.proofs.Common.{ℕ, ◌≡◌, ◌<◌, ◌∙◌, ◌++◌, List, Option, ap, subst, sym}
 use Rattle.stamp_runs.specs.Run.{lane_of}
-use Rattle.stamp_watch.specs.Names.{EachOfEvent, IsByNumber, IsWide, width_of}
+use Rattle.stamp_runs.specs.Names.{EachOfEvent}
+use Rattle.stamp_watch.specs.Names.{IsByNumber, IsWide, width_of}
 use Rattle.stamp_watch.proofs.Named.{width_is}
 use Rattle.stamped_watch.specs.EventBytes.{lane_in}
 use Rattle.stamped_watch.specs.Stream.{words_of_record}
