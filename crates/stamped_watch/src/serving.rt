@@ -104,6 +104,52 @@ pub struct Watched {
     pub shown: Result<Shown, NoWitness>,
 }
 
+/// Serves the stream with this judge, which is new, as `serve_stream` says.
+fn serve_with<S: Source, K: Sink, T: Sink, W: Sink>(
+    alloc: Global,
+    asked: Watching,
+    source: &mut S,
+    sink: &mut K,
+    told: &mut T,
+    witness: &mut W,
+    judge: &mut StreamJudge,
+) -> Result<Watched, ServeFault>
+    requires new { IsFed asked.most asked.ahead [] judge.old }
+    requires none { judge.old.found ≡ None }
+    ensures reads { HasReadOn ReadFault (S.left source.old) (S.left source.new)
+        (S.reads source.old) (S.reads source.new) result }
+    ensures ok { WritesAnswer (AnswersStream asked (S.left source.old) (S.left source.new)
+        (S.reads source.old) (S.reads source.new)) (IsAnsweredBy asked (S.left source.old)
+        (S.left source.new) (S.reads source.old) (S.reads source.new)
+        (record { sent = W.sent witness.old; writes = W.writes witness.old })
+        (record { sent = W.sent witness.new; writes = W.writes witness.new })) line_of
+        (K.sent sink.old) (K.sent sink.new) (K.writes sink.old) (K.writes sink.new) result }
+    ensures refused { RefusesAsDue ReadFault WriteFault Memory (AnswersStream asked (S.left source.old)
+        (S.left source.new) (S.reads source.old) (S.reads source.new)) result }
+    ensures writes { HasWritten WriteFault (K.sent sink.old) (K.sent sink.new)
+        (K.writes sink.old) (K.writes sink.new) result }
+    ensures front { WritesFront WriteFault (AnswersStream asked (S.left source.old) (S.left source.new)
+        (S.reads source.old) (S.reads source.new)) line_of
+        (K.sent sink.old) (K.sent sink.new) (K.writes sink.old) (K.writes sink.new) result }
+    ensures told { HasTold asked (S.left source.old) (S.left source.new) (S.reads source.old) (S.reads source.new)
+        (T.sent told.old) (T.sent told.new) (T.writes told.old) (T.writes told.new) result }
+    ensures silent { OnErr result (witness.new ≡ witness.old) }
+{
+    let mut telling = Telling::new(alloc, asked.progress);
+    let mut chunk = zeros(alloc)?;
+    let finding = fed_from(source, &mut chunk, judge, &mut telling, told, asked)?;
+    let Line { mut text, verdict } = line_of_finding(alloc, &finding)?;
+    text.push(b'\n')?;
+    write_text(sink, &text)?;
+    let note = note_of(alloc, asked, &finding, judge);
+    let shown = show_witness(asked, &finding, judge, witness);
+    Ok(Watched {
+        verdict,
+        note,
+        shown,
+    })
+}
+
 /// Judges the stream that it reads of the source, of any length, and writes one line of that. It reads on only while
 /// all but the last events that came, at most 64 and twice those looked at ahead, are explained. What it answers
 /// besides is for standard error: of a stream that is stuck which call ended there and which replies were possible, and
@@ -154,19 +200,7 @@ pub fn serve_stream<S: Source, K: Sink, T: Sink, W: Sink>(
     ensures silent { OnErr result (witness.new ≡ witness.old) }
 {
     let mut judge = StreamJudge::new(alloc, asked.most, asked.ahead);
-    let mut telling = Telling::new(alloc, asked.progress);
-    let mut chunk = zeros(alloc)?;
-    let finding = fed_from(source, &mut chunk, &mut judge, &mut telling, told, asked)?;
-    let Line { mut text, verdict } = line_of_finding(alloc, &finding)?;
-    text.push(b'\n')?;
-    write_text(sink, &text)?;
-    let note = note_of(alloc, asked, &finding, &judge);
-    let shown = show_witness(asked, &finding, &judge, witness);
-    Ok(Watched {
-        verdict,
-        note,
-        shown,
-    })
+    serve_with(alloc, asked, source, sink, told, witness, &mut judge)
 }
 
 /// Serves a judgement, as `serve_stream` does, and answers what the shell of a program has to tell.

@@ -7,7 +7,7 @@ use Rattle.stamped_watch.proofs.LinesTold.{told_nothing, told_of_answer}
 use Rattle.stamp_cli.specs.Results.{any_since}
 use Rattle.stamp_cli.specs.TakesNone.{takes_none}
 use Rattle.stamped_watch.proofs.Showing.{written_badly}
-use Rattle.stamped_watch.proofs.serving.serve_stream.Goals as goal
+use Rattle.stamped_watch.proofs.serving.serve_with.Goals as goal
 
 pub returns-in_err-chunk-clause-reads : goal.returns-in_err-chunk-clause-reads
 returns-in_err-chunk-clause-reads g c = reads_none (g.S.Source.left c.args.source.now)
