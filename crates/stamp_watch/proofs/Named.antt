@@ -3,7 +3,7 @@ use Rattle.std.proofs.Common.{ℕ, ◌≡◌, ◌≢◌, ◌⊎◌, ◌+◌, ◌
 use Rattle.std.proofs.Common.{Option, Some}
 use Rattle.std.proofs.Common.{ne_eqb, suc}
 use Rattle.std.proofs.Common.{None, refl, sym, ◌∙◌, ap, subst, arith, inl, inr, get_or, length-append}
-use Rattle.std.specs.Prelude.{Vec, cond, if◌then◌else◌, nat_lt, not, position, slice_get}
+use Rattle.std.specs.Prelude.{Vec, cond, if◌then◌else◌, nat_lt, not, position, slice_get, unwrap_or}
 use Rattle.std.specs.List.{list_any, position_or_len}
 use Rattle.std.specs.Option.{option_map_or}
 use Rattle.std.specs.declared.alloc.Global.{Global}
@@ -31,7 +31,7 @@ use Rattle.stamp_runs.specs.declared.event.Event.TheVariants.{Begins, Returns, W
 use Rattle.stamp_sets.specs.declared.small_call.SmallCall.TheVariants as small
 use Rattle.stamp_sets.specs.declared.small_call.SmallReply.TheVariants as given
 use Rattle.stamp_watch.specs.Names.{AreContents, IsGrown, IsNamed, name_in}
-use Rattle.stamp_watch.specs.Names.{width_of}
+use Rattle.stamp_watch.specs.Names.{width_of, words_in}
 use Rattle.stamp_watch.specs.inner.Names.{IsCallBy, IsReplyBy}
 use Rattle.stamp_watch.specs.Names.{IsNumberOf, rows}
 
@@ -375,6 +375,18 @@ back_in_words contents name words named same =
 pub one_word_long : (contents : List (List ℕ)) (name words : List ℕ) → IsNamed contents words →
     name_in contents words ≡ name → length name ≡ 1
 one_word_long contents name words named same = ap length (sym same ∙ named.1)
+
+-- one word is a number, and other words stay
+pub number_in_words : (contents : List (List ℕ)) (name : List ℕ) → length name ≡ 1 →
+    words_in contents name ≡ unwrap_or (slice_get contents (get_or name 0 0)) name
+number_in_words contents [] one = absurd (cc)
+number_in_words contents (number ∷ []) one = refl
+number_in_words contents (number ∷ next ∷ more) one = absurd (cc)
+
+pub others_stay : (contents : List (List ℕ)) (name : List ℕ) → length name ≢ 1 → words_in contents name ≡ name
+others_stay contents [] many = refl
+others_stay contents (number ∷ []) many = absurd (many refl)
+others_stay contents (number ∷ next ∷ more) many = refl
 
 put_same : {a b : List ℕ} → call.Put a ≡ call.Put b → a ≡ b
 put_same same = cc

@@ -1,6 +1,6 @@
 -- The contents of a record by numbers, which are names for them.
 use Rattle.std.specs.Prelude.{ℕ, ◌≡◌, ◌<◌, ◌≤◌, ◌++◌, List, [], ◌∷◌, Option, Some, MatchOption, length, position}
-use Rattle.std.specs.Prelude.{Vec, map, slice_get, slice_index_or}
+use Rattle.std.specs.Prelude.{Vec, map, slice_get, slice_index_or, unwrap_or}
 use Rattle.std.specs.declared.alloc.Global.{Global}
 use Rattle.std.specs.List.{All}
 use Rattle.std.specs.Option.{option_map_or}
@@ -17,6 +17,11 @@ rows contents = map (λ (words : Vec ℕ Global). words.items) contents
 abbrev pub name_in : List (List ℕ) → Names
 name_in contents words =
     option_map_or (λ (n : ℕ). n ∷ []) (position (same_words words) contents) (0 ∷ 0 ∷ words)
+
+-- back again: the content of which the one word is the number, and any other words as they are
+abbrev pub words_in : List (List ℕ) → Names
+words_in contents (number ∷ []) = unwrap_or (slice_get contents number) (number ∷ [])
+words_in contents words = words
 
 abbrev pub IsNumberOf : List (List ℕ) → List ℕ → ℕ → Type 0
 IsNumberOf contents words number = name_in contents words ≡ number ∷ []

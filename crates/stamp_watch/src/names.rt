@@ -4,7 +4,7 @@ ghost use Rattle.stamp_core.specs.Content.{same_words, zeros};
 ghost use Rattle.stamp_core.specs.declared.call.Call.{Call};
 ghost use Rattle.stamp_core.specs.declared.reply.Reply.{Reply};
 ghost use Rattle.stamp_runs.specs.Names.{EachOfCall, EachOfReply, call_by, reply_by};
-ghost use Rattle.stamp_watch.specs.Names.{AreContents, IsByNumber, IsGrown, IsNamed, StaysWide, name_in, width_of};
+ghost use Rattle.stamp_watch.specs.Names.{AreContents, IsByNumber, IsGrown, IsNamed, StaysWide, name_in, width_of, words_in};
 ghost use Rattle.stamp_watch.specs.inner.Names.{IsSmallCall, IsSmallReply, IsToldAs};
 ghost use Rattle.stamp_watch.specs.Names.{IsNumberOf};
 
@@ -178,7 +178,8 @@ impl Names {
 
     /// The content whose name these words are, if they are the number of one, and else they themselves.
     fn named(&self, name: &Words) -> Words
-        ensures { (words : List ℕ) → IsNamed self.now words → name_in self.now words ≡ name.now → result ≡ words }
+        ensures named { (words : List ℕ) → IsNamed self.now words → name_in self.now words ≡ name.now → result ≡ words }
+        ensures words { result ≡ words_in self.now name.now }
     {
         if name.len() != 1 {
             return *name;
@@ -205,9 +206,10 @@ impl Names {
         }
     }
 
-    /// The call in words, if it was told by numbers.
+    /// The call in words: each content that is a number of one becomes that one.
     pub fn call_in_words(&self, call: &Call) -> Call
-        ensures { (told : Call) → EachOfCall (IsNamed self.now) told → call_by (name_in self.now) told ≡ call.now → result ≡ told }
+        ensures told { (told : Call) → EachOfCall (IsNamed self.now) told → call_by (name_in self.now) told ≡ call.now → result ≡ told }
+        ensures words { result ≡ call_by (words_in self.now) call.now }
     {
         match call {
             Call::Put(words) => Call::Put(self.named(words)),
@@ -216,9 +218,10 @@ impl Names {
         }
     }
 
-    /// The reply in words, if it was told by a number.
+    /// The reply in words: a content that is a number of one becomes that one.
     pub fn reply_in_words(&self, reply: &Reply) -> Reply
-        ensures { (told : Reply) → EachOfReply (IsNamed self.now) told → reply_by (name_in self.now) told ≡ reply.now → result ≡ told }
+        ensures told { (told : Reply) → EachOfReply (IsNamed self.now) told → reply_by (name_in self.now) told ≡ reply.now → result ≡ told }
+        ensures words { result ≡ reply_by (words_in self.now) reply.now }
     {
         match reply {
             Reply::Content(words) => Reply::Content(self.named(words)),
