@@ -73,7 +73,7 @@ try small.py python3 -B tests/explain/small.py "$room/stamped_explain" "$room/st
 try wrong_updates.py python3 -B tests/explain/wrong_updates.py "$room/stamped_explain" "$room/stamped"
 try round_trips.py python3 -B tests/watch/round_trips.py "$room/stamped_explain"
 try watch.py python3 -B tests/watch/watch.py "$room/stamped_watch" "$room/stamped_explain"
-try data.py python3 -B tests/watch/data.py "$room/stamped_watch"
+try data.py python3 -B tests/watch/data.py "$room/stamped_watch" "$room/stamped_explain"
 try c_streams.py python3 -B tests/watch/c_streams.py \
     "$room/stamped_explain" "$room/archive/crates/stamped_c/out/libstamped_c.a" "$room/stamped_watch"
 try beside.py python3 -B tests/watch/beside.py "$room/stamped_watch" "$room/stamped_explain"

@@ -1,11 +1,12 @@
 """Streams with data judged by `stamped_watch`.
 
-    data.py WATCH
+    data.py WATCH EXPLAIN
 
 Run at the top of the repository. Small streams of a lock and its record are explained, or stuck at a call whose content
 or reply no order allows: the same whatever the lock's calls beside are. A torn read that was not validated is such a
-one. Headers and events that are broken are told as what they are, and of each prefix of a stream its calls, or where it
-is cut. A stream without data has no event of a record. Contents have up to 16 words, and a stream may have many."""
+one. Each that is stuck has a witness, judged by `stamped_explain`. Headers and events that are broken are told as what
+they are, and of each prefix of a stream its calls, or where it is cut. A stream without data has no event of a record.
+Contents have up to 16 words, and a stream may have many."""
 import os
 import subprocess
 import sys
@@ -13,7 +14,7 @@ import tempfile
 
 from round_trips import event, header
 from streams import DONE, NO, STAMP, YES, started
-from watch import fed, judged, must_be
+from watch import fed, judged, must_be, must_be_witness
 
 GET, PUT, PUT_IF, CONTENT = 17, 18, 19, 38
 WRITE, RELEASED = event(2) + event(STAMP, 0, 384), event(6, 0, 384) + event(DONE)
@@ -134,13 +135,17 @@ def try_widths(watch):
         must_be(f"width {width}", (line, note), ("stuck 5", f"stamped_watch: event 5, lane 2: get answered {[*one]}"))
 
 
-def try_witness(watch, path):
-    """There is none of a stream with data yet."""
-    events, told = STUCK[1]
-    found = judged(watch, data_header(2) + events, "--witness", path)
-    must_be("witness", found, ("stuck 3", "stamped_watch: no witness of a stream with data yet\n"
-                                          f"stamped_watch: event {told}"))
-    must_be("witness", os.path.exists(path), False)
+def try_witnesses(watch, explain, path):
+    """Each has one, which is stuck at the same call; also where the judge keeps the last events alone."""
+    long = (put(5, 7, 7) + done(5) + put(5, 0, 0) + done(5)) * 200
+    for before in (b"", long):
+        for events, told in STUCK:
+            number, call = told.split(",", 1)
+            line, note = judged(watch, data_header(2) + before + events, "--witness", path)
+            number = int(number) + (800 if before else 0)
+            must_be("witness", (line, note), (f"stuck {number}", f"stamped_watch: event {number},{call}"))
+            must_be(f"witness of {told}", os.path.exists(path), True)
+            must_be_witness(f"witness of {told}", explain, path, note)
 
 
 def try_pieces(watch):
@@ -166,12 +171,12 @@ def try_many(watch):
 
 
 def main():
-    watch = sys.argv[1]
+    watch, explain = sys.argv[1:]
     try_tables(watch)
     try_prefixes(watch)
     try_widths(watch)
     with tempfile.TemporaryDirectory() as room:
-        try_witness(watch, os.path.join(room, "witness.json"))
+        try_witnesses(watch, explain, os.path.join(room, "witness.json"))
     try_pieces(watch)
     events = try_many(watch)
     print(f"data: {len(EXPLAINED)} streams explained, {len(STUCK)} stuck, {len(BROKEN)} broken, one of {events} events")

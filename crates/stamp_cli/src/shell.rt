@@ -24,8 +24,6 @@ pub enum Lack {
     BeganLate,
     /// The call was withdrawn.
     Withdrawn,
-    /// The stream has data, for which none is made yet.
-    OfData,
     /// None was found.
     NotFound,
     /// Memory for it was refused.

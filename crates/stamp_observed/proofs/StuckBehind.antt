@@ -1,5 +1,5 @@
 -- A history that is stuck behind an opening, and one made small of it, are stuck at the same call.
-use Rattle.std.proofs.Common.{◌≡◌, [], ℕ, List, length, arith, refl, ap, ◌∙◌}
+use Rattle.std.proofs.Common.{◌≡◌, ℕ, List, length, arith, refl, ap, subst, ◌∙◌}
 use Rattle.std.proofs.Common.{◌+◌, ◌≤◌}
 use Rattle.std.specs.Prelude.{slice_get}
 use Rattle.std.proofs.lemmas.Bool.Decides.{nat_tests}
@@ -27,33 +27,39 @@ use Rattle.stamp_observed.specs.inner.Candidate.{history_of, return_in, stand_in
 use Rattle.stamp_observed.proofs.Judged.{last_of}
 
 -- the history of a candidate is stuck at its last call, which is that of the fault
-pub found_behind : (limits : Bounds) (none history : ObservedHistory) (fault : Fault) (c : Candidate) (place : ℕ)
-    (e : Observation) → none ≡ observed_as limits 0 [] → history ≡ history_of none fault c → IsObserved history →
-    place ≡ length c.others.items → IsStuck history place → IsFaultWith e fault →
-    IsStuckBehind limits e (record { history = history; place = place; last = c.last; versions = c.versions })
-found_behind limits none history fault c place e empty made observed here stuck is =
-    let same = made ∙ ap (λ (g : ObservedHistory). history_of g fault c) empty in record {
-      fault = fault;
-      with = is;
-      observed = observed;
-      limits_are = ap (λ (g : ObservedHistory). g.limits) same;
-      width = ap (λ (g : ObservedHistory). g.width) same;
-      there = record {
-        entry = stand_in (units limits) fault c;
-        return = return_in (units limits) fault c;
-        is_entry = ap (λ (g : ObservedHistory). slice_get g.entries place) same ∙
-            ap (λ (n : ℕ). slice_get (history_of (observed_as limits 0 []) fault c).entries n) here ∙
-            last_of c.others.items (stand_in (units limits) fault c);
-        returned = refl;
-      };
-      stuck = stuck;
-      last_is = refl;
-      renumbered = record {
-        thread = ap (λ (f : Observation). f.thread) is.call_is;
-        call = ap (λ (f : Observation). renumbered_call (units limits) c.versions f.call) is.call_is;
-        reply = refl;
-      };
-    }
+pub found_behind : (none history : ObservedHistory) (fault : Fault) (c : Candidate) (place : ℕ) (e : Observation) →
+    history ≡ history_of none fault c → IsObserved history → place ≡ length c.others.items →
+    IsStuck history place → IsFaultWith e fault → IsStuckBehind none.limits none.width e
+    (record { history = history; place = place; last = c.last; versions = c.versions })
+found_behind none history fault c place e made observed here stuck is = record {
+  fault = fault;
+  with = is;
+  observed = observed;
+  limits_are = ap (λ (g : ObservedHistory). g.limits) made;
+  width_is = ap (λ (g : ObservedHistory). g.width) made;
+  there = record {
+    entry = stand_in (units none.limits) fault c;
+    return = return_in (units none.limits) fault c;
+    is_entry = ap (λ (g : ObservedHistory). slice_get g.entries place) made ∙
+        ap (λ (n : ℕ). slice_get (history_of none fault c).entries n) here ∙
+        last_of c.others.items (stand_in (units none.limits) fault c);
+    returned = refl;
+  };
+  stuck = stuck;
+  last_is = refl;
+  renumbered = record {
+    thread = ap (λ (f : Observation). f.thread) is.call_is;
+    call = ap (λ (f : Observation). renumbered_call (units none.limits) c.versions f.call) is.call_is;
+    reply = refl;
+  };
+}
+
+-- under the limits and the width that the empty history tells
+pub behind_told : (none : ObservedHistory) (limits : Bounds) (width : ℕ) (entries : List Observation) (e : Observation)
+    (found : StuckHistory) → none ≡ observed_as limits width entries →
+    IsStuckBehind none.limits none.width e found → IsStuckBehind limits width e found
+behind_told none limits width entries e found same is =
+    subst (λ (h : ObservedHistory). IsStuckBehind h.limits h.width e found) same is
 
 narrow_twice : (k j s : ℕ) →
     renumbered_stamp narrow j (renumbered_stamp narrow k s) ≡ renumbered_stamp narrow (k + j) s
@@ -108,9 +114,10 @@ same_return entries i a b =
     let returned = ap (λ (e : Observation). e.returned) same in cc (a.returned, b.returned, returned)
 
 -- what is stuck as such a history is, is stuck at the call
-pub stuck_with : (limits : Bounds) (e : Observation) (most : ℕ) (found : StuckHistory) (small : ObservedHistory) →
-    IsStuckBehind limits e found → IsStuckAs found.history most found.place small → IsStuckWith limits e small
-stuck_with limits e most found small is so =
+pub stuck_with : (limits : Bounds) (width : ℕ) (e : Observation) (most : ℕ) (found : StuckHistory)
+    (small : ObservedHistory) → IsStuckBehind limits width e found →
+    IsStuckAs found.history most found.place small → IsStuckWith limits width e small
+stuck_with limits width e most found small is so =
     let units_are = ap (λ (b : Bounds). units b) is.limits_are in
     let entry = same_entry found.history.entries found.place so.at is.there in
     let return = same_return found.history.entries found.place so.at is.there in
@@ -126,7 +133,7 @@ stuck_with limits e most found small is so =
     } in record {
       observed = so.observed;
       limits_are = so.limits ∙ is.limits_are;
-      width = so.width ∙ is.width;
+      width_is = so.width ∙ is.width_is;
       return = is.fault.returned;
       returned = is.with.returned;
       place = so.place;
@@ -139,18 +146,18 @@ stuck_with limits e most found small is so =
     }
 
 -- and no more versions are left out, if that is so where no more can be
-pub stuck_with_few : (limits : Bounds) (e : Observation) (most : ℕ) (found : StuckHistory) (small : ObservedHistory)
-    (few : ℕ) → IsStuckBehind limits e found → IsStuckAs found.history most found.place small →
-    LeavesOutFew few found → IsStuckWithFew limits few e small
+pub stuck_with_few : (limits : Bounds) (width : ℕ) (e : Observation) (most : ℕ) (found : StuckHistory)
+    (small : ObservedHistory) (few : ℕ) → IsStuckBehind limits width e found →
+    IsStuckAs found.history most found.place small → LeavesOutFew few found → IsStuckWithFew limits width few e small
 unfolding stuck_with
-stuck_with_few limits e most found small few is so leaves =
+stuck_with_few limits width e most found small few is so leaves =
     let last : so.at.return.last ≡ found.last =
     ap (λ (r : Returned). r.last) (same_return found.history.entries found.place so.at is.there) ∙ is.last_is in
     let writes = ap (λ (n : ℕ). writes_by n found.history.entries) last in
     let within : found.versions + so.versions ≤ few = omega (arith, leaves, so.kept.few, writes) in
-    record { stuck = stuck_with limits e most found small is so; few = within }
+    record { stuck = stuck_with limits width e most found small is so; few = within }
 
 -- a larger number of versions
-pub few_more : {limits : Bounds} {e : Observation} {small : ObservedHistory} {few more : ℕ} → few ≤ more →
-    IsStuckWithFew limits few e small → IsStuckWithFew limits more e small
+pub few_more : {limits : Bounds} {width : ℕ} {e : Observation} {small : ObservedHistory} {few more : ℕ} →
+    few ≤ more → IsStuckWithFew limits width few e small → IsStuckWithFew limits width more e small
 few_more le is = record { stuck = is.stuck; few = omega (arith, is.few, le) }

@@ -34,4 +34,5 @@ pub use behind::{SearchEnd, Sought, small_behind};
 pub use judging::{ObservedFault, ObservedWhy, fault_of};
 pub use observed_reading::read_observed;
 pub use observed_writing::write_observed;
+pub use opening::State;
 pub use small::small_of;

@@ -9,11 +9,11 @@ use std::alloc::{AllocError, Global};
 
 /// What lock and record are in.
 #[derive(Clone, Copy)]
-pub(crate) struct State {
+pub struct State {
     /// The lock's word.
-    pub(crate) word: Word,
-    /// The words of the last put, if there was one.
-    pub(crate) content: Option<Words>,
+    pub word: Word,
+    /// The words that the record holds; none are those of a new record, all zeros.
+    pub content: Option<Words>,
 }
 
 /// Those of the calls that are of the lock.

@@ -2,6 +2,7 @@
 use Rattle.std.proofs.Common.{◌≡◌, ◌⊎◌, ℕ, suc, ◌+◌, ◌≤◌, Bool, true, false, List, [], ◌∷◌, length, get_or, refl, sym}
 use Rattle.std.proofs.Common.{◌∙◌, ap, subst, inl, inr, arith}
 use Rattle.std.specs.Prelude.{map, if◌then◌else◌}
+use Rattle.std.proofs.lemmas.Bool.{cases_Bool}
 use Rattle.stamp_core.specs.declared.call.Call.{Call}
 use Rattle.stamp_core.specs.declared.reply.Reply.{Reply}
 use Rattle.stamp_runs.specs.declared.event.Event.{Event}
@@ -12,7 +13,6 @@ use Rattle.stamp_runs.specs.Run.{Happens, Lanes, Sets}
 use Rattle.stamp_runs.specs.Run.Phase.{Asks, Gets}
 use Rattle.stamp_runs.specs.Trace.{LeadsBy, Taken, taken_at}
 use Rattle.stamp_runs.specs.Trace.LeadsBy.{led_nowhere, by_taken, by_next}
-use Rattle.stamp_runs.proofs.Lanes.{true_cases}
 use Rattle.stamp_runs.proofs.Owning.{Calls}
 
 -- along all events, of which the own ones happen, calls take effect in this order
@@ -91,7 +91,7 @@ module _ {S : Type 0} (mine : Call → Bool) (O : Object S) where
 
         same : n + length {A = Event} [] ≡ n
         same = omega arith
-    among (event ∷ events) calls k n {order} {s} {t} {a} {l} told way = by (true_cases (is_own mine calls event))
+    among (event ∷ events) calls k n {order} {s} {t} {a} {l} told way = by (cases_Bool (is_own mine calls event))
         (λ more u b told1 rest. among events (open_then calls event) (k + 1) (n + 1) {order = more} {s = u} {a = b}
         told1 rest)
         (λ told1 rest. among events (open_then calls event) k (n + 1) told1 rest)

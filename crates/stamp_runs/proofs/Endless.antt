@@ -1,6 +1,6 @@
 -- Calls that never end: what they got makes no difference.
 use Rattle.std.proofs.Common.{◌≡◌, ◌≢◌, ◌⊎◌, ℕ, Bool, true, false, List, ◌∷◌, refl, sym, ◌∙◌, subst, inl, inr}
-use Rattle.std.proofs.lemmas.Bool.{cases_eq}
+use Rattle.std.proofs.lemmas.Bool.{cases_eq, cases_Bool}
 use Rattle.std.proofs.lemmas.List.Elements.{All-head, All-tail}
 use Rattle.stamp_core.specs.declared.reply.Reply.{Reply}
 use Rattle.stamp_runs.specs.declared.event.Event.{Event}
@@ -9,7 +9,7 @@ use Rattle.stamp_runs.specs.Run.{EndsNever, IsEndOf, Lanes, Phase, Sets, lane_of
 use Rattle.stamp_runs.specs.Run.Phase.{Idle, Gets}
 use Rattle.stamp_runs.specs.Position.{AskAgain}
 use Rattle.stamp_runs.proofs.Lanes.{asks_or_gets, happens_as, idle_or_gets, open_apart, pick, picks_first}
-use Rattle.stamp_runs.proofs.Lanes.{picks_second, set_of, sets_by, sets_of, true_cases, true_or_false}
+use Rattle.stamp_runs.proofs.Lanes.{picks_second, set_of, sets_by, sets_of, true_or_false}
 use Rattle.stamp_runs.proofs.Going.{GoesOnIn}
 use Rattle.stamp_runs.proofs.Going.GoesOnIn.{at_end, one_effect, one_event}
 
@@ -55,7 +55,7 @@ module _ {S : Type 0} (O : Object S) where
       by (inr none) = none
 
       not : endless u ≡ false
-      not = by (true_cases (endless u))
+      not = by (cases_Bool (endless u))
   asking_goes_on {a = a} endless never (one_event {events = events} {after = after} event happens rest) b asking =
       one_event event (happens_as a after b event happens (asking.others u not))
       (asking_goes_on endless (λ v is. never_later event events v (never v is)) rest (set_of b u (after u))
@@ -70,7 +70,7 @@ module _ {S : Type 0} (O : Object S) where
       by (inr none) = none
 
       not : endless u ≡ false
-      not = by (true_cases (endless u))
+      not = by (cases_Bool (endless u))
 
   -- one of them
   pub one_asks_on : {n : ℕ} {events : List Event} {s : S} {a : Lanes} (lane : ℕ) (gotten : Reply) (phase : Phase) →

@@ -6,18 +6,15 @@ use Rattle.std.specs.Bool.{MatchBool}
 use Rattle.std.specs.List.{All}
 use Rattle.std.proofs.Math.Logic.{⊎_elim}
 use Rattle.std.proofs.Math.Seq.{take-append_seam, drop-append_seam}
-use Rattle.std.proofs.lemmas.Bool.{cases_eq, false≢true}
+use Rattle.std.proofs.lemmas.Bool.{cases_eq, false≢true, cases_Bool}
 use Rattle.std.proofs.lemmas.List.Elements.{All-drop, All-head, All-tail, All-take}
 use Rattle.stamp_core.specs.Limits.{Bounds}
 use Rattle.stamp_core.specs.Call.{is_lock_call}
 use Rattle.stamp_core.specs.Content.{RecordReplies, content_next, same_words}
 use Rattle.stamp_core.specs.declared.call.Call.{Call}
-use Rattle.stamp_core.specs.declared.call.Call.TheVariants.{TryWrite, TryRead, WriteLock, ReadLock, Optimistic}
-use Rattle.stamp_core.specs.declared.call.Call.TheVariants.{Validate, UnlockWrite, UnlockRead, Unlock, ToWrite}
-use Rattle.stamp_core.specs.declared.call.Call.TheVariants.{ToRead, ToOptimistic, TryUnlockWrite, TryUnlockRead}
-use Rattle.stamp_core.specs.declared.call.Call.TheVariants.{IsWriteLocked, IsReadLocked, ReadCount, Get, Put, PutIf}
+use Rattle.stamp_core.specs.declared.call.Call.TheVariants.{Get, Put, PutIf}
 use Rattle.stamp_core.specs.declared.reply.Reply.{Reply}
-use Rattle.stamp_core.specs.declared.reply.Reply.TheVariants.{Stamp, Yes, No, Done, Mismatch, Count, Content}
+use Rattle.stamp_core.specs.declared.reply.Reply.TheVariants.{Yes, No, Content}
 use Rattle.stamp_runs.specs.declared.event.Event.{Event}
 use Rattle.stamp_runs.specs.declared.event.Event.TheVariants.{Begins, Returns, Withdraws}
 use Rattle.stamp_runs.specs.Object.{LockStep, RecordStep}
@@ -33,7 +30,6 @@ use Rattle.stamp_runs.specs.Run.Phase.{Idle, Asks, Gets}
 use Rattle.stamp_runs.specs.RunLaws.{HeldAreTold, OvertakenAreForgotten, OvertakenStays}
 use Rattle.stamp_runs.proofs.Going.{goes_on_in, gotten_is_told}
 use Rattle.stamp_runs.proofs.Lanes.{asks_or_gets, idle_or_asks, leads_on, one_call, open_apart, stays_beside}
-use Rattle.stamp_runs.proofs.Lanes.{true_cases}
 use Rattle.stamp_runs.proofs.Naming.{first_same, lock_named, rest_same}
 use Rattle.stamp_runs.proofs.Objects.{one_content}
 use Rattle.stamp_runs.proofs.OwnEvents.{none_idle, open_along}
@@ -58,7 +54,7 @@ yes_or_no false reply is = inr is
 
 -- a call that tells the content is none of the lock
 pub not_of_lock : (call : Call) (reply : Reply) → tells_content call reply ≡ true → is_lock_call call ≡ false
-not_of_lock call reply tells = by (true_cases (is_lock_call call))
+not_of_lock call reply tells = by (cases_Bool (is_lock_call call))
   where
     by : (is_lock_call call ≡ true) ⊎ (is_lock_call call ≡ false) → is_lock_call call ≡ false
     by (inl is) = absurd (false≢true (subst (λ (b : Bool). (not b && is_not_no reply) ≡ true) is tells))
@@ -68,12 +64,7 @@ module _ (P : List ℕ → Type 0) where
   -- what the lock replies tells no content
   names_none : (reply : Reply) → reply_by (λ (words : List ℕ). 0 ∷ words) reply ≡ reply → EachOfReply P reply
   names_none (Content words) same = absurd (not_longer words (one_content same))
-  names_none Yes same = tt
-  names_none No same = tt
-  names_none Done same = tt
-  names_none Mismatch same = tt
-  names_none (Stamp s) same = tt
-  names_none (Count n) same = tt
+  names_none _ same = tt
 
   -- what the record replies and then holds it held, or the call told it
   yes_or_no_tells : (b : Bool) → EachOfReply P (if b then Yes else No)
@@ -86,52 +77,15 @@ module _ (P : List ℕ → Type 0) where
   replied content (Put words) reply held is = subst (EachOfReply P) (sym is) tt
   replied content (PutIf expected words) reply held is =
       subst (EachOfReply P) (sym is) (yes_or_no_tells (same_words content expected))
-  replied content TryWrite reply held is = absurd is
-  replied content TryRead reply held is = absurd is
-  replied content WriteLock reply held is = absurd is
-  replied content ReadLock reply held is = absurd is
-  replied content Optimistic reply held is = absurd is
-  replied content (Validate s) reply held is = absurd is
-  replied content (UnlockWrite s) reply held is = absurd is
-  replied content (UnlockRead s) reply held is = absurd is
-  replied content (Unlock s) reply held is = absurd is
-  replied content (ToWrite s) reply held is = absurd is
-  replied content (ToRead s) reply held is = absurd is
-  replied content (ToOptimistic s) reply held is = absurd is
-  replied content TryUnlockWrite reply held is = absurd is
-  replied content TryUnlockRead reply held is = absurd is
-  replied content IsWriteLocked reply held is = absurd is
-  replied content IsReadLocked reply held is = absurd is
-  replied content ReadCount reply held is = absurd is
+  replied content _ reply held is = absurd is
 
   left : (content : List ℕ) (call : Call) (reply : Reply) → P content → EachOfCall P call →
       RecordReplies content call reply → P (content_next content call reply)
   left content Get reply held told is = held
   left content (Put words) reply held told is = told
   left content (PutIf expected words) Yes held told is = told.1
-  left content (PutIf expected words) No held told is = held
-  left content (PutIf expected words) Done held told is = held
-  left content (PutIf expected words) Mismatch held told is = held
-  left content (PutIf expected words) (Stamp s) held told is = held
-  left content (PutIf expected words) (Count n) held told is = held
-  left content (PutIf expected words) (Content seen) held told is = held
-  left content TryWrite reply held told is = absurd is
-  left content TryRead reply held told is = absurd is
-  left content WriteLock reply held told is = absurd is
-  left content ReadLock reply held told is = absurd is
-  left content Optimistic reply held told is = absurd is
-  left content (Validate s) reply held told is = absurd is
-  left content (UnlockWrite s) reply held told is = absurd is
-  left content (UnlockRead s) reply held told is = absurd is
-  left content (Unlock s) reply held told is = absurd is
-  left content (ToWrite s) reply held told is = absurd is
-  left content (ToRead s) reply held told is = absurd is
-  left content (ToOptimistic s) reply held told is = absurd is
-  left content TryUnlockWrite reply held told is = absurd is
-  left content TryUnlockRead reply held told is = absurd is
-  left content IsWriteLocked reply held told is = absurd is
-  left content IsReadLocked reply held told is = absurd is
-  left content ReadCount reply held told is = absurd is
+  left content (PutIf expected words) _ held told is = held
+  left content _ reply held told is = absurd is
 
   by_answer : (content expected words : List ℕ) (reply : Reply) → tells_content (PutIf expected words) reply ≡ true →
       EachOfCall P (PutIf expected words) → (reply ≡ Yes) ⊎ (reply ≡ No) →
@@ -148,23 +102,7 @@ module _ (P : List ℕ → Type 0) where
   told_left content (Put words) reply tells asked given is = asked
   told_left content (PutIf expected words) reply tells asked given is =
       by_answer content expected words reply tells asked (yes_or_no (same_words content expected) reply is)
-  told_left content TryWrite reply tells asked given is = absurd is
-  told_left content TryRead reply tells asked given is = absurd is
-  told_left content WriteLock reply tells asked given is = absurd is
-  told_left content ReadLock reply tells asked given is = absurd is
-  told_left content Optimistic reply tells asked given is = absurd is
-  told_left content (Validate s) reply tells asked given is = absurd is
-  told_left content (UnlockWrite s) reply tells asked given is = absurd is
-  told_left content (UnlockRead s) reply tells asked given is = absurd is
-  told_left content (Unlock s) reply tells asked given is = absurd is
-  told_left content (ToWrite s) reply tells asked given is = absurd is
-  told_left content (ToRead s) reply tells asked given is = absurd is
-  told_left content (ToOptimistic s) reply tells asked given is = absurd is
-  told_left content TryUnlockWrite reply tells asked given is = absurd is
-  told_left content TryUnlockRead reply tells asked given is = absurd is
-  told_left content IsWriteLocked reply tells asked given is = absurd is
-  told_left content IsReadLocked reply tells asked given is = absurd is
-  told_left content ReadCount reply tells asked given is = absurd is
+  told_left content _ reply tells asked given is = absurd is
 
   -- what an open call asks, whatever it gets
   abbrev Asked : Phase → Type 0
@@ -186,7 +124,7 @@ module _ (P : List ℕ → Type 0) where
     -- a call that takes effect leaves what the record held or the call tells, and replies it
     effect_leaves : (s next : State) (call : Call) (reply : Reply) → Both limits s call reply next → P s.1 →
         EachOfCall P call → P next.1
-    effect_leaves s next call reply step held told = by (true_cases (is_lock_call call))
+    effect_leaves s next call reply step held told = by (cases_Bool (is_lock_call call))
       where
         by : (is_lock_call call ≡ true) ⊎ (is_lock_call call ≡ false) → P next.1
         by (inl is) = subst P (sym (subst (OfRecord s call reply next) (ap not is) step.1)) held
@@ -195,7 +133,7 @@ module _ (P : List ℕ → Type 0) where
 
     effect_replies : (s next : State) (call : Call) (reply : Reply) → Both limits s call reply next → P s.1 →
         EachOfReply P reply
-    effect_replies s next call reply step held = by (true_cases (is_lock_call call))
+    effect_replies s next call reply step held = by (cases_Bool (is_lock_call call))
       where
         by : (is_lock_call call ≡ true) ⊎ (is_lock_call call ≡ false) → EachOfReply P reply
         by (inl is) = names_none reply (lock_named (λ (words : List ℕ). 0 ∷ words) limits s.0 next.0 call reply

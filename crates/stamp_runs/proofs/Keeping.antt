@@ -111,7 +111,7 @@ module _ {S : Type 0} (O : Object S) where
     never = λ v is. absurd (true_or_false is refl);
   }
 
-  settled_itself : (fits : List Event → Type 0) (p : Position S) → IsSettled O fits p p
+  pub settled_itself : (fits : List Event → Type 0) (p : Position S) → IsSettled O fits p p
   settled_itself fits p = record {
     readers = λ v. false;
     told = λ v. Yes;

@@ -32,10 +32,6 @@ none_some same = cc
 pub true_or_false : {b : Bool} → b ≡ true → b ≡ false → ⊥
 true_or_false is not = cc
 
-pub true_cases : (b : Bool) → (b ≡ true) ⊎ (b ≡ false)
-true_cases true = inl refl
-true_cases false = inr refl
-
 abbrev pub pick : {A X : Type 0} → A ⊎ (¬ A) → X → X → X
 pick (inl is) x y = x
 pick (inr not) x y = y

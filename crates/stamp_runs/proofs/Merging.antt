@@ -2,7 +2,7 @@
 use Rattle.std.proofs.Common.{◌≡◌, ◌⊎◌, ℕ, ◌+◌, ◌≤◌, ◌<◌, Bool, true, false, List, [], ◌∷◌, length, get_or}
 use Rattle.std.proofs.Common.{Option, Some, None, refl, sym, ◌∙◌, ap, subst, inl, inr, arith}
 use Rattle.std.specs.Prelude.{not, IsSome}
-use Rattle.std.proofs.lemmas.Bool.{cases_lt}
+use Rattle.std.proofs.lemmas.Bool.{cases_lt, not-true, not_from_true}
 use Rattle.std.proofs.lemmas.Option.{same_Some}
 use Rattle.stamp_core.specs.declared.call.Call.{Call}
 use Rattle.stamp_core.specs.declared.reply.Reply.{Reply}
@@ -120,26 +120,16 @@ module _ (mine : Call → Bool) where
       (withdraws_opens calls u) happens.2 (sets_itself a u Idle idle) (is_free refl refl refl)
 
 -- an event that may come is of one of the two
-not_own : (b : Bool) → not b ≡ true → b ≡ false
-not_own true is = sym is
-not_own false is = refl
+-- of two kinds of calls an event that may come is of one
+other_call : (mine : Call → Bool) (o : Option Call) → IsSome o → is_own_call (not_of mine) o ≡ not (is_own_call mine o)
+other_call mine None some = absurd (true_or_false some refl)
+other_call mine (Some c) some = refl
 
-own_not : (b : Bool) → b ≡ true → not b ≡ false
-own_not b is = ap not is
-
-opposite : (mine : Call → Bool) (calls : Calls) (event : Event) → MayCome calls event →
+pub opposite : (mine : Call → Bool) (calls : Calls) (event : Event) → MayCome calls event →
     is_own (not_of mine) calls event ≡ not (is_own mine calls event)
 opposite mine calls (Begins u c) may = refl
-opposite mine calls (Returns u r) may = by (calls u) may
-  where
-    by : (o : Option Call) → IsSome o → is_own_call (not_of mine) o ≡ not (is_own_call mine o)
-    by None some = absurd (true_or_false some refl)
-    by (Some c) some = refl
-opposite mine calls (Withdraws u) may = by (calls u) may
-  where
-    by : (o : Option Call) → IsSome o → is_own_call (not_of mine) o ≡ not (is_own_call mine o)
-    by None some = absurd (true_or_false some refl)
-    by (Some c) some = refl
+opposite mine calls (Returns u r) may = other_call mine (calls u) may
+opposite mine calls (Withdraws u) may = other_call mine (calls u) may
 
 -- points that ascend do so in both
 merged_ascend : (n : ℕ) {first second order : List Taken} → Merges first second order → Ascends n order →
@@ -221,8 +211,7 @@ module _ {S T : Type 0} (mine : Call → Bool) (O : Object S) (P : Object T) whe
     subst (λ (z : Taken). LeadsBy Both n (z ∷ order) events (s, t) y (s', t') then.0) (sym now.same)
         (by_taken x.lane now.call x.reply takes.asks (
           step_of_own mine O refl takes.own now.step,
-          no_step (not_of mine) P t x.reply (own_not (mine now.call)
-              takes.own),
+          no_step (not_of mine) P t x.reply (not_from_true (mine now.call) takes.own),
         ) (sets_of y x.lane (Gets x.reply)) then.1),
   )
     where
@@ -233,10 +222,9 @@ module _ {S T : Type 0} (mine : Call → Bool) (O : Object S) (P : Object T) whe
       takes = takes_own mine x.lane now.call fits now.asks
 
       then : (last : Lanes) × LeadsBy Both n order events (now.next, t) (set_of y x.lane (Gets x.reply)) (s', t') last
-      then = on now.next s' t t' (set_of y x.lane (Gets x.reply)) now.after b a' b'
-          (fits_taken mine x.lane now.call x.reply fits takes now.sets)
-          (fits_beside (not_of mine) x.lane now.call x.reply fits_too takes.its (own_not (mine now.call) takes.own))
-          now.rest other
+      then = on now.next s' t t' (set_of y x.lane (Gets x.reply)) now.after b a' b' (fits_taken mine x.lane now.call
+          x.reply fits takes now.sets) (fits_beside (not_of mine) x.lane now.call x.reply fits_too takes.its
+          (not_from_true (mine now.call) takes.own)) now.rest other
 
   -- or one of the other
   join_second : {events : List Event} {calls : Calls} {n : ℕ} {first second order : List Taken} (x : Taken) →
@@ -246,7 +234,7 @@ module _ {S T : Type 0} (mine : Call → Bool) (O : Object S) (P : Object T) whe
         then.0,
         subst (λ (z : Taken). LeadsBy Both n (z ∷ order) events (s, t) y (s', t') then.0) (sym now.same)
             (by_taken x.lane now.call x.reply takes.asks (
-              no_step mine O s x.reply (not_own (mine now.call) takes.own),
+              no_step mine O s x.reply (not-true (mine now.call) takes.own),
               step_of_own (not_of mine) P refl takes.own
                   now.step,
             ) (sets_of y x.lane (Gets x.reply)) then.1),
@@ -260,7 +248,7 @@ module _ {S T : Type 0} (mine : Call → Bool) (O : Object S) (P : Object T) whe
 
       then : (last : Lanes) × LeadsBy Both n order events (s, now.next) (set_of y x.lane (Gets x.reply)) (s', t') last
       then = on s s' now.next t' (set_of y x.lane (Gets x.reply)) a now.after a' b'
-          (fits_beside mine x.lane now.call x.reply fits takes.its (not_own (mine now.call) takes.own))
+          (fits_beside mine x.lane now.call x.reply fits takes.its (not-true (mine now.call) takes.own))
           (fits_taken (not_of mine) x.lane now.call x.reply fits_too takes now.sets) way now.rest
 
   -- or the next event comes, of one of them
@@ -280,7 +268,7 @@ module _ {S T : Type 0} (mine : Call → Bool) (O : Object S) (P : Object T) whe
           GoesPast (not_of mine) P calls n second event events t b t' b' →
           (last : Lanes) × LeadsBy Both n order (event ∷ events) (s, t) x (s', t') last
       by (past_own after own happens rest) (past_own after_too own_too happens_too rest_too) = absurd (true_or_false
-          own (not_own (is_own mine calls event) (sym (opposite mine calls event may) ∙ own_too)))
+          own (not-true (is_own mine calls event) (sym (opposite mine calls event may) ∙ own_too)))
       by (past_other none rest) (past_other none_too rest_too) = absurd (true_or_false
           (opposite mine calls event may ∙ ap not none) none_too)
       by (past_own after own happens rest) (past_other none rest_too) =

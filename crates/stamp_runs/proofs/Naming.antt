@@ -4,7 +4,7 @@ use Rattle.std.proofs.Common.{inl, inr}
 use Rattle.std.specs.Prelude.{Option, Some, None, map, not, take, if◌then◌else◌}
 use Rattle.std.specs.Bool.{MatchBool}
 use Rattle.std.specs.Cmp.Lexicographic.{same_text, other_text}
-use Rattle.std.proofs.lemmas.Bool.{cases_eq, false≢true}
+use Rattle.std.proofs.lemmas.Bool.{cases_eq, false≢true, cases_Bool}
 use Rattle.std.proofs.lemmas.List.{take-map}
 use Rattle.stamp_core.specs.LockEvent.{LockEvent, Counts, counts}
 use Rattle.stamp_core.specs.Limits.{Bounds}
@@ -13,12 +13,10 @@ use Rattle.stamp_core.specs.Content.{RecordReplies, content_next, same_words}
 use Rattle.stamp_core.specs.History.{Replies}
 use Rattle.stamp_core.specs.Transition.{Transition, row, transition}
 use Rattle.stamp_core.specs.declared.call.Call.{Call}
-use Rattle.stamp_core.specs.declared.call.Call.TheVariants.{TryWrite, TryRead, WriteLock, ReadLock, Optimistic}
-use Rattle.stamp_core.specs.declared.call.Call.TheVariants.{Validate, UnlockWrite, UnlockRead, Unlock, ToWrite}
-use Rattle.stamp_core.specs.declared.call.Call.TheVariants.{ToRead, ToOptimistic, TryUnlockWrite, TryUnlockRead}
-use Rattle.stamp_core.specs.declared.call.Call.TheVariants.{IsWriteLocked, IsReadLocked, ReadCount, Get, Put, PutIf}
+use Rattle.stamp_core.specs.declared.call.Call.TheVariants.{TryWrite}
+use Rattle.stamp_core.specs.declared.call.Call.TheVariants.{Get, Put, PutIf}
 use Rattle.stamp_core.specs.declared.reply.Reply.{Reply}
-use Rattle.stamp_core.specs.declared.reply.Reply.TheVariants.{Stamp, Yes, No, Done, Mismatch, Count, Content}
+use Rattle.stamp_core.specs.declared.reply.Reply.TheVariants.{Yes, No, Done, Content}
 use Rattle.stamp_runs.specs.declared.event.Event.{Event}
 use Rattle.stamp_runs.specs.declared.event.Event.TheVariants.{Begins, Returns, Withdraws}
 use Rattle.stamp_runs.specs.Object.{LockStep, RecordStep}
@@ -29,7 +27,7 @@ use Rattle.stamp_runs.specs.BothRun.{Both, State}
 use Rattle.stamp_runs.specs.Names.{AreDifferent, Names, call_by, event_by, reply_by}
 use Rattle.stamp_runs.specs.Trace.{LeadsBy, Taken, taken_at}
 use Rattle.stamp_runs.specs.Trace.LeadsBy.{led_nowhere, by_taken, by_next}
-use Rattle.stamp_runs.proofs.Lanes.{set_of, sets_of, true_cases}
+use Rattle.stamp_runs.proofs.Lanes.{set_of, sets_of}
 use Rattle.stamp_runs.proofs.Objects.{one_content}
 use Rattle.stamp_runs.proofs.Ordering.{leads_of, order_on}
 
@@ -48,26 +46,8 @@ yes_or_no name true = refl
 yes_or_no name false = refl
 
 row_named : (name : Names) (l : Bounds) (c : Counts) (call : Call) → HasName name (row l c call)
-row_named name l c TryWrite = either name _ (has_own refl) (has_own refl)
-row_named name l c TryRead = either name _ (has_own refl) (has_own refl)
-row_named name l c WriteLock = search (either, has_own, has_none)
-row_named name l c ReadLock = either name _ (has_own refl) has_none
-row_named name l c Optimistic = has_own refl
-row_named name l c (Validate s) = has_own (yes_or_no name _)
-row_named name l c (UnlockWrite s) = either name _ (has_own refl) (has_own refl)
-row_named name l c (UnlockRead s) = either name _ (has_own refl) (has_own refl)
-row_named name l c (Unlock s) = search (either, has_own)
-row_named name l c (ToWrite s) = search (either, has_own)
-row_named name l c (ToRead s) = search (either, has_own)
-row_named name l c (ToOptimistic s) = search (either, has_own)
-row_named name l c TryUnlockWrite = either name _ (has_own refl) (has_own refl)
-row_named name l c TryUnlockRead = either name _ (has_own refl) (has_own refl)
-row_named name l c IsWriteLocked = has_own (yes_or_no name _)
-row_named name l c IsReadLocked = has_own (yes_or_no name _)
-row_named name l c ReadCount = has_own refl
 row_named name l c Get = has_none
-row_named name l c (Put words) = has_none
-row_named name l c (PutIf expected words) = has_none
+row_named name l c _ = search (either, has_own, has_none, yes_or_no)
 
 replies_named : (name : Names) (t : Option Transition) (reply : Reply) → HasName name t → Replies t reply →
     reply_by name reply ≡ reply
@@ -82,77 +62,19 @@ lock_named name limits s next call reply step =
 -- calls of the lock have no contents
 lock_call_named : (name : Names) (call : Call) → is_lock_call (call_by name call) ≡ is_lock_call call
 lock_call_named name TryWrite = refl
-lock_call_named name TryRead = refl
-lock_call_named name WriteLock = refl
-lock_call_named name ReadLock = refl
-lock_call_named name Optimistic = refl
-lock_call_named name (Validate s) = refl
-lock_call_named name (UnlockWrite s) = refl
-lock_call_named name (UnlockRead s) = refl
-lock_call_named name (Unlock s) = refl
-lock_call_named name (ToWrite s) = refl
-lock_call_named name (ToRead s) = refl
-lock_call_named name (ToOptimistic s) = refl
-lock_call_named name TryUnlockWrite = refl
-lock_call_named name TryUnlockRead = refl
-lock_call_named name IsWriteLocked = refl
-lock_call_named name IsReadLocked = refl
-lock_call_named name ReadCount = refl
-lock_call_named name Get = refl
-lock_call_named name (Put words) = refl
-lock_call_named name (PutIf expected words) = refl
+lock_call_named name _ = refl
 
 lock_call_same : (name : Names) (call : Call) → is_lock_call call ≡ true → call_by name call ≡ call
 lock_call_same name Get is = absurd (false≢true is)
 lock_call_same name (Put words) is = absurd (false≢true is)
 lock_call_same name (PutIf expected words) is = absurd (false≢true is)
-lock_call_same name TryWrite is = refl
-lock_call_same name TryRead is = refl
-lock_call_same name WriteLock is = refl
-lock_call_same name ReadLock is = refl
-lock_call_same name Optimistic is = refl
-lock_call_same name (Validate s) is = refl
-lock_call_same name (UnlockWrite s) is = refl
-lock_call_same name (UnlockRead s) is = refl
-lock_call_same name (Unlock s) is = refl
-lock_call_same name (ToWrite s) is = refl
-lock_call_same name (ToRead s) is = refl
-lock_call_same name (ToOptimistic s) is = refl
-lock_call_same name TryUnlockWrite is = refl
-lock_call_same name TryUnlockRead is = refl
-lock_call_same name IsWriteLocked is = refl
-lock_call_same name IsReadLocked is = refl
-lock_call_same name ReadCount is = refl
+lock_call_same name _ is = refl
 
 -- what a call of the record leaves
 next_named : (name : Names) (content : List ℕ) (call : Call) (reply : Reply) →
     content_next (name content) (call_by name call) (reply_by name reply) ≡ name (content_next content call reply)
-next_named name content (Put words) reply = refl
 next_named name content (PutIf expected words) Yes = refl
-next_named name content (PutIf expected words) No = refl
-next_named name content (PutIf expected words) Done = refl
-next_named name content (PutIf expected words) Mismatch = refl
-next_named name content (PutIf expected words) (Stamp s) = refl
-next_named name content (PutIf expected words) (Count n) = refl
-next_named name content (PutIf expected words) (Content seen) = refl
-next_named name content Get reply = refl
-next_named name content TryWrite reply = refl
-next_named name content TryRead reply = refl
-next_named name content WriteLock reply = refl
-next_named name content ReadLock reply = refl
-next_named name content Optimistic reply = refl
-next_named name content (Validate s) reply = refl
-next_named name content (UnlockWrite s) reply = refl
-next_named name content (UnlockRead s) reply = refl
-next_named name content (Unlock s) reply = refl
-next_named name content (ToWrite s) reply = refl
-next_named name content (ToRead s) reply = refl
-next_named name content (ToOptimistic s) reply = refl
-next_named name content TryUnlockWrite reply = refl
-next_named name content TryUnlockRead reply = refl
-next_named name content IsWriteLocked reply = refl
-next_named name content IsReadLocked reply = refl
-next_named name content ReadCount reply = refl
+next_named name content _ _ = refl
 
 abbrev pub phase_by : Names → Phase → Phase
 phase_by name Idle = Idle
@@ -210,7 +132,7 @@ gets_back name (Gets reply) is = record { reply = reply; gets = refl; same = cc 
 module _ (name : Names) (different : AreDifferent name) where
   -- contents are the same where their names are
   same_named : (a b : List ℕ) → same_words (name a) (name b) ≡ same_words a b
-  same_named a b = by (true_cases (same_words a b)) (true_cases (same_words (name a) (name b)))
+  same_named a b = by (cases_Bool (same_words a b)) (cases_Bool (same_words (name a) (name b)))
     where
       by : (same_words a b ≡ true) ⊎ (same_words a b ≡ false) →
           (same_words (name a) (name b) ≡ true) ⊎ (same_words (name a) (name b) ≡ false) →
@@ -224,54 +146,9 @@ module _ (name : Names) (different : AreDifferent name) where
   -- a reply has one name
   reply_same : (a b : Reply) → reply_by name a ≡ reply_by name b → a ≡ b
   reply_same (Content x) (Content y) same = ap Content (different x y (one_content same))
-  reply_same (Content x) Yes same = cc
-  reply_same (Content x) No same = cc
-  reply_same (Content x) Done same = cc
-  reply_same (Content x) Mismatch same = cc
-  reply_same (Content x) (Stamp s) same = cc
-  reply_same (Content x) (Count n) same = cc
-  reply_same Yes (Content y) same = cc
-  reply_same No (Content y) same = cc
-  reply_same Done (Content y) same = cc
-  reply_same Mismatch (Content y) same = cc
-  reply_same (Stamp s) (Content y) same = cc
-  reply_same (Count n) (Content y) same = cc
-  reply_same Yes Yes same = refl
-  reply_same Yes No same = same
-  reply_same Yes Done same = same
-  reply_same Yes Mismatch same = same
-  reply_same Yes (Stamp s) same = same
-  reply_same Yes (Count n) same = same
-  reply_same No Yes same = same
-  reply_same No No same = refl
-  reply_same No Done same = same
-  reply_same No Mismatch same = same
-  reply_same No (Stamp s) same = same
-  reply_same No (Count n) same = same
-  reply_same Done Yes same = same
-  reply_same Done No same = same
-  reply_same Done Done same = refl
-  reply_same Done Mismatch same = same
-  reply_same Done (Stamp s) same = same
-  reply_same Done (Count n) same = same
-  reply_same Mismatch Yes same = same
-  reply_same Mismatch No same = same
-  reply_same Mismatch Done same = same
-  reply_same Mismatch Mismatch same = refl
-  reply_same Mismatch (Stamp s) same = same
-  reply_same Mismatch (Count n) same = same
-  reply_same (Stamp s) Yes same = same
-  reply_same (Stamp s) No same = same
-  reply_same (Stamp s) Done same = same
-  reply_same (Stamp s) Mismatch same = same
-  reply_same (Stamp s) (Stamp t) same = same
-  reply_same (Stamp s) (Count n) same = same
-  reply_same (Count n) Yes same = same
-  reply_same (Count n) No same = same
-  reply_same (Count n) Done same = same
-  reply_same (Count n) Mismatch same = same
-  reply_same (Count n) (Stamp s) same = same
-  reply_same (Count n) (Count m) same = same
+  reply_same (Content x) _ same = cc
+  reply_same _ (Content y) same = cc
+  reply_same _ _ same = same
 
   -- each step of the one is one of the other
   record_forth : (content next : List ℕ) (call : Call) (reply : Reply) → RecordStep content call reply next →
@@ -287,23 +164,7 @@ module _ (name : Names) (different : AreDifferent name) where
       answers (Put words) reply is = ap (reply_by name) is
       answers (PutIf expected words) reply is = ap (reply_by name) is ∙ yes_or_no name (same_words content expected) ∙
           ap (λ (b : Bool). if b then Yes else No) (sym (same_named content expected))
-      answers TryWrite reply is = is
-      answers TryRead reply is = is
-      answers WriteLock reply is = is
-      answers ReadLock reply is = is
-      answers Optimistic reply is = is
-      answers (Validate s) reply is = is
-      answers (UnlockWrite s) reply is = is
-      answers (UnlockRead s) reply is = is
-      answers (Unlock s) reply is = is
-      answers (ToWrite s) reply is = is
-      answers (ToRead s) reply is = is
-      answers (ToOptimistic s) reply is = is
-      answers TryUnlockWrite reply is = is
-      answers TryUnlockRead reply is = is
-      answers IsWriteLocked reply is = is
-      answers IsReadLocked reply is = is
-      answers ReadCount reply is = is
+      answers _ reply is = is
 
   -- what the call by name is answered is a name of an answer
   record Answer (content : List ℕ) (call : Call) (given : Reply) : Type 0 where
@@ -321,23 +182,7 @@ module _ (name : Names) (different : AreDifferent name) where
     same = is ∙ ap (λ (b : Bool). if b then Yes else No) (same_named content expected) ∙
         sym (yes_or_no name (same_words content expected));
   }
-  answered content TryWrite given is = absurd is
-  answered content TryRead given is = absurd is
-  answered content WriteLock given is = absurd is
-  answered content ReadLock given is = absurd is
-  answered content Optimistic given is = absurd is
-  answered content (Validate s) given is = absurd is
-  answered content (UnlockWrite s) given is = absurd is
-  answered content (UnlockRead s) given is = absurd is
-  answered content (Unlock s) given is = absurd is
-  answered content (ToWrite s) given is = absurd is
-  answered content (ToRead s) given is = absurd is
-  answered content (ToOptimistic s) given is = absurd is
-  answered content TryUnlockWrite given is = absurd is
-  answered content TryUnlockRead given is = absurd is
-  answered content IsWriteLocked given is = absurd is
-  answered content IsReadLocked given is = absurd is
-  answered content ReadCount given is = absurd is
+  answered content _ given is = absurd is
 
   module _ (limits : Bounds) where
     abbrev pub by_name : State → State
@@ -359,7 +204,7 @@ module _ (name : Names) (different : AreDifferent name) where
 
     both_forth : (s next : State) (call : Call) (reply : Reply) → Both limits s call reply next →
         Both limits (by_name s) (call_by name call) (reply_by name reply) (by_name next)
-    both_forth s next call reply step = by (true_cases (is_lock_call call))
+    both_forth s next call reply step = by (cases_Bool (is_lock_call call))
       where
         named : Call
         named = call_by name call
@@ -391,7 +236,7 @@ module _ (name : Names) (different : AreDifferent name) where
 
     both_back : (s there : State) (call : Call) (given : Reply) →
         Both limits (by_name s) (call_by name call) given there → BackStep s call given there
-    both_back s there call given step = by (true_cases (is_lock_call call))
+    both_back s there call given step = by (cases_Bool (is_lock_call call))
       where
         by : (is_lock_call call ≡ true) ⊎ (is_lock_call call ≡ false) → BackStep s call given there
         by (inl is) = record {

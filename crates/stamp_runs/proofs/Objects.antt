@@ -4,6 +4,7 @@ use Rattle.std.proofs.Common.{sym, ◌∙◌, ap, subst, inl, inr, ◌⊎◌}
 use Rattle.std.specs.Prelude.{if◌then◌else◌}
 use Rattle.std.proofs.lemmas.List.{length-append}
 use Rattle.std.specs.Cmp.Lexicographic.{same_text}
+use Rattle.std.proofs.lemmas.Bool.{cases_Bool}
 use Rattle.stamp_core.specs.LockEvent.{LockEvent}
 use Rattle.stamp_core.specs.LockEvent.LockEvent.{ReadAcquired}
 use Rattle.stamp_core.specs.Limits.{Bounds}
@@ -11,10 +12,7 @@ use Rattle.stamp_core.specs.Transition.{transition}
 use Rattle.stamp_core.specs.History.{Replies, appended_by}
 use Rattle.stamp_core.specs.Content.{same_words}
 use Rattle.stamp_core.specs.declared.call.Call.{Call}
-use Rattle.stamp_core.specs.declared.call.Call.TheVariants.{TryWrite, TryRead, WriteLock, ReadLock, Optimistic}
-use Rattle.stamp_core.specs.declared.call.Call.TheVariants.{Validate, UnlockWrite, UnlockRead, Unlock, ToWrite}
-use Rattle.stamp_core.specs.declared.call.Call.TheVariants.{ToRead, ToOptimistic, TryUnlockWrite, TryUnlockRead}
-use Rattle.stamp_core.specs.declared.call.Call.TheVariants.{IsWriteLocked, IsReadLocked, ReadCount, Get, Put, PutIf}
+use Rattle.stamp_core.specs.declared.call.Call.TheVariants.{Get, Put, PutIf}
 use Rattle.stamp_core.specs.declared.reply.Reply.{Reply}
 use Rattle.stamp_core.specs.declared.reply.Reply.TheVariants.{Yes, No, Done, Content}
 use Rattle.stamp_runs.specs.Object.{LockStep, RecordStep}
@@ -22,7 +20,6 @@ use Rattle.stamp_runs.specs.LockRun.{DoSame}
 use Rattle.stamp_runs.specs.Run.{DoesAs}
 use Rattle.stamp_runs.specs.Position.{Overwrites, OverwritesNever}
 use Rattle.stamp_runs.specs.RunLaws.{LockOverwritesNever, PutsOverwrite, ReadsChangeNothing, SameAreAlike}
-use Rattle.stamp_runs.proofs.Lanes.{true_cases}
 
 pub reads_change_nothing : ReadsChangeNothing
 reads_change_nothing = ((λ s t reply step. step.leaves), λ expected words s t step. step.leaves)
@@ -38,8 +35,8 @@ pub get_never : OverwritesNever RecordStep Get
 get_never reply t over = apart (one_content (sym (over.may []).replies ∙ (over.may (0 ∷ [])).replies))
 
 put_if_never : (expected words : List ℕ) → OverwritesNever RecordStep (PutIf expected words)
-put_if_never expected words reply t over = by (true_cases (same_words [] expected))
-    (true_cases (same_words (0 ∷ []) expected))
+put_if_never expected words reply t over = by (cases_Bool (same_words [] expected))
+    (cases_Bool (same_words (0 ∷ []) expected))
   where
     is_so : {b : Bool} (content : List ℕ) → same_words content expected ≡ b → reply ≡ (if b then Yes else No)
     is_so content same = subst (λ (x : Bool). reply ≡ (if x then Yes else No)) same (over.may content).replies
@@ -76,23 +73,7 @@ puts_overwrite call reply t = (
     is_put (Put words) over = (ap Put (sym (over.may []).leaves), (over.may []).replies)
     is_put Get over = absurd (get_never reply t over)
     is_put (PutIf expected words) over = absurd (put_if_never expected words reply t over)
-    is_put TryWrite over = absurd (over.may []).replies
-    is_put TryRead over = absurd (over.may []).replies
-    is_put WriteLock over = absurd (over.may []).replies
-    is_put ReadLock over = absurd (over.may []).replies
-    is_put Optimistic over = absurd (over.may []).replies
-    is_put (Validate stamp) over = absurd (over.may []).replies
-    is_put (UnlockWrite stamp) over = absurd (over.may []).replies
-    is_put (UnlockRead stamp) over = absurd (over.may []).replies
-    is_put (Unlock stamp) over = absurd (over.may []).replies
-    is_put (ToWrite stamp) over = absurd (over.may []).replies
-    is_put (ToRead stamp) over = absurd (over.may []).replies
-    is_put (ToOptimistic stamp) over = absurd (over.may []).replies
-    is_put TryUnlockWrite over = absurd (over.may []).replies
-    is_put TryUnlockRead over = absurd (over.may []).replies
-    is_put IsWriteLocked over = absurd (over.may []).replies
-    is_put IsReadLocked over = absurd (over.may []).replies
-    is_put ReadCount over = absurd (over.may []).replies
+    is_put _ over = absurd (over.may []).replies
 
 -- the lock only appends: no state is left of one that has more events
 pub lock_overwrites_never : LockOverwritesNever
@@ -107,7 +88,7 @@ lock_overwrites_never limits call reply t over = omega (arith, long, appends)
     appends : length t ≡ length more + length (appended_by (transition limits more call))
     appends = ap length (over.may more).appends ∙ length-append more (appended_by (transition limits more call))
 
-does_as : (limits : Bounds) (call other : Call) → DoSame limits call other → DoesAs (LockStep limits) call other
+pub does_as : (limits : Bounds) (call other : Call) → DoSame limits call other → DoesAs (LockStep limits) call other
 does_as limits call other same s t reply step = record {
   replies = subst (λ x. Replies x reply) (same s) step.replies;
   appends = subst (λ x. t ≡ s ++ appended_by x) (same s) step.appends;

@@ -3,7 +3,7 @@ use Rattle.std.proofs.Common.{◌≡◌, ◌≢◌, ◌⊎◌, ℕ, suc, Bool, t
 use Rattle.std.proofs.Common.{◌∙◌, ap, subst, inl, inr, eq-eqb, ne_eqb}
 use Rattle.std.specs.Prelude.{◌==◌, if◌then◌else◌, IsSome}
 use Rattle.std.specs.Bool.{MatchBool}
-use Rattle.std.proofs.lemmas.Bool.{cases_eq}
+use Rattle.std.proofs.lemmas.Bool.{cases_eq, cases_Bool}
 use Rattle.std.proofs.lemmas.Option.{same_Some}
 use Rattle.stamp_core.specs.declared.call.Call.{Call}
 use Rattle.stamp_core.specs.declared.reply.Reply.{Reply}
@@ -15,7 +15,7 @@ use Rattle.stamp_runs.specs.Own.{AreInFormFrom, is_own_call, open_then, own_from
 use Rattle.stamp_runs.specs.Run.{Happens, Lanes, Phase, Sets, Survives}
 use Rattle.stamp_runs.specs.Run.Leads.{leads_nowhere}
 use Rattle.stamp_runs.specs.Run.Phase.{Idle, Asks, Gets}
-use Rattle.stamp_runs.proofs.Lanes.{idle_or_asks, idle_or_gets, set_of, sets_itself, sets_of, true_cases}
+use Rattle.stamp_runs.proofs.Lanes.{idle_or_asks, idle_or_gets, set_of, sets_itself, sets_of}
 use Rattle.stamp_runs.proofs.Lanes.{none_some, true_or_false}
 use Rattle.stamp_runs.proofs.Apart.{IsOpenAs, not_idle, open_call}
 use Rattle.stamp_runs.proofs.Going.{GoesOnIn, more_in, survives_effect, survives_event}
@@ -154,7 +154,7 @@ module _ {S : Type 0} (mine : Call → Bool) (O : Object S) where
           (others_step r (open_call is_open asks) not step) (more_in O (on b (fit_then mine IsOpenAs u fit
           (still_open calls u) sets (sets_itself b u Idle idle) (of_others d o not refl (inr (r, refl))))))
   own_goes_on {n} {s = s} {a} (one_event {events = events} {after = after} (Begins u c) happens rest) calls b fit =
-      by (fit u) (true_cases (mine c)) (λ b1 fit1. own_goes_on rest (open_then calls (Begins u c)) b1 fit1)
+      by (fit u) (cases_Bool (mine c)) (λ b1 fit1. own_goes_on rest (open_then calls (Begins u c)) b1 fit1)
     where
       then_calls : Calls
       then_calls = open_then calls (Begins u c)
@@ -239,7 +239,7 @@ module _ {S : Type 0} (mine : Call → Bool) (O : Object S) where
   pub others_join : (events : List Event) (calls : Calls) → AreInFormFrom calls events → {n : ℕ} {s : S} {a b : Lanes}
       → FitAsking calls a b → GoesOnIn O n (own_from mine calls events) s b → Survives (Of mine O) events s a
   others_join [] calls form fit way = record { state = _; last = _; way = leads_nowhere }
-  others_join (Begins u c ∷ events) calls form {n} {s} {a} {b} fit way = by (true_cases (mine c))
+  others_join (Begins u c ∷ events) calls form {n} {s} {a} {b} fit way = by (cases_Bool (mine c))
       (λ m t a1 b1 fit1 on. others_join events (open_then calls (Begins u c)) form.1 {n = m} {s = t} {a = a1} {b = b1}
       fit1 on)
     where

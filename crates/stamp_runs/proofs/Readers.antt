@@ -1,6 +1,6 @@
 -- Calls that read what a hidden one left.
 use Rattle.std.proofs.Common.{◌≡◌, ◌≢◌, ◌⊎◌, ℕ, Bool, true, false, Option, Some, refl, sym, ◌∙◌, ap, subst, inl, inr}
-use Rattle.std.proofs.lemmas.Bool.{cases_eq}
+use Rattle.std.proofs.lemmas.Bool.{cases_eq, cases_Bool}
 use Rattle.std.proofs.lemmas.Option.{same_Some}
 use Rattle.stamp_core.specs.declared.call.Call.{Call}
 use Rattle.stamp_core.specs.declared.reply.Reply.{Reply}
@@ -10,7 +10,7 @@ use Rattle.stamp_runs.specs.Run.Phase.{Asks, Gets}
 use Rattle.stamp_runs.specs.Position.{Hidden, Overwrites, ReadsOrOverwrites, Shows}
 use Rattle.stamp_runs.specs.Position.Hidden.{no_more, overwrites, sees}
 use Rattle.stamp_runs.specs.Watching.{MayGet, Told}
-use Rattle.stamp_runs.proofs.Lanes.{asks_or_gets, set_of, sets_of, true_cases, true_or_false}
+use Rattle.stamp_runs.proofs.Lanes.{asks_or_gets, set_of, sets_of, true_or_false}
 use Rattle.stamp_runs.proofs.Hiding.{stays_in_effect}
 
 module _ {S : Type 0} (O : Object S) (ahead : ℕ → Told) (free then_free readers : ℕ → Bool)
@@ -38,7 +38,7 @@ module _ {S : Type 0} (O : Object S) (ahead : ℕ → Told) (free then_free read
   mine_then u r sets mine c asks = mine c (still u r sets lane c asks)
 
   shows_one : {a b c : Lanes} → ShownAs a b → ShownAs a c → b ≡ c
-  shows_one {a} {b} {c} one other = λ i v. by v (cases_eq v lane) (true_cases (readers v)) i
+  shows_one {a} {b} {c} one other = λ i v. by v (cases_eq v lane) (cases_Bool (readers v)) i
     where
       by : (v : ℕ) → (v ≡ lane) ⊎ (v ≢ lane) → (readers v ≡ true) ⊎ (readers v ≡ false) → b v ≡ c v
       by v (inl same) either = subst (λ (w : ℕ). b w ≡ c w) (sym same) (one.here ∙ sym other.here)
@@ -81,7 +81,7 @@ module _ {S : Type 0} (O : Object S) (ahead : ℕ → Told) (free then_free read
   readers_first no_more each mine at' where_at a' l' shows shows_l gets ok =
       subst (λ (m : Lanes). Hidden O then_free at' a' m) (shows_one shows shows_l) no_more
   readers_first {at} {a = a} {l = l} (overwrites {after = after} u c r v is_free asks over sets rest) each mine at'
-      where_at a' l' shows shows_l gets ok = by (cases_eq u lane) (true_cases (readers u))
+      where_at a' l' shows shows_l gets ok = by (cases_eq u lane) (cases_Bool (readers u))
       (λ at1 here shown. readers_first rest (each_then u r sets each) (mine_then u r sets mine) at1 here shown l')
     where
       by : (u ≡ lane) ⊎ (u ≢ lane) → (readers u ≡ true) ⊎ (readers u ≡ false) →
@@ -96,7 +96,7 @@ module _ {S : Type 0} (O : Object S) (ahead : ℕ → Told) (free then_free read
           (sets_of a' u (Gets r)) (on (Some v) (inl refl) (set_of a' u (Gets r)) (shows_it u r sets shows apart not)
           shows_l gets ok)
   readers_first {a = a} {l = l} (sees {after = after} {t = v} u c r is_free asks step sets rest) each mine at'
-      where_at a' l' shows shows_l gets ok = by (cases_eq u lane) (true_cases (readers u))
+      where_at a' l' shows shows_l gets ok = by (cases_eq u lane) (cases_Bool (readers u))
       (λ at1 here shown. readers_first rest (each_then u r sets each) (mine_then u r sets mine) at1 here shown l')
     where
       by : (u ≡ lane) ⊎ (u ≢ lane) → (readers u ≡ true) ⊎ (readers u ≡ false) →

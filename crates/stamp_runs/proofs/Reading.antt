@@ -1,6 +1,6 @@
 -- Readers that are in effect: what goes on without them goes on with them.
 use Rattle.std.proofs.Common.{◌≡◌, ◌≢◌, ◌⊎◌, ℕ, Bool, true, false, List, ◌∷◌, refl, sym, ◌∙◌, subst, inl, inr, suc}
-use Rattle.std.proofs.lemmas.Bool.{cases_eq}
+use Rattle.std.proofs.lemmas.Bool.{cases_eq, cases_Bool}
 use Rattle.stamp_core.specs.declared.call.Call.{Call}
 use Rattle.stamp_core.specs.declared.reply.Reply.{Reply}
 use Rattle.stamp_runs.specs.declared.event.Event.{Event}
@@ -11,7 +11,7 @@ use Rattle.stamp_runs.specs.Run.EndsBy.{ends_next, ends_later}
 use Rattle.stamp_runs.specs.Run.Phase.{Idle, Asks, Gets}
 use Rattle.stamp_runs.specs.Position.{AreShown, IsReader}
 use Rattle.stamp_runs.proofs.Lanes.{asks_or_gets, happens_as, idle_or_asks, idle_or_gets, one_call, open_apart, pick}
-use Rattle.stamp_runs.proofs.Lanes.{picks_first, picks_second, set_of, sets_of, stays_beside, true_cases}
+use Rattle.stamp_runs.proofs.Lanes.{picks_first, picks_second, set_of, sets_of, stays_beside}
 use Rattle.stamp_runs.proofs.Lanes.{true_or_false}
 use Rattle.stamp_runs.proofs.Going.{GoesOnIn, gotten_is_told, more_in}
 use Rattle.stamp_runs.proofs.Going.GoesOnIn.{at_end, one_effect, one_event}
@@ -89,7 +89,7 @@ module _ {S : Type 0} (O : Object S) (told : ℕ → Reply) where
       GoesOnIn O n events s b
   readers_go_on readers each at_end b shown = at_end
   readers_go_on {s = s} {a} readers each (one_effect {n = n} {events = events} {next = next} {after = after} u c r asks
-      step sets rest) b shown = by (true_cases (readers u))
+      step sets rest) b shown = by (cases_Bool (readers u))
       (λ b1 shown1. readers_go_on readers (read_after u r each sets) rest b1 shown1)
     where
       by : (readers u ≡ true) ⊎ (readers u ≡ false) →
@@ -119,7 +119,7 @@ module _ {S : Type 0} (O : Object S) (told : ℕ → Reply) where
               sym (sets.others v beyond)
   readers_go_on {n = n} {s = s} {a} readers each (one_event {events = events} {after = after} event happens rest) b
       shown
-      = by (true_cases (readers u))
+      = by (cases_Bool (readers u))
       (λ readers1 each1 b1 shown1. readers_go_on readers1 each1 rest b1 shown1)
     where
       u : ℕ

@@ -7,12 +7,9 @@ use Rattle.std.proofs.lemmas.Bool.{cases_lt}
 use Rattle.std.proofs.lemmas.List.{length-append, take-append-le, take_all}
 use Rattle.stamp_core.specs.Limits.{Bounds}
 use Rattle.stamp_core.specs.declared.call.Call.{Call}
-use Rattle.stamp_core.specs.declared.call.Call.TheVariants.{TryWrite, TryRead, WriteLock, ReadLock, Optimistic}
-use Rattle.stamp_core.specs.declared.call.Call.TheVariants.{Validate, UnlockWrite, UnlockRead, Unlock, ToWrite}
-use Rattle.stamp_core.specs.declared.call.Call.TheVariants.{ToRead, ToOptimistic, TryUnlockWrite, TryUnlockRead}
-use Rattle.stamp_core.specs.declared.call.Call.TheVariants.{IsWriteLocked, IsReadLocked, ReadCount, Get, Put, PutIf}
+use Rattle.stamp_core.specs.declared.call.Call.TheVariants.{Put, PutIf}
 use Rattle.stamp_core.specs.declared.reply.Reply.{Reply}
-use Rattle.stamp_core.specs.declared.reply.Reply.TheVariants.{Stamp, Yes, No, Done, Mismatch, Count, Content}
+use Rattle.stamp_core.specs.declared.reply.Reply.TheVariants.{Content}
 use Rattle.stamp_runs.specs.declared.event.Event.{Event}
 use Rattle.stamp_runs.specs.Object.{Object}
 use Rattle.stamp_runs.specs.BothRun.{Both, State}
@@ -74,33 +71,11 @@ module _ (name other : Names) where
   call_same (Put words) is = ap Put is
   call_same (PutIf expected words) is =
       ap (λ (x : List ℕ). PutIf x (name words)) is.0 ∙ ap (PutIf (other expected)) is.1
-  call_same Get is = refl
-  call_same TryWrite is = refl
-  call_same TryRead is = refl
-  call_same WriteLock is = refl
-  call_same ReadLock is = refl
-  call_same Optimistic is = refl
-  call_same (Validate s) is = refl
-  call_same (UnlockWrite s) is = refl
-  call_same (UnlockRead s) is = refl
-  call_same (Unlock s) is = refl
-  call_same (ToWrite s) is = refl
-  call_same (ToRead s) is = refl
-  call_same (ToOptimistic s) is = refl
-  call_same TryUnlockWrite is = refl
-  call_same TryUnlockRead is = refl
-  call_same IsWriteLocked is = refl
-  call_same IsReadLocked is = refl
-  call_same ReadCount is = refl
+  call_same _ is = refl
 
   answer_same : (reply : Reply) → EachOfReply (HasOneName name other) reply → reply_by name reply ≡ reply_by other reply
   answer_same (Content words) is = ap Content is
-  answer_same Yes is = refl
-  answer_same No is = refl
-  answer_same Done is = refl
-  answer_same Mismatch is = refl
-  answer_same (Stamp s) is = refl
-  answer_same (Count n) is = refl
+  answer_same _ is = refl
 
   phase_same : (p : Phase) → EachOfPhase (HasOneName name other) p → phase_by name p ≡ phase_by other p
   phase_same Idle is = refl

@@ -1,7 +1,7 @@
 -- A return by positions.
 use Rattle.std.proofs.Common.{◌≡◌, ◌≢◌, ◌⊎◌, ℕ, suc, Bool, true, false, List, ◌∷◌, None, Some, refl}
 use Rattle.std.proofs.Common.{sym, ◌∙◌, ap, inl, inr, subst}
-use Rattle.std.proofs.lemmas.Bool.{cases_eq}
+use Rattle.std.proofs.lemmas.Bool.{cases_eq, cases_Bool}
 use Rattle.stamp_core.specs.declared.call.Call.{Call}
 use Rattle.stamp_core.specs.declared.reply.Reply.{Reply}
 use Rattle.stamp_runs.specs.declared.event.Event.{Event}
@@ -18,7 +18,7 @@ use Rattle.stamp_runs.specs.Returning.{IsSeenTo, IsSource, OneOf, Return, Return
 use Rattle.stamp_runs.specs.Returning.{event_of, of_other}
 use Rattle.stamp_runs.specs.Returning.IsSeenTo.{is_looked_at, is_unseen, gives_way}
 use Rattle.stamp_runs.proofs.Lanes.{asks_or_gets, leads_on, one_reply, set_of, sets_alike, sets_itself}
-use Rattle.stamp_runs.proofs.Lanes.{sets_of, sets_swapped, true_cases, true_or_false}
+use Rattle.stamp_runs.proofs.Lanes.{sets_of, sets_swapped, true_or_false}
 use Rattle.stamp_runs.proofs.Going.{GoesOnIn, goes_on_in, may_get, survives}
 use Rattle.stamp_runs.proofs.Going.GoesOnIn.{one_effect, one_event}
 use Rattle.stamp_runs.proofs.Hiding.{asked_before, hidden_beside, hidden_on, stays_in_effect}
@@ -363,7 +363,7 @@ module _ {S : Type 0} (O : Object S) where
     -- and so it does from the old ones
     old_goes_on : (future : List Event) → After future → OneSurvives O (event_of e ∷ future) (OfSome O old) →
         OneSurvives O future (OfSome O new)
-    old_goes_on future fit one = kind (true_cases (p.free lane))
+    old_goes_on future fit one = kind (cases_Bool (p.free lane))
       where
         p : Position S
         p = one.among.position

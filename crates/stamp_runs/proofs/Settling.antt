@@ -1,7 +1,7 @@
 -- What is hidden where calls that read are in effect at once, or calls that never end ask again.
 use Rattle.std.proofs.Common.{◌≡◌, ◌≢◌, ◌⊎◌, ℕ, Bool, true, false, Option, Some, sym}
 use Rattle.std.proofs.Common.{◌∙◌, subst, inl, inr}
-use Rattle.std.proofs.lemmas.Bool.{cases_eq}
+use Rattle.std.proofs.lemmas.Bool.{cases_eq, cases_Bool}
 use Rattle.stamp_core.specs.declared.call.Call.{Call}
 use Rattle.stamp_core.specs.declared.reply.Reply.{Reply}
 use Rattle.stamp_runs.specs.Object.{Object}
@@ -10,7 +10,7 @@ use Rattle.stamp_runs.specs.Run.Phase.{Asks, Gets}
 use Rattle.stamp_runs.specs.Position.{AreShown, AskAgain, Hidden, OverwritesNever}
 use Rattle.stamp_runs.specs.Position.Hidden.{no_more, overwrites, sees}
 use Rattle.stamp_runs.proofs.Endless.{asking_on}
-use Rattle.stamp_runs.proofs.Lanes.{asks_or_gets, set_of, sets_of, true_cases, true_or_false}
+use Rattle.stamp_runs.proofs.Lanes.{asks_or_gets, set_of, sets_of, true_or_false}
 
 -- what reads is in effect at once
 module _ {S : Type 0} (O : Object S) (free then_free readers : ℕ → Bool) (told : ℕ → Reply)
@@ -27,7 +27,7 @@ module _ {S : Type 0} (O : Object S) (free then_free readers : ℕ → Bool) (to
       (subst (λ (w : ℕ). after w ≡ Gets r) (sym e) sets.here))) ∙ asks)
 
   settled_one : {a b c : Lanes} → Settles a b → Settles a c → b ≡ c
-  settled_one {a} {b} {c} one other = λ i v. by v (true_cases (readers v)) i
+  settled_one {a} {b} {c} one other = λ i v. by v (cases_Bool (readers v)) i
     where
       by : (v : ℕ) → (readers v ≡ true) ⊎ (readers v ≡ false) → b v ≡ c v
       by v (inl is) = one.read v is ∙ sym (other.read v is)
@@ -53,7 +53,7 @@ module _ {S : Type 0} (O : Object S) (free then_free readers : ℕ → Bool) (to
       subst (λ (m : Lanes). Hidden O then_free at a' m) (settled_one settles settles_l) no_more
   settled_hidden {at} {a} {l} (overwrites {after = after} u c r v is_free asks over sets rest) none a' l' settles
       settles_l =
-      by (true_cases (readers u)) (λ no_reader. settled_hidden rest (none_then u r sets none) (set_of a' u (Gets r)) l'
+      by (cases_Bool (readers u)) (λ no_reader. settled_hidden rest (none_then u r sets none) (set_of a' u (Gets r)) l'
       (settles_it u r sets settles no_reader) settles_l)
     where
       by : (readers u ≡ true) ⊎ (readers u ≡ false) →
@@ -63,7 +63,7 @@ module _ {S : Type 0} (O : Object S) (free then_free readers : ℕ → Bool) (to
           (sets_of a' u (Gets r)) (on not)
   settled_hidden {a = a} {l} (sees {after = after} {t = v} u c r is_free asks step sets rest) none a' l' settles
       settles_l =
-      by (true_cases (readers u)) (λ no_reader. settled_hidden rest (none_then u r sets none) (set_of a' u (Gets r)) l'
+      by (cases_Bool (readers u)) (λ no_reader. settled_hidden rest (none_then u r sets none) (set_of a' u (Gets r)) l'
       (settles_it u r sets settles no_reader) settles_l) (λ is. settled_hidden rest (none_then u r sets none) a' l'
       (record {
         read = settles.read;
@@ -88,14 +88,14 @@ module _ {S : Type 0} (O : Object S) (free then_free endless : ℕ → Bool)
     pub alike : (v : ℕ) → endless v ≡ true → m v ≡ b v
 
   undone_one : {a b m : Lanes} → Undone a a b m → b ≡ m
-  undone_one {a} {b} {m} undone = λ i v. by v (true_cases (endless v)) i
+  undone_one {a} {b} {m} undone = λ i v. by v (cases_Bool (endless v)) i
     where
       by : (v : ℕ) → (endless v ≡ true) ⊎ (endless v ≡ false) → b v ≡ m v
       by v (inl is) = sym (undone.alike v is)
       by v (inr not) = undone.before.others v not ∙ sym (undone.after.others v not)
 
   not_endless : {a l b m : Lanes} {u : ℕ} {c : Call} → Undone a l b m → a u ≡ Asks c → endless u ≡ false
-  not_endless {u = u} undone asks = by (true_cases (endless u))
+  not_endless {u = u} undone asks = by (cases_Bool (endless u))
     where
       by : (endless u ≡ true) ⊎ (endless u ≡ false) → endless u ≡ false
       by (inl is) = absurd (asks_or_gets asks (undone.before.in_effect u is).1)

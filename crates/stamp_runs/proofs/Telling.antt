@@ -8,7 +8,7 @@ use Rattle.stamp_runs.specs.Run.EndsBy.{ends_next, ends_later}
 use Rattle.stamp_runs.specs.Run.GoesFirst.{goes_sooner, goes_endless}
 use Rattle.stamp_runs.specs.Run.ReturnsSooner.{sooner_next, sooner_later}
 use Rattle.stamp_runs.specs.Watching.{FitsOne, IsToldFirst, MayGet, Told}
-use Rattle.stamp_runs.specs.Watching.Told.{Nothing, Returning, Withdrawing, Never}
+use Rattle.stamp_runs.specs.Watching.Told.{Returning, Never}
 use Rattle.stamp_runs.specs.RunLaws.{ToldGoesFirst}
 use Rattle.stamp_runs.proofs.Endless.{never_here, never_later}
 
@@ -33,10 +33,4 @@ told_goes_first told lane than reply events fits first may =
         (subst (λ (r : Reply). EndsBy lane (Returns lane r) events) (sym same) ends)
         (sooner_than_never lane than its ends never)
     by Never Never is is_other first any never never_too = goes_endless never never_too
-    by Nothing other is is_other first any ends ends_too = absurd first
-    by Withdrawing other is is_other first any ends ends_too = absurd first
-    by (Returning its place) Nothing is is_other first any ends ends_too = absurd first
-    by (Returning its place) Withdrawing is is_other first any ends ends_too = absurd first
-    by Never Nothing is is_other first any ends ends_too = absurd first
-    by Never (Returning answer later) is is_other first any ends ends_too = absurd first
-    by Never Withdrawing is is_other first any ends ends_too = absurd first
+    by _ _ is is_other first any ends ends_too = absurd first

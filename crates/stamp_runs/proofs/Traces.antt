@@ -1,9 +1,8 @@
 -- Traces that go on, move by move.
 use Rattle.std.proofs.Common.{◌≡◌, ◌≢◌, ◌⊎◌, ℕ, Bool, true, false, List, [], ◌∷◌, ◌++◌, None, Some, length, refl}
-use Rattle.std.proofs.Common.{sym, ◌∙◌, ap, subst, append-nil, append_assoc, inl, inr}
-use Rattle.std.specs.Prelude.{map}
+use Rattle.std.proofs.Common.{sym, ◌∙◌, ap, subst, inl, inr}
 use Rattle.std.specs.List.{All}
-use Rattle.std.proofs.lemmas.Bool.{cases_eq}
+use Rattle.std.proofs.lemmas.Bool.{cases_eq, cases_Bool}
 use Rattle.std.proofs.lemmas.List.Elements.{All-cons, All-head, All-nil, All-tail}
 use Rattle.stamp_core.specs.declared.call.Call.{Call}
 use Rattle.stamp_core.specs.declared.reply.Reply.{Reply}
@@ -15,17 +14,17 @@ use Rattle.stamp_runs.specs.Position.{Hidden, Overwrites, Position, SameFree}
 use Rattle.stamp_runs.specs.Position.Hidden.{no_more, overwrites, sees}
 use Rattle.stamp_runs.specs.Returning.{IsReached}
 use Rattle.stamp_runs.specs.Returning.IsReached.{from_old, by_changing, by_overwriting}
-use Rattle.stamp_runs.specs.Trace.{FreesNoMore, IsTrace, IsTraced, Move, hidden_calls, order_from}
+use Rattle.stamp_runs.specs.Trace.{FreesNoMore, IsTrace, IsTraced, Move, hidden_calls}
 use Rattle.stamp_runs.specs.Trace.{taken_at}
 use Rattle.stamp_runs.specs.Trace.IsTrace.{in_opening, with_event, with_effect, with_overwriting, with_hidden}
 use Rattle.stamp_runs.specs.Trace.Move.{Takes, Frees, Hides}
-use Rattle.stamp_runs.proofs.Lanes.{set_of, sets_of, true_cases}
+use Rattle.stamp_runs.proofs.Lanes.{set_of, sets_of}
 use Rattle.stamp_runs.proofs.Lanes.{true_or_false}
 
 module _ {S : Type 0} (O : Object S) (start : S) where
   not_freed : {free then_free : ℕ → Bool} (v : ℕ) → ((u : ℕ) → then_free u ≡ true → free u ≡ true) →
       free v ≡ false → then_free v ≡ false
-  not_freed {then_free = then_free} v fewer none = by (true_cases (then_free v))
+  not_freed {then_free = then_free} v fewer none = by (cases_Bool (then_free v))
     where
       by : (then_free v ≡ true) ⊎ (then_free v ≡ false) → then_free v ≡ false
       by (inl free) = absurd (true_or_false (fewer v free) none)
@@ -107,13 +106,6 @@ module _ {S : Type 0} (O : Object S) (start : S) where
   abbrev pub taken_in_turn : ℕ → List (ℕ × Reply) → List Move → List Move
   taken_in_turn point [] moves = moves
   taken_in_turn point (x ∷ readers) moves = taken_in_turn point readers (Takes (taken_at point x) ∷ moves)
-
-  pub order_in_turn : (hidden : List (ℕ × Reply)) (point : ℕ) (readers : List (ℕ × Reply)) (moves : List Move) →
-      order_from hidden (taken_in_turn point readers moves) ≡ order_from hidden moves ++ map (taken_at point) readers
-  order_in_turn hidden point [] moves = sym (append-nil (order_from hidden moves))
-  order_in_turn hidden point (x ∷ readers) moves =
-      order_in_turn hidden point readers (Takes (taken_at point x) ∷ moves) ∙
-      append_assoc (order_from hidden moves) (taken_at point x ∷ []) (map (taken_at point) readers)
 
   -- so they do after what was done before
   pub trace_readers : {past : List Event} {moves : List Move} (p q : Position S) (readers : List (ℕ × Reply)) →

@@ -39,50 +39,40 @@ sets_first : (x y z : Phase) → Sets (three x z) (three y z) 1 y
 sets_first x y z = record { here = refl; others = λ v apart. by v apart }
   where
     by : (v : ℕ) → v ≢ 1 → three y z v ≡ three x z v
-    by zero apart = refl
     by (suc zero) apart = absurd (apart refl)
-    by (suc (suc zero)) apart = refl
     by (suc (suc (suc zero))) apart = refl
-    by (suc (suc (suc (suc n)))) apart = refl
+    by _ apart = refl
 
 sets_second : (x y z : Phase) → Sets (three x y) (three x z) 2 z
 sets_second x y z = record { here = refl; others = λ v apart. by v apart }
   where
     by : (v : ℕ) → v ≢ 2 → three x z v ≡ three x y v
-    by zero apart = refl
-    by (suc zero) apart = refl
     by (suc (suc zero)) apart = absurd (apart refl)
     by (suc (suc (suc zero))) apart = refl
-    by (suc (suc (suc (suc n)))) apart = refl
+    by _ apart = refl
 
 -- what asks stands in lanes 1 to 3
 each_lane : (Q : ℕ → Type 0) (x y : Phase) {c : Call} → Q 1 → Q 2 → Q 3 → (v : ℕ) → three x y v ≡ Asks c → Q v
-each_lane Q x y q r t zero asks = absurd (idle_or_asks refl asks)
 each_lane Q x y q r t (suc zero) asks = q
 each_lane Q x y q r t (suc (suc zero)) asks = r
 each_lane Q x y q r t (suc (suc (suc zero))) asks = t
-each_lane Q x y q r t (suc (suc (suc (suc n)))) asks = absurd (idle_or_asks refl asks)
+each_lane Q x y q r t _ asks = absurd (idle_or_asks refl asks)
 
 less_free : (a b c d : Bool) → (a ≡ true → c ≡ true) → (b ≡ true → d ≡ true) → (v : ℕ) → free_three a b v ≡ true →
     free_three c d v ≡ true
-less_free a b c d first other zero is = is
 less_free a b c d first other (suc zero) is = first is
 less_free a b c d first other (suc (suc zero)) is = other is
 less_free a b c d first other (suc (suc (suc zero))) is = refl
-less_free a b c d first other (suc (suc (suc (suc n)))) is = is
+less_free a b c d first other _ is = is
 
 -- the get is the reader
 abbrev reads : ℕ → Bool
-reads zero = false
-reads (suc zero) = false
 reads (suc (suc zero)) = true
-reads (suc (suc (suc n))) = false
+reads _ = false
 
 only_get : (Q : ℕ → Type 0) → Q 2 → (v : ℕ) → reads v ≡ true → Q v
-only_get Q q zero is = not_so is
-only_get Q q (suc zero) is = not_so is
 only_get Q q (suc (suc zero)) is = q
-only_get Q q (suc (suc (suc n))) is = not_so is
+only_get Q q _ is = not_so is
 
 get_shown : (x : Phase) → AreShown reads (λ v. Content two) (three x (Asks Get)) (three x (Gets (Content two)))
 get_shown x = record {
@@ -91,11 +81,9 @@ get_shown x = record {
 }
   where
     by : (v : ℕ) → reads v ≡ false → three x (Gets (Content two)) v ≡ three x (Asks Get) v
-    by zero not = refl
-    by (suc zero) not = refl
     by (suc (suc zero)) not = nor_so not
     by (suc (suc (suc zero))) not = refl
-    by (suc (suc (suc (suc n)))) not = refl
+    by _ not = refl
 
 get_told : (x : Phase) (v : ℕ) → reads v ≡ true →
     IsToldReader RecordStep (Comes returning) v (Content two) (three x (Asks Get) v)
@@ -128,11 +116,10 @@ put_shows = record {
 }
   where
     others : (v : ℕ) → v ≢ 1 → reads v ≡ false → hidden_both.lanes v ≡ before.lanes v
-    others zero apart not = refl
     others (suc zero) apart not = absurd (apart refl)
     others (suc (suc zero)) apart not = nor_so not
     others (suc (suc (suc zero))) apart not = refl
-    others (suc (suc (suc (suc n)))) apart not = refl
+    others _ apart not = refl
 
 put_is_hidden : IsHiddenWith RecordStep returning put before hidden_both
 put_is_hidden = record {

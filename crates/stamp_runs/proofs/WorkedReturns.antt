@@ -17,7 +17,7 @@ use Rattle.stamp_runs.specs.Position.{AreShown, Overwrites, OverwritesNever, Pos
 use Rattle.stamp_runs.specs.Position.Hidden.{no_more, overwrites, sees}
 use Rattle.stamp_runs.specs.Returning.{Comes, Effect, IsFixed, IsHiddenWith, IsOpen, IsReached, IsReturn}
 use Rattle.stamp_runs.specs.Returning.{IsSeenTo, IsSettled, IsSource, IsToldReader, MayTakeEffect, OneOf, Return}
-use Rattle.stamp_runs.specs.Returning.{ReturnsAs}
+use Rattle.stamp_runs.specs.Returning.{ReturnsAs, ReturnsBy}
 use Rattle.stamp_runs.specs.Returning.{TakesEffect, AsksSomeCall}
 use Rattle.stamp_runs.specs.Returning.IsReached.{from_old, by_changing, by_overwriting}
 use Rattle.stamp_runs.specs.Returning.IsSeenTo.{is_looked_at}
@@ -65,51 +65,36 @@ sets_first : (x y z : Phase) → Sets (lanes_of x z) (lanes_of y z) 1 y
 sets_first x y z = record { here = refl; others = λ v apart. by v apart }
   where
     by : (v : ℕ) → v ≢ 1 → lanes_of y z v ≡ lanes_of x z v
-    by zero apart = refl
-    by (suc zero) apart = absurd (apart refl)
-    by (suc (suc zero)) apart = refl
     by (suc (suc (suc n))) apart = refl
+    by (suc zero) apart = absurd (apart refl)
+    by _ apart = refl
 
 sets_second : (x y z : Phase) → Sets (lanes_of x y) (lanes_of x z) 2 z
 sets_second x y z = record { here = refl; others = λ v apart. by v apart }
   where
     by : (v : ℕ) → v ≢ 2 → lanes_of x z v ≡ lanes_of x y v
-    by zero apart = refl
-    by (suc zero) apart = refl
     by (suc (suc zero)) apart = absurd (apart refl)
-    by (suc (suc (suc n))) apart = refl
+    by _ apart = refl
 
 -- what is free
 none_free : {X : Type 0} (v : ℕ) → free_of false false v ≡ true → X
-none_free zero is = not_so is
-none_free (suc zero) is = not_so is
 none_free (suc (suc zero)) is = not_so is
-none_free (suc (suc (suc n))) is = not_so is
-
-only_first : (Q : ℕ → Type 0) → Q 1 → (v : ℕ) → free_of true false v ≡ true → Q v
-only_first Q q zero is = not_so is
-only_first Q q (suc zero) is = q
-only_first Q q (suc (suc zero)) is = not_so is
-only_first Q q (suc (suc (suc n))) is = not_so is
+none_free _ is = not_so is
 
 only_second : (Q : ℕ → Type 0) → Q 2 → (v : ℕ) → free_of false true v ≡ true → Q v
-only_second Q q zero is = not_so is
-only_second Q q (suc zero) is = not_so is
 only_second Q q (suc (suc zero)) is = q
-only_second Q q (suc (suc (suc n))) is = not_so is
+only_second Q q _ is = not_so is
 
 both_free : (Q : ℕ → Type 0) → Q 1 → Q 2 → (v : ℕ) → free_of true true v ≡ true → Q v
-both_free Q q r zero is = not_so is
 both_free Q q r (suc zero) is = q
 both_free Q q r (suc (suc zero)) is = r
-both_free Q q r (suc (suc (suc n))) is = not_so is
+both_free Q q r _ is = not_so is
 
 -- an effect in the first two lanes
 each_lane : (Q : ℕ → Type 0) (x y : Phase) {c : Call} → Q 1 → Q 2 → (v : ℕ) → lanes_of x y v ≡ Asks c → Q v
-each_lane Q x y q r zero asks = absurd (idle_or_asks refl asks)
 each_lane Q x y q r (suc zero) asks = q
 each_lane Q x y q r (suc (suc zero)) asks = r
-each_lane Q x y q r (suc (suc (suc n))) asks = absurd (idle_or_asks refl asks)
+each_lane Q x y q r _ asks = absurd (idle_or_asks refl asks)
 
 -- the get is the reader
 get_ends_later : (future : List Event) → Comes put_returning future → EndsBy 2 (Returns 2 (Content two)) future
@@ -127,10 +112,8 @@ get_shown x = record {
 }
   where
     by : (v : ℕ) → free_of false true v ≡ false → lanes_of x (Gets (Content two)) v ≡ lanes_of x (Asks Get) v
-    by zero not = refl
-    by (suc zero) not = refl
     by (suc (suc zero)) not = nor_so not
-    by (suc (suc (suc n))) not = refl
+    by _ not = refl
 
 abbrev GetEnds : (List Event → Type 0) → Type 0
 GetEnds fits = (future : List Event) → fits future → EndsBy 2 (Returns 2 (Content two)) future
@@ -162,10 +145,8 @@ get_settled fits state x free ends = record {
   where
     less : (b : Bool) (v : ℕ) → free_of false true v ≡ false → free_of false b v ≡ true →
         free_of false false v ≡ true
-    less b zero not is = is
-    less b (suc zero) not is = is
     less b (suc (suc zero)) not is = nor_so not
-    less b (suc (suc (suc n))) not is = is
+    less b _ not is = is
 
 -- the put is hidden with it
 put_shows : Shows 1 Done (free_of false true) (λ v. Content two) before.lanes hidden_both.lanes
@@ -176,10 +157,9 @@ put_shows = record {
 }
   where
     others : (v : ℕ) → v ≢ 1 → free_of false true v ≡ false → hidden_both.lanes v ≡ before.lanes v
-    others zero apart not = refl
     others (suc zero) apart not = absurd (apart refl)
     others (suc (suc zero)) apart not = nor_so not
-    others (suc (suc (suc n))) apart not = refl
+    others _ apart not = refl
 
 abbrev pub put : Effect (List ℕ)
 put = record { lane = 1; call = Put two; reply = Done; next = two }
@@ -353,110 +333,101 @@ put_is_fixed : IsFixed 1 before put_fixed
 put_is_fixed = record { state = refl; lanes = refl; free = record { not_it = refl; others = others } }
   where
     others : (v : ℕ) → v ≢ 1 → free_of false true v ≡ free_of true true v
-    others zero apart = refl
     others (suc zero) apart = absurd (apart refl)
     others (suc (suc zero)) apart = refl
-    others (suc (suc (suc n))) apart = refl
+    others _ apart = refl
 
 get_is_fixed : IsFixed 2 before get_fixed
 get_is_fixed = record { state = refl; lanes = refl; free = record { not_it = refl; others = others } }
   where
     others : (v : ℕ) → v ≢ 2 → free_of true false v ≡ free_of true true v
-    others zero apart = refl
-    others (suc zero) apart = refl
     others (suc (suc zero)) apart = absurd (apart refl)
-    others (suc (suc (suc n))) apart = refl
+    others _ apart = refl
+
+-- the one of the two calls returns, in its lane and with its reply
+record ReturnsSo (e : Return) (a b : Bool) (call : Call) (after : List ℕ → Position (List ℕ)) : Type 0 where
+  ends : GetEnds (Comes e)
+  get : (reply : Reply) → MayGet (e.told 2) reply → reply ≡ Content two
+  fixes : IsFixed e.lane before (fixed a b)
+  asks : before.lanes e.lane ≡ Asks call
+  asks_still : (fixed a b).lanes e.lane ≡ Asks call
+  kind : ((reply : Reply) × (t : List ℕ) × Overwrites RecordStep call reply t) ⊎ OverwritesNever RecordStep call
+  awaited : free_of a b e.lane ≡ false
+  hidden_gets : hidden_both.lanes e.lane ≡ Gets e.reply
+  gets : in_effect.lanes e.lane ≡ Gets e.reply
+  returned : (state : List ℕ) →
+      IsReturn e (position state (Gets Done) (Gets (Content two)) false false) (after state)
+
+returns_so : (e : Return) (a b : Bool) (call : Call) (after : List ℕ → Position (List ℕ)) →
+    ReturnsSo e a b call after → ReturnsBy RecordStep e (Contains (before ∷ [])) (Looked a b)
+    (Contains (after one ∷ after two ∷ []))
+returns_so e a b call after is = record {
+  reached = all_reached a b;
+  taken = record {
+    each = λ p there. pick_one (λ (q : Position (List ℕ)). OneOf (Looked a b) (IsFixed e.lane q)) p before there
+        (record { position = fixed a b; there = (0, omega arith, refl); is = is.fixes });
+    asks = λ p there free. pick_one (λ (q : Position (List ℕ)). AsksSomeCall RecordStep (q.lanes e.lane)) p before
+        there (record { call = call; asks = is.asks; kind = is.kind });
+    hidden = λ p x there free source. inl (pick_one (λ (q : Position (List ℕ)). IsSource RecordStep e q x →
+        OneOf (Looked a b) (IsHiddenWith RecordStep e x q)) p before there (source_hidden e a b is.ends x) source);
+  };
+  followed = record {
+    frees = λ p. free_of a b;
+    apart = λ p there. is.awaited;
+    free = λ p there. pick_three (λ (q : Position (List ℕ)). (v : ℕ) → q.free v ≡ true → free_of a b v ≡ true)
+        p (fixed a b) hidden_both in_effect there (λ v is. is) (λ v is. none_free v is) (λ v is. none_free v is);
+    effects = λ p x asked there asks may. pick_three (λ (q : Position (List ℕ)). q.lanes e.lane ≡ Asks asked →
+        MayTakeEffect RecordStep e q x → IsSeenTo RecordStep e (free_of a b) (Looked a b) q x) p (fixed a b)
+        hidden_both in_effect there (λ its come. effects_seen e a b is.ends is.get x come)
+        (λ its. absurd (asks_or_gets its is.hidden_gets)) (λ its. absurd (asks_or_gets its is.gets)) asks may;
+  };
+  left = record {
+    is_open = λ p there. pick_three (λ (q : Position (List ℕ)). IsOpen e.reply (q.lanes e.lane)) p (fixed a b)
+        hidden_both in_effect there (inl (call, is.asks_still)) (inr is.hidden_gets) (inr is.gets);
+    come = λ q there. pick_two (λ (r : Position (List ℕ)). OneOf (Looked a b)
+        (λ (p : Position (List ℕ)). IsReturn e p r)) q (after one) (after two) there
+        (record { position = hidden_both; there = (1, omega arith, refl); is = is.returned one })
+        (record { position = in_effect; there = (2, omega arith, refl); is = is.returned two });
+    stay = λ p there gets. pick_three (λ (q : Position (List ℕ)). q.lanes e.lane ≡ Gets e.reply →
+        OneOf (Contains (after one ∷ after two ∷ [])) (ReturnsAs RecordStep e q)) p (fixed a b) hidden_both in_effect
+        there (λ its. absurd (asks_or_gets is.asks_still its))
+        (λ its. record { position = after one; there = (0, omega arith, refl); is = stays one })
+        (λ its. record { position = after two; there = (1, omega arith, refl); is = stays two }) gets;
+  };
+}
+  where
+    stays : (state : List ℕ) →
+        ReturnsAs RecordStep e (position state (Gets Done) (Gets (Content two)) false false) (after state)
+    stays state = record {
+      then = after state;
+      return = is.returned state;
+      kept = kept_itself RecordStep _ (after state);
+    }
 
 pub put_returns : PutReturns
-put_returns = record {
-  reached = all_reached false true;
-  taken = record {
-    each = λ p there. pick_one (λ (q : Position (List ℕ)). OneOf (Looked false true) (IsFixed 1 q)) p before there
-        (record { position = put_fixed; there = (0, omega arith, refl); is = put_is_fixed });
-    asks = λ p there free. pick_one (λ (q : Position (List ℕ)). AsksSomeCall RecordStep (q.lanes 1)) p before there
-        (record { call = Put two; asks = refl; kind = inl (Done, two, put_overwrites two) });
-    hidden = λ p x there free source. inl (pick_one (λ (q : Position (List ℕ)). IsSource RecordStep put_returning q x →
-        OneOf (Looked false true) (IsHiddenWith RecordStep put_returning x q)) p before there
-        (source_hidden put_returning false true get_ends_later x) source);
-  };
-  followed = record {
-    frees = λ p. free_of false true;
-    apart = λ p there. refl;
-    free = λ p there. pick_three (λ (q : Position (List ℕ)). (v : ℕ) → q.free v ≡ true → free_of false true v ≡ true)
-        p put_fixed hidden_both in_effect there (λ v is. is) (λ v is. none_free v is) (λ v is. none_free v is);
-    effects = λ p x call there asks may. pick_three (λ (q : Position (List ℕ)). q.lanes 1 ≡ Asks call →
-        MayTakeEffect RecordStep put_returning q x → IsSeenTo RecordStep put_returning (free_of false true) (Looked
-        false true) q x) p put_fixed hidden_both in_effect there
-        (λ is come. effects_seen put_returning false true get_ends_later (λ reply same. same) x come)
-        (λ is. absurd (asks_or_gets is refl)) (λ is. absurd (asks_or_gets is refl)) asks may;
-  };
-  left = record {
-    is_open = λ p there. pick_three (λ (q : Position (List ℕ)). IsOpen Done (q.lanes 1)) p put_fixed hidden_both
-        in_effect there (inl (Put two, refl)) (inr refl) (inr refl);
-    come = λ q there. pick_two (λ (r : Position (List ℕ)). OneOf (Looked false true)
-        (λ (p : Position (List ℕ)). IsReturn put_returning p r)) q (after_put one) (after_put two) there
-        (record { position = hidden_both; there = (1, omega arith, refl); is = put_returned one })
-        (record { position = in_effect; there = (2, omega arith, refl); is = put_returned two });
-    stay = λ p there gets. pick_three (λ (q : Position (List ℕ)). q.lanes 1 ≡ Gets Done →
-        OneOf (Contains (after_put one ∷ after_put two ∷ [])) (ReturnsAs RecordStep put_returning q)) p put_fixed
-        hidden_both
-        in_effect there (λ is. absurd (asks_or_gets refl is))
-        (λ is. record { position = after_put one; there = (0, omega arith, refl); is = stays one })
-        (λ is. record { position = after_put two; there = (1, omega arith, refl); is = stays two }) gets;
-  };
-}
-  where
-    stays : (state : List ℕ) → ReturnsAs RecordStep put_returning
-        (position state (Gets Done) (Gets (Content two)) false false) (after_put state)
-    stays state = record {
-      then = after_put state;
-      return = put_returned state;
-      kept = kept_itself RecordStep _ (after_put state);
-    }
+put_returns = returns_so put_returning false true (Put two) after_put (record {
+  ends = get_ends_later;
+  get = λ reply same. same;
+  fixes = put_is_fixed;
+  asks = refl;
+  asks_still = refl;
+  kind = inl (Done, two, put_overwrites two);
+  awaited = refl;
+  hidden_gets = refl;
+  gets = refl;
+  returned = put_returned;
+})
 
 pub get_returns : GetReturns
-get_returns = record {
-  reached = all_reached true false;
-  taken = record {
-    each = λ p there. pick_one (λ (q : Position (List ℕ)). OneOf (Looked true false) (IsFixed 2 q)) p before there
-        (record { position = get_fixed; there = (0, omega arith, refl); is = get_is_fixed });
-    asks = λ p there free. pick_one (λ (q : Position (List ℕ)). AsksSomeCall RecordStep (q.lanes 2)) p before there
-        (record { call = Get; asks = refl; kind = inr get_never });
-    hidden = λ p x there free source. inl (pick_one (λ (q : Position (List ℕ)). IsSource RecordStep get_returning q x →
-        OneOf (Looked true false) (IsHiddenWith RecordStep get_returning x q)) p before there
-        (source_hidden get_returning true false get_ends_now x) source);
-  };
-  followed = record {
-    frees = λ p. free_of true false;
-    apart = λ p there. refl;
-    free = λ p there. pick_three (λ (q : Position (List ℕ)). (v : ℕ) → q.free v ≡ true → free_of true false v ≡ true)
-        p get_fixed hidden_both in_effect there (λ v is. is) (λ v is. none_free v is) (λ v is. none_free v is);
-    effects = λ p x call there asks may. pick_three (λ (q : Position (List ℕ)). q.lanes 2 ≡ Asks call →
-        MayTakeEffect RecordStep get_returning q x → IsSeenTo RecordStep get_returning (free_of true false) (Looked
-        true false) q x) p get_fixed hidden_both in_effect there
-        (λ is come. effects_seen get_returning true false get_ends_now (λ reply same. same) x come)
-        (λ is. absurd (asks_or_gets is refl)) (λ is. absurd (asks_or_gets is refl)) asks may;
-  };
-  left = record {
-    is_open = λ p there. pick_three (λ (q : Position (List ℕ)). IsOpen (Content two) (q.lanes 2)) p get_fixed
-        hidden_both in_effect there (inl (Get, refl)) (inr refl) (inr refl);
-    come = λ q there. pick_two (λ (r : Position (List ℕ)). OneOf (Looked true false)
-        (λ (p : Position (List ℕ)). IsReturn get_returning p r)) q (after_get one) (after_get two) there
-        (record { position = hidden_both; there = (1, omega arith, refl); is = get_returned one })
-        (record { position = in_effect; there = (2, omega arith, refl); is = get_returned two });
-    stay = λ p there gets. pick_three (λ (q : Position (List ℕ)). q.lanes 2 ≡ Gets (Content two) →
-        OneOf (Contains (after_get one ∷ after_get two ∷ [])) (ReturnsAs RecordStep get_returning q)) p get_fixed
-        hidden_both
-        in_effect there (λ is. absurd (asks_or_gets refl is))
-        (λ is. record { position = after_get one; there = (0, omega arith, refl); is = stays one })
-        (λ is. record { position = after_get two; there = (1, omega arith, refl); is = stays two }) gets;
-  };
-}
-  where
-    stays : (state : List ℕ) → ReturnsAs RecordStep get_returning
-        (position state (Gets Done) (Gets (Content two)) false false) (after_get state)
-    stays state = record {
-      then = after_get state;
-      return = get_returned state;
-      kept = kept_itself RecordStep _ (after_get state);
-    }
+get_returns = returns_so get_returning true false Get after_get (record {
+  ends = get_ends_now;
+  get = λ reply same. same;
+  fixes = get_is_fixed;
+  asks = refl;
+  asks_still = refl;
+  kind = inr get_never;
+  awaited = refl;
+  hidden_gets = refl;
+  gets = refl;
+  returned = get_returned;
+})

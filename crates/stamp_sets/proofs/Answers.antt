@@ -27,13 +27,8 @@ told_by (Count n) = small.OfLock (lock.Count n)
 told_by (Content words) = small.Content (slice_index_or words 0 0)
 
 told_back : (reply : SmallReply) → told_by (reply_of reply) ≡ reply
-told_back (small.OfLock (lock.Stamp s)) = refl
 told_back (small.OfLock lock.Yes) = refl
-told_back (small.OfLock lock.No) = refl
-told_back (small.OfLock lock.Done) = refl
-told_back (small.OfLock lock.Mismatch) = refl
-told_back (small.OfLock (lock.Count n)) = refl
-told_back (small.Content number) = refl
+told_back _ = refl
 
 -- other small replies tell others
 pub one_reply : (reply other : SmallReply) → reply_of reply ≡ reply_of other → reply ≡ other
@@ -97,11 +92,3 @@ module _ {S : Type 0} (o : Judged S) (number then : ℕ) (begun : OpenCall) (cal
     stays s next reply holds (stepped s next reply step),
     overwrites,
   )
-
--- a call without a reply has no effect
-pub unanswered : {S : Type 0} (o : Judged S) (number : ℕ) (begun : OpenCall) (call : Call) →
-    call_of begun.asks ≡ call →
-    ((s next : S) (reply : Reply) → o.holds number s → o.step s call reply next → ⊥) →
-    IsEffect o number begun None
-unanswered {S} o number begun call asks none s next reply holds gets step =
-    absurd (none s next reply holds (subst (λ (c : Call). o.step s c reply next) asks step))

@@ -1,39 +1,29 @@
 -- Calls that do the same: releases of read mode by stamps of one version.
 use Rattle.std.proofs.Common.{◌≡◌, ℕ, Bool, true, false, ◌+◌, ◌*◌, ◌≤◌, ◌==◌, Option}
-use Rattle.std.proofs.Common.{[], refl, sym, ◌∙◌, ap, arith, subst, ◌++◌}
+use Rattle.std.proofs.Common.{[], refl, sym, ◌∙◌, ap, arith}
 use Rattle.std.specs.Prelude.{MatchOption, ⊤, Some, None, ◌&&◌, ◌∷◌, nat_lt, if◌then◌else◌}
 use Rattle.std.proofs.lemmas.Bool.Decides.{nat_tests}
+use Rattle.std.proofs.lemmas.Bool.{false_from_ne_true}
 use Rattle.stamp_core.specs.LockEvent.{Counts, counts}
 use Rattle.stamp_core.specs.LockEvent.LockEvent.{ReadReleased, WriteReleased}
 use Rattle.stamp_core.specs.Layout.{units_of, narrow, wide}
 use Rattle.stamp_core.specs.Limits.{Bounds, units}
 use Rattle.stamp_core.specs.Stamp.{is_held_read, is_held_write, is_read_stamp, is_write_stamp}
 use Rattle.stamp_core.specs.Transition.{Transition, row, answer, change}
-use Rattle.stamp_core.specs.History.{Replies, appended_by}
 use Rattle.stamp_core.specs.declared.call.Call.{Call}
 use Rattle.stamp_core.specs.declared.layout.Layout.{Layout}
 use Rattle.stamp_core.specs.declared.layout.Layout.TheVariants.{One, Two}
 use Rattle.stamp_core.specs.declared.reply.Reply.TheVariants.{Done, Mismatch}
 use Rattle.stamp_runs.specs.LockRun.{DoSame}
-use Rattle.stamp_runs.specs.Object.{LockStep}
-use Rattle.stamp_runs.specs.Run.{DoesAs}
 use Rattle.stamp_sets.specs.inner.Alike.{IsReadOf, ReleasesRead}
 use Rattle.stamp_sets.specs.inner.Alike.ReleasesRead.{by_unlock_read, by_unlock}
-
-same_truth : (a b : Bool) → (a ≡ true → b ≡ true) → (b ≡ true → a ≡ true) → a ≡ b
-same_truth true b there back = sym (there refl)
-same_truth false true there back = back refl
-same_truth false false there back = refl
-
-never_true : (b : Bool) → (b ≡ true → ⊥) → b ≡ false
-never_true true none = absurd (none refl)
-never_true false none = refl
+use Rattle.stamp_sets.proofs.Reading.{same_bits}
 
 -- a read stamp is one of this version alone
 read_here : (layout : Layout) (j k s : ℕ) → IsReadOf (units_of layout) k s →
     is_read_stamp (units_of layout) j s ≡ (j == k)
 unfolding units_of
-read_here One j k s is = same_truth (is_read_stamp narrow j s) (j == k) (λ h. grind (arith, nat_tests))
+read_here One j k s is = same_bits (is_read_stamp narrow j s) (j == k) (λ h. grind (arith, nat_tests))
     (λ h. grind (arith, nat_tests))
   where
     some : 1 ≤ is.nth
@@ -44,7 +34,7 @@ read_here One j k s is = same_truth (is_read_stamp narrow j s) (j == k) (λ h. g
 
     number : s ≡ 256 * (k + 1) + is.nth
     number = is.kind.3
-read_here Two j k s is = same_truth (is_read_stamp wide j s) (j == k) (λ h. grind (arith, nat_tests))
+read_here Two j k s is = same_bits (is_read_stamp wide j s) (j == k) (λ h. grind (arith, nat_tests))
     (λ h. grind (arith, nat_tests))
   where
     some : 1 ≤ is.nth
@@ -60,7 +50,7 @@ read_here Two j k s is = same_truth (is_read_stamp wide j s) (j == k) (λ h. gri
 not_write : (layout : Layout) (j k s : ℕ) → IsReadOf (units_of layout) k s →
     is_write_stamp (units_of layout) j s ≡ false
 unfolding units_of
-not_write One j k s is = never_true (is_write_stamp narrow j s)
+not_write One j k s is = false_from_ne_true (is_write_stamp narrow j s)
     (λ h. let at : s ≡ 256 * j + 128 = grind (arith, nat_tests) in omega (arith, at, some, most, number))
   where
     some : 1 ≤ is.nth
@@ -71,7 +61,7 @@ not_write One j k s is = never_true (is_write_stamp narrow j s)
 
     number : s ≡ 256 * (k + 1) + is.nth
     number = is.kind.3
-not_write Two j k s is = never_true (is_write_stamp wide j s)
+not_write Two j k s is = false_from_ne_true (is_write_stamp wide j s)
     (λ h. let at : s ≡ 131072 * j + 65536 = grind (arith, nat_tests) in omega (arith, at, some, most, number))
   where
     some : 1 ≤ is.nth
@@ -118,11 +108,5 @@ some_released layout None s call does is = is
 some_released layout (Some k) s call does is = does k is
 
 -- what does the same gets the same
-pub does_as : (l : Bounds) (call other : Call) → DoSame l call other → DoesAs (LockStep l) call other
-does_as l call other same s t reply step = record {
-  replies = subst (λ (x : Option Transition). Replies x reply) (same s) step.replies;
-  appends = step.appends ∙ ap (λ (x : Option Transition). s ++ appended_by x) (same s);
-}
-
 pub same_back : (l : Bounds) (call other : Call) → DoSame l call other → DoSame l other call
 same_back l call other same s = sym (same s)

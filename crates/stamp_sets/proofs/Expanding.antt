@@ -8,7 +8,6 @@ use Rattle.std.proofs.lemmas.List.Elements.{Contains-push, Contains-push_cases, 
 use Rattle.std.proofs.lemmas.List.Elements.{Contains-get_or}
 use Rattle.std.proofs.lemmas.List.Quantifiers.{all_pairs_push}
 use Rattle.std.proofs.lemmas.Nat.Bits.{bit_at-zero}
-use Rattle.std.proofs.lemmas.Option.{none-some}
 use Rattle.stamp_sets.specs.declared.open_call.OpenCall.{OpenCall}
 use Rattle.stamp_sets.specs.declared.position.Position.{Position}
 use Rattle.stamp_sets.specs.Judged.{Judged}
@@ -69,19 +68,6 @@ module _ {S : Type 0} (o : Judged S) (table : List (Option OpenCall)) (awaited :
       different = λ are. are;
       whole = λ l same. subst (λ (u : ℕ). IsTried o table awaited p u xs) (sym same) is;
     }
-
-    -- it has no open call
-    idle : (lane : ℕ) (xs : List Position) → open_at table lane ≡ None → IsTried o table awaited p lane xs
-    idle lane xs none = record { tried = λ begun is_open free. absurd (none-some begun (sym none ∙ is_open)) }
-
-    pub expands_idle : (lane : ℕ) (xs : List Position) → open_at table lane ≡ None →
-        Expands o table awaited p (λ (l : ℕ). l ≡ lane) xs xs
-    expands_idle lane xs none = left lane xs (idle lane xs none)
-
-    pub expands_taken : (lane : ℕ) (xs : List Position) → bit_at p.in_effect lane ≡ 1 →
-        Expands o table awaited p (λ (l : ℕ). l ≡ lane) xs xs
-    expands_taken lane xs taken =
-        left lane xs (record { tried = λ begun is_open free. absurd (omega (arith, taken, free)) })
 
     pub expands_way : (lane : ℕ) (xs : List Position) (begun : OpenCall) → open_at table lane ≡ Some begun →
         lane ≢ awaited → IsLeftOut o table awaited p.in_effect lane begun → Expands o table awaited p

@@ -22,7 +22,8 @@ use Rattle.stamp_sets.specs.Judged.{judged}
 use Rattle.stamp_sets.specs.SmallCall.{call_of}
 use Rattle.stamp_sets.specs.inner.Effect.{ChangesNothing}
 use Rattle.stamp_sets.specs.Unchanging.{changes_nothing}
-use Rattle.stamp_sets.proofs.DoingSame.{does_as, same_back}
+use Rattle.stamp_runs.proofs.Objects.{does_as}
+use Rattle.stamp_sets.proofs.DoingSame.{same_back}
 use Rattle.stamp_sets.proofs.Unchanging.{unchanging_stays}
 
 -- the record answers no call of the lock

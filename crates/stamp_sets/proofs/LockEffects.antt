@@ -2,10 +2,10 @@
 use Rattle.std.proofs.Common.{ℕ, ◌≡◌, List, ◌++◌, [], Option, Some, refl, sym, ◌∙◌, ap, subst, append-nil}
 use Rattle.stamp_core.specs.LockEvent.{LockEvent}
 use Rattle.stamp_core.specs.Limits.{Bounds}
-use Rattle.stamp_core.specs.Word.{LockWord, Represents, IsAdmitted, word_at}
+use Rattle.stamp_core.specs.Word.{LockWord, Represents, word_at}
 use Rattle.stamp_core.specs.Transition.{Transition, transition}
 use Rattle.stamp_core.specs.History.{Replies, appended_by}
-use Rattle.stamp_core.specs.Decision.{Answers, Changes, HasNone, Decides}
+use Rattle.stamp_core.specs.Decision.{Answers, Changes, Decides}
 use Rattle.stamp_core.specs.LockDecision.{reply_as}
 use Rattle.stamp_core.specs.declared.decision.Decision.{Decision}
 use Rattle.stamp_core.specs.declared.call.Call.{Call}
@@ -14,11 +14,7 @@ use Rattle.stamp_core.specs.declared.reply.Reply.{Reply}
 use Rattle.stamp_runs.specs.Object.{LockStep}
 use Rattle.stamp_sets.specs.declared.small_call.SmallReply.TheVariants.{OfLock}
 use Rattle.stamp_sets.specs.Judged.{lock}
-use Rattle.stamp_sets.specs.inner.State.{IsState}
 use Rattle.stamp_sets.proofs.Answers.{IsAnswered, Stays}
-
-pub admitted : (limits : Bounds) (number : ℕ) → IsState (lock limits) number → IsAdmitted limits (word_at limits number)
-admitted limits number is = record { events = is.state; represented = is.holds }
 
 pub decides_at : (limits : Bounds) (w v : LockWord) (k j : Call) (d : Decision) → w ≡ v → k ≡ j →
     Decides limits w k d → Decides limits v j d
@@ -88,7 +84,3 @@ module _ (limits : Bounds) (word : ℕ) (call : Call) where
         layout = refl;
         spelled = moves.represented.spelled;
       })
-
-  pub waits : HasNone limits (word_at limits word) call → (s next : List LockEvent) (reply : Reply) →
-      Represents limits (word_at limits word) s → LockStep limits s call reply next → ⊥
-  waits none s next reply holds step = subst (λ (x : Option Transition). Replies x reply) (none s holds) step.replies

@@ -1,27 +1,15 @@
 -- The numbers of one's own events among all, as the events go on.
-use Rattle.std.proofs.Common.{◌≡◌, ℕ, ◌+◌, Bool, true, false, List, [], ◌∷◌, ◌++◌, Option, Some, None, length, refl}
+use Rattle.std.proofs.Common.{◌≡◌, ℕ, ◌+◌, Bool, true, false, List, [], ◌∷◌, ◌++◌, length, refl}
 use Rattle.std.proofs.Common.{◌∙◌, ap, arith}
-use Rattle.std.specs.Prelude.{if◌then◌else◌, not, IsSome}
+use Rattle.std.specs.Prelude.{if◌then◌else◌, not}
 use Rattle.std.specs.List.{fold}
-use Rattle.std.proofs.lemmas.Bool.{false≢true}
 use Rattle.stamp_core.specs.declared.call.Call.{Call}
-use Rattle.stamp_runs.specs.Own.{AreInFormFrom, MayCome, is_own, is_own_call, none_open, open_after, open_then}
+use Rattle.stamp_runs.specs.Own.{AreInFormFrom, is_own, none_open, open_after, open_then}
 use Rattle.stamp_runs.specs.Own.{own_events, own_from, own_numbers, own_numbers_from}
 use Rattle.stamp_runs.specs.Pairs.{not_of}
 use Rattle.stamp_runs.specs.declared.event.Event.{Event}
-use Rattle.stamp_runs.specs.declared.event.Event.TheVariants.{Begins, Returns, Withdraws}
+use Rattle.stamp_runs.proofs.Merging.{opposite}
 use Rattle.stamp_runs.proofs.Owning.{Calls}
-
--- of two kinds of calls an event that may come is of one
-other_call : (mine : Call → Bool) (o : Option Call) → IsSome o → is_own_call (not_of mine) o ≡ not (is_own_call mine o)
-other_call mine (Some call) is = refl
-other_call mine None is = absurd (false≢true is)
-
-is_other : (mine : Call → Bool) (calls : Calls) (e : Event) → MayCome calls e →
-    is_own (not_of mine) calls e ≡ not (is_own mine calls e)
-is_other mine calls (Begins lane call) may = refl
-is_other mine calls (Returns lane reply) may = other_call mine (calls lane) may
-is_other mine calls (Withdraws lane) may = other_call mine (calls lane) may
 
 module _ (mine : Call → Bool) where
   numbers_both : (calls : Calls) (n : ℕ) (past future : List Event) → own_numbers_from mine calls n (past ++ future) ≡
@@ -64,7 +52,7 @@ module _ (mine : Call → Bool) where
       length events
   all_from calls n [] form = refl
   all_from calls n (e ∷ events) form = by (is_own mine calls e) (is_own (not_of mine) calls e)
-      (is_other mine calls e form.0) _ _ (all_from (open_then calls e) (n + 1) events form.1)
+      (opposite mine calls e form.0) _ _ (all_from (open_then calls e) (n + 1) events form.1)
     where
       by : (k l : Bool) → l ≡ not k → (xs ys : List ℕ) → length xs + length ys ≡ length events →
           length (if k then n ∷ xs else xs) + length (if l then n ∷ ys else ys) ≡ length (e ∷ events)

@@ -32,12 +32,7 @@ use Rattle.stamp_sets.proofs.Lawful.{IsLawful}
 -- done may be got
 pub may_done : (ends : Ending) → (may_be_done ends ≡ true) ↔ MayGet ends given.Done
 may_done (Returns (small.OfLock lock_reply.Done) place) = ((λ is. refl), (λ is. refl))
-may_done (Returns (small.OfLock (lock_reply.Stamp s)) place) = ((λ is. absurd (false≢true is)), (λ is. cc))
-may_done (Returns (small.OfLock lock_reply.Yes) place) = ((λ is. absurd (false≢true is)), (λ is. cc))
-may_done (Returns (small.OfLock lock_reply.No) place) = ((λ is. absurd (false≢true is)), (λ is. cc))
-may_done (Returns (small.OfLock lock_reply.Mismatch) place) = ((λ is. absurd (false≢true is)), (λ is. cc))
-may_done (Returns (small.OfLock (lock_reply.Count n)) place) = ((λ is. absurd (false≢true is)), (λ is. cc))
-may_done (Returns (small.Content n) place) = ((λ is. absurd (false≢true is)), (λ is. cc))
+may_done (Returns _ place) = ((λ is. absurd (false≢true is)), (λ is. cc))
 may_done Withdraws = ((λ is. absurd (false≢true is)), (λ is. absurd is))
 may_done Never = ((λ is. tt), (λ is. refl))
 
@@ -162,7 +157,5 @@ module _ (number : ℕ) (call : SmallCall) (asks : call ≡ Put number) (ends : 
   put_done so = sym (left (may_be_done ends) ∙ ap (left_by (Put number)) ((may_done ends).1 (is.0 so)))
 
 pub no_put : (call : SmallCall) (may : Bool) → ((n : ℕ) → call ≡ Put n → ⊥) → None ≡ left_by call may
-no_put (OfLock call) may not = refl
-no_put Get may not = refl
 no_put (Put n) may not = absurd (not n refl)
-no_put (PutIf expected number) may not = refl
+no_put _ may not = refl

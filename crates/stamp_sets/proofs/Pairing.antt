@@ -3,7 +3,7 @@ use Rattle.std.proofs.Common.{◌≡◌, ◌≢◌, ◌⊎◌, ◌≤◌, ◌<�
 use Rattle.std.proofs.Common.{◌+◌, length, refl, sym, ◌∙◌, ap, subst, inl, inr, append-nil, arith}
 use Rattle.std.specs.Prelude.{if◌then◌else◌, not, option_map, slice_set, ◌↔◌, IsSome}
 use Rattle.std.specs.Option.{option_or}
-use Rattle.std.proofs.lemmas.Bool.{cases_eq}
+use Rattle.std.proofs.lemmas.Bool.{cases_eq, not-true, cases_Bool}
 use Rattle.std.proofs.lemmas.List.Sums.{fold-append}
 use Rattle.std.proofs.lemmas.Option.{none-some, same_Some}
 use Rattle.stamp_core.specs.Call.{is_lock_call}
@@ -16,7 +16,7 @@ use Rattle.stamp_runs.specs.Own.{open_after, own_events, own_numbers}
 use Rattle.stamp_runs.specs.Run.{AreExplainedFrom, lane_of}
 use Rattle.stamp_runs.specs.declared.event.Event.{Event}
 use Rattle.stamp_runs.specs.declared.event.Event.TheVariants as event
-use Rattle.stamp_runs.proofs.Lanes.{true_cases, true_or_false}
+use Rattle.stamp_runs.proofs.Lanes.{true_or_false}
 use Rattle.stamp_runs.proofs.Laws.{explained_by_own}
 use Rattle.stamp_runs.proofs.OwnEvents.{IsOwnLane, explained_in_form, form_of_both, form_of_rest, own_ends_by}
 use Rattle.stamp_runs.proofs.OwnEvents.{own_ends_never, own_of_both, own_returns_sooner}
@@ -27,8 +27,6 @@ use Rattle.stamp_sets.specs.declared.half.Half.{Half}
 use Rattle.stamp_sets.specs.declared.object.Object.{Object}
 use Rattle.stamp_sets.specs.declared.object.Object.TheVariants.{Lock}
 use Rattle.stamp_sets.specs.declared.open_call.OpenCall.{OpenCall}
-use Rattle.stamp_sets.specs.declared.progress.Progress.{Progress}
-use Rattle.stamp_sets.specs.declared.progress.Progress.TheVariants.{Going, Dead, TooMany, Refused}
 use Rattle.stamp_sets.specs.declared.trace.Trace.{Trace}
 use Rattle.stamp_sets.specs.declared.watch.Watch.{Watch}
 use Rattle.stamp_sets.specs.Half.{IsSameHalf, KeepsRun}
@@ -38,9 +36,9 @@ use Rattle.stamp_sets.specs.SmallCall.{call_of, reply_of}
 use Rattle.stamp_sets.specs.Told.{ComesAsTold, EndsSo, open_at}
 use Rattle.stamp_sets.specs.Watch.{IsCopy, IsHopeless, IsWatching, KeepsOwn, SetsOpen, is_record_call, open_of}
 use Rattle.stamp_sets.specs.Watch.{own_open}
-use Rattle.stamp_sets.specs.Watch.{IsProgress, IsWatched}
+use Rattle.stamp_sets.specs.Watch.{IsWatched}
 use Rattle.stamp_sets.specs.Tracing.{IsTracing, KeepsTrace, TracesOwn}
-use Rattle.stamp_sets.specs.inner.Pair.{GoesOnBy, IsAnswer}
+use Rattle.stamp_sets.specs.inner.Pair.{GoesOnBy}
 use Rattle.stamp_sets.proofs.Halves.{keeps_copied, keeps_later, lane_of_open}
 use Rattle.stamp_sets.proofs.Numbering.{all_numbers, numbers_one}
 use Rattle.stamp_sets.proofs.Tables.{open_at_set_here, open_at_set_none, open_at_set_other}
@@ -70,7 +68,7 @@ module _ (mine : Call → Bool) where
 
   own_open_is : (o : Option Call) (call : Call) → own_open mine o ≡ Some call → IsOwnOpen o call
   own_open_is None call is = absurd (none-some call is)
-  own_open_is (Some other) call is = by (true_cases (mine other))
+  own_open_is (Some other) call is = by (cases_Bool (mine other))
     where
       by : (mine other ≡ true) ⊎ (mine other ≡ false) → IsOwnOpen (Some other) call
       by (inl it) = let same : Some other ≡ Some call = sym (own_open_some other it) ∙ is in record {
@@ -122,10 +120,6 @@ module _ (mine : Call → Bool) where
             (half_own lane b is) so
         ends lane b is Never so = own_ends_never mine lane future calls so
 
-not_true : (k : Bool) → not k ≡ true → k ≡ false
-not_true false is = refl
-not_true true is = sym is
-
 -- the open call of a lane of two halves
 either_open : (x y : Option OpenCall) (b : OpenCall) → option_or x y ≡ Some b →
     (x ≡ Some b) ⊎ ((x ≡ None) × (y ≡ Some b))
@@ -176,7 +170,7 @@ module _ (calls : Calls) (first second : ℕ → Option OpenCall) (own : OpensOw
   second_among : (lane : ℕ) (b : OpenCall) → second lane ≡ Some b → either lane ≡ Some b
   second_among lane b is = let one = half_open is_record_call calls second others lane b is in
       ap (λ (o : Option OpenCall). option_or o (second lane))
-      (not_first lane (asked b) one.is_open (not_true (is_lock_call (asked b)) one.is_mine)) ∙ is
+      (not_first lane (asked b) one.is_open (not-true (is_lock_call (asked b)) one.is_mine)) ∙ is
 
   -- an open call is in the half that it is of
   in_first : (lane : ℕ) (b : OpenCall) → either lane ≡ Some b → is_lock_call (asked b) ≡ true → first lane ≡ Some b
@@ -184,7 +178,7 @@ module _ (calls : Calls) (first second : ℕ → Option OpenCall) (own : OpensOw
     where
       by : (first lane ≡ Some b) ⊎ ((first lane ≡ None) × (second lane ≡ Some b)) → first lane ≡ Some b
       by (inl here) = here
-      by (inr there) = absurd (true_or_false lock (not_true (is_lock_call (asked b))
+      by (inr there) = absurd (true_or_false lock (not-true (is_lock_call (asked b))
           (half_open is_record_call calls second others lane b there.1).is_mine))
 
   in_second : (lane : ℕ) (b : OpenCall) → either lane ≡ Some b → is_lock_call (asked b) ≡ false → second lane ≡ Some b
@@ -347,7 +341,7 @@ module _ (watch : Watch) (watched : IsWatched watch) where
         (open_at watch.record.table.items) watched.watching.lock.opens watched.watching.record.opens lane b is_open
 
     pub lane_within : lane < 64
-    lane_within = by (true_cases (is_lock_call (asked b)))
+    lane_within = by (cases_Bool (is_lock_call (asked b)))
       where
         by : (is_lock_call (asked b) ≡ true) ⊎ (is_lock_call (asked b) ≡ false) → lane < 64
         by (inl lock) = lane_of_open lock_some.past lock_some.last watch.lock lock_some.keeps lane b (in_lock lock)
@@ -561,11 +555,3 @@ sets_none half new lane put = record {
   others = λ v apart. ap (λ (t : List (Option OpenCall)). open_at t v) put ∙
       open_at_set_other half.table.items lane v None apart;
 }
-
--- what the answer to an event that was taken means
-pub answered : (past : List Event) (e : Event) (most : ℕ) (old new : Watch) (progress : Progress) →
-    IsAnswer new progress → IsWatching (past ++ e ∷ []) new → IsProgress past e most old new progress
-answered past e most old new Going answer is = (is, answer (past ++ e ∷ []) is)
-answered past e most old new Dead answer is = (is, answer (past ++ e ∷ []) is)
-answered past e most old new TooMany answer is = absurd answer
-answered past e most old new Refused answer is = absurd answer

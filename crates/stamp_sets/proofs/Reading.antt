@@ -2,7 +2,7 @@
 use Rattle.std.proofs.Common.{ℕ, ◌≡◌, ◌≢◌, ◌⊎◌, ◌==◌, ◌↔◌, Bool, false, true, List, Option, Some, None, refl, sym}
 use Rattle.std.proofs.Common.{◌∙◌, subst, inl, inr, arith, eqb-true}
 use Rattle.std.specs.Int.{bit_at}
-use Rattle.std.proofs.lemmas.Bool.{cases_eq}
+use Rattle.std.proofs.lemmas.Bool.{cases_eq, false_from_ne_true}
 use Rattle.std.proofs.lemmas.Nat.Bits.{bit_at-lt}
 use Rattle.stamp_core.specs.declared.call.Call.{Call}
 use Rattle.stamp_core.specs.declared.reply.Reply.{Reply}
@@ -35,13 +35,14 @@ set_bit lanes lane = (
   λ is. subst (λ (b : ℕ). (b == 1) ≡ true) (sym is) refl,
 )
 
--- a bit that is not true is false
-pub false_from : (b : Bool) → (b ≡ true → ⊥) → b ≡ false
-false_from true not = absurd (not refl)
-false_from false not = refl
+pub same_bits : (a b : Bool) → (a ≡ true → b ≡ true) → (b ≡ true → a ≡ true) → a ≡ b
+same_bits true true one other = refl
+same_bits true false one other = sym (one refl)
+same_bits false true one other = other refl
+same_bits false false one other = refl
 
 pub not_set : (lanes lane : ℕ) → bit_at lanes lane ≡ 0 → is_set lanes lane ≡ false
-not_set lanes lane unset = false_from (is_set lanes lane)
+not_set lanes lane unset = false_from_ne_true (is_set lanes lane)
     (λ is. let one = (set_bit lanes lane).0 is in omega (arith, one, unset))
 
 pub bit_unset : (lanes lane : ℕ) → bit_at lanes lane ≢ 1 → bit_at lanes lane ≡ 0
@@ -124,7 +125,7 @@ free_call_as o a b m n slots bits is = subst (λ (k : ℕ). IsFreeCall o b k) bi
     (subst (λ (x : Option OpenCall). IsFreeCall o x m) slots is)
 
 module _ {S : Type 0} (o : Judged S) (table : List (Option OpenCall)) where
-  module _ (p : Position) (q : run.Position S) (reads : Reads o table p q) where
+  module _ {p : Position} {q : run.Position S} (reads : Reads o table p q) where
     module _ (lane : ℕ) (begun : OpenCall) (is_open : open_at table lane ≡ Some begun) where
       pub phase_at : HasPhase (Some begun) (bit_at p.in_effect lane) (q.lanes lane)
       phase_at = subst (λ (x : Option OpenCall). HasPhase x (bit_at p.in_effect lane) (q.lanes lane)) is_open
@@ -182,14 +183,14 @@ module _ {S : Type 0} (o : Judged S) (table : List (Option OpenCall)) where
 
   pub unfree_at : (p : Position) (q : run.Position S) (lane : ℕ) → Reads o table p q → bit_at p.free lane ≢ 1 →
       q.free lane ≡ false
-  unfree_at p q lane reads not = false_from (q.free lane) (λ is. not ((reads.free lane).0 is))
+  unfree_at p q lane reads not = false_from_ne_true (q.free lane) (λ is. not ((reads.free lane).0 is))
 
   -- the lane's call in effect
-  module _ (lane : ℕ) (p r : Position) (q : run.Position S) (takes : Takes o table lane p r)
-      (reads : Reads o table p q) (reply : Reply) (next : S) (may : MayGet takes.begun.ends reply)
+  module _ {lane : ℕ} {p r : Position} {q : run.Position S} (takes : Takes o table lane p r)
+      (reads : Reads o table p q) {reply : Reply} {next : S} (may : MayGet takes.begun.ends reply)
       (step : o.step q.state (call_of takes.begun.asks) reply next) where
     asks : q.lanes lane ≡ Asks (call_of takes.begun.asks)
-    asks = asks_at p q reads lane takes.begun takes.is_open takes.free
+    asks = asks_at reads lane takes.begun takes.is_open takes.free
 
     pub reads_taken : ((u : ℕ) → bit_at r.free u ≡ 1 → IsFreeCall o (open_at table u) (bit_at r.in_effect u)) →
         Reads o table r (moved q lane (Gets reply) next r.free)
@@ -219,13 +220,13 @@ module _ {S : Type 0} (o : Judged S) (table : List (Option OpenCall)) where
     -- these calls are free then
     module _ (lawful : IsLawful o) (awaited : ℕ) (frees : AreFree o table awaited p lane (o.overwrites takes.begun)
         r.free) where
-      record FreeThen : Type 0 where
-        kinds : (u : ℕ) → bit_at r.free u ≡ 1 → IsFreeCall o (open_at table u) (bit_at r.in_effect u)
-        comes : (x : run.Position S) → ComesTo o.step x q → ComesTo o.step x (moved q lane (Gets reply) next r.free)
-        no_less : FreesNoLess q.free (is_set r.free) lane
-        all : Overwrites o.step (call_of takes.begun.asks) reply next → (v : ℕ) → v ≢ lane →
+      pub record FreeThen : Type 0 where
+        pub kinds : (u : ℕ) → bit_at r.free u ≡ 1 → IsFreeCall o (open_at table u) (bit_at r.in_effect u)
+        pub comes : (x : run.Position S) → ComesTo o.step x q → ComesTo o.step x (moved q lane (Gets reply) next r.free)
+        pub no_less : FreesNoLess q.free (is_set r.free) lane
+        pub all : Overwrites o.step (call_of takes.begun.asks) reply next → (v : ℕ) → v ≢ lane →
             IsFreed o table awaited p.in_effect v → is_set r.free v ≡ true
-        not_awaited : bit_at p.free awaited ≡ 0 → bit_at r.free awaited ≡ 0
+        pub not_awaited : bit_at p.free awaited ≡ 0 → bit_at r.free awaited ≡ 0
 
       free_then : (found : Option ℕ) → o.overwrites takes.begun ≡ found → AreFree o table awaited p lane found r.free →
           FreeThen
@@ -267,22 +268,5 @@ module _ {S : Type 0} (o : Judged S) (table : List (Option OpenCall)) where
           unfreed (inl freed) unset = freed.apart refl
           unfreed (inr is) unset = omega (arith, is, unset)
 
-      then : FreeThen
-      then = free_then (o.overwrites takes.begun) refl frees
-
-      pub kinds_then : (u : ℕ) → bit_at r.free u ≡ 1 → IsFreeCall o (open_at table u) (bit_at r.in_effect u)
-      kinds_then = then.kinds
-
-      pub comes_then : (x : run.Position S) → ComesTo o.step x q →
-          ComesTo o.step x (moved q lane (Gets reply) next r.free)
-      comes_then = then.comes
-
-      pub no_less_then : FreesNoLess q.free (is_set r.free) lane
-      no_less_then = then.no_less
-
-      pub all_then : Overwrites o.step (call_of takes.begun.asks) reply next → (v : ℕ) → v ≢ lane →
-          IsFreed o table awaited p.in_effect v → is_set r.free v ≡ true
-      all_then = then.all
-
-      pub unawaited_then : bit_at p.free awaited ≡ 0 → bit_at r.free awaited ≡ 0
-      unawaited_then = then.not_awaited
+      pub come_free : FreeThen
+      come_free = free_then (o.overwrites takes.begun) refl frees

@@ -12,14 +12,14 @@ use Rattle.stamp_sets.specs.declared.order.EffectAt.{EffectAt}
 use Rattle.stamp_sets.specs.declared.order.Walk.{Walk}
 use Rattle.stamp_sets.specs.declared.position.Position.{Position}
 use Rattle.stamp_sets.specs.declared.trail.Entry.{Entry}
-use Rattle.stamp_sets.specs.declared.trail.Entry.TheVariants.{Begins, Comes, Returns, Withdraws}
+use Rattle.stamp_sets.specs.declared.trail.Entry.TheVariants.{Begins, Comes, Returns}
 use Rattle.stamp_sets.specs.declared.trail.Link.{Link}
 use Rattle.stamp_sets.specs.Tracing.{IsReturnedFrom}
 use Rattle.stamp_sets.specs.Order.{effect_at}
 use Rattle.stamp_sets.specs.inner.Order.{WalksTo, at_point, lanes_at, turns_of}
 use Rattle.stamp_sets.specs.Lanes.{SetsBit}
 use Rattle.stamp_sets.specs.declared.trail.Way.{Way}
-use Rattle.stamp_sets.specs.declared.trail.Way.TheVariants.{Fixes, Takes, Frees, Hides}
+use Rattle.stamp_sets.specs.declared.trail.Way.TheVariants.{Takes, Frees, Hides}
 use Rattle.stamp_sets.specs.Tracing.{IsSaidBy, Says, events_in, is_reader, lane_in, moves_by, read_at}
 use Rattle.stamp_sets.specs.Tracing.{readers_from, readers_of}
 use Rattle.stamp_sets.specs.declared.open_call.OpenCall.{OpenCall}
@@ -27,10 +27,10 @@ use Rattle.stamp_sets.specs.Judged.{Judged}
 use Rattle.stamp_sets.specs.inner.Order.{IsOrderOf}
 use Rattle.stamp_sets.specs.Tracing.{IsTracedBy}
 use Rattle.std.proofs.Common.{Option, length, get_or}
+use Rattle.std.proofs.lemmas.Nat.Bits.{same_from_bits}
 use Rattle.stamp_runs.specs.Position.Hidden.{no_more}
 use Rattle.stamp_runs.specs.declared.event.Event.{Event}
 use Rattle.stamp_runs.proofs.Tracing.{trace_leads}
-use Rattle.stamp_sets.proofs.Trailed.{same_number}
 
 -- the last element before a place is the first one of those read back
 pub last_first : {X : Type 0} (xs : List X) (place : ℕ) (d : X) → 0 < place → place ≤ length xs →
@@ -95,14 +95,6 @@ module _ (link : Link) (point : ℕ) where
       full) ∙
       sym (reverse-append (at_point point link.lane ∷ []) (map (at_point point) (readers_from link 0 64))))
 
-pub lanes_more : (point : ℕ) (xs ys zs calls : List EffectAt) (call : EffectAt) → xs ≡ ys ++ lanes_at point calls →
-    zs ≡ xs ++ at_point point call.lane ∷ [] → zs ≡ ys ++ lanes_at point (calls ++ call ∷ [])
-lanes_more point xs ys zs calls call so_far pushed = pushed ∙
-    ap (λ (es : List EffectAt). es ++ at_point point call.lane ∷ []) so_far ∙
-    append_assoc ys (lanes_at point calls) (at_point point call.lane ∷ []) ∙
-    ap (λ (es : List EffectAt). ys ++ es)
-    (sym (map-append (λ (x : EffectAt). at_point point x.lane) calls (call ∷ [])))
-
 pub map_reverse : {A B : Type 0} (f : A → B) (xs : List A) → map f (reverse xs) ≡ reverse (map f xs)
 map_reverse f [] = refl
 map_reverse f (x ∷ xs) = ap (map f) (reverse-append (x ∷ []) xs) ∙ map-append f (reverse xs) (x ∷ []) ∙
@@ -145,28 +137,6 @@ module _ (older : List Entry) (order : List EffectAt) (walk : Walk) (lane : ℕ)
   before : events_in older ≡ point
   before = let at = walks.events in omega (arith, at, less)
 
-  pub back_waiting : bit_at walk.position.in_effect lane ≢ 1 → WalksTo older order (record {
-    position = walk.position;
-    point = point;
-    pending = walk.pending;
-    out = walk.out;
-  })
-  back_waiting waits = record {
-    events = before;
-    moves = walks.moves;
-    hidden = walks.hidden;
-    says = by walks.says.1;
-    pending = walks.pending;
-    out = walks.out;
-  }
-    where
-      by : ((bit_at walk.position.in_effect lane ≢ 1) × Says older walk.position walks.moves) ⊎ ((y : Position) ×
-          (rest : List Move) × (reply : Reply) × IsReturnedFrom lane walk.position y ×
-          (walks.moves ≡ taking (taken_at (events_in older + 1) (lane, reply)) ∷ rest) × Says older y rest) →
-          Says older walk.position walks.moves
-      by (inl is) = is.1
-      by (inr took) = absurd (waits took.3.taken)
-
   -- it took effect at once
   pub back_taken : (next : Walk) → bit_at walk.position.in_effect lane ≡ 1 →
       next.position.state ≡ walk.position.state →
@@ -194,7 +164,7 @@ module _ (older : List Entry) (order : List EffectAt) (walk : Walk) (lane : ℕ)
       }
         where
           numbers : y.in_effect ≡ next.position.in_effect
-          numbers = same_number y.in_effect next.position.in_effect (λ v. bits v (cases_eq v lane))
+          numbers = same_from_bits y.in_effect next.position.in_effect (λ v. bits v (cases_eq v lane))
             where
               bits : (v : ℕ) → (v ≡ lane) ⊎ (v ≢ lane) → bit_at y.in_effect v ≡ bit_at next.position.in_effect v
               bits v (inl here) = subst (λ (w : ℕ). bit_at y.in_effect w ≡ bit_at next.position.in_effect w) (sym here)
@@ -229,7 +199,7 @@ back_returned older order walk next lane walks state sets free less pend out = r
     from = walks.says.2
 
     numbers : y.in_effect ≡ next.position.in_effect
-    numbers = same_number y.in_effect next.position.in_effect (λ v. bits v (cases_eq v lane))
+    numbers = same_from_bits y.in_effect next.position.in_effect (λ v. bits v (cases_eq v lane))
       where
         bits : (v : ℕ) → (v ≡ lane) ⊎ (v ≢ lane) → bit_at y.in_effect v ≡ bit_at next.position.in_effect v
         bits v (inl here) = subst (λ (w : ℕ). bit_at y.in_effect w ≡ bit_at next.position.in_effect w) (sym here)
@@ -274,18 +244,6 @@ module _ (older : List Entry) (order : List EffectAt) (walk next : Walk) (link :
 
   then_says : Says older next.position is_said.rest
   then_says = subst (λ (z : Position). Says older z is_said.rest) (sym position) is_said.says
-
-  pub back_fixed : link.way ≡ Fixes → next.pending ≡ walk.pending → next.out ≡ walk.out → WalksTo older order next
-  back_fixed way pend out = record {
-    events = walks.events ∙ sym point;
-    moves = is_said.rest;
-    hidden = walks.hidden;
-    says = then_says;
-    pending = ap (λ xs. map (λ (x : EffectAt). x.lane) xs.items) pend ∙ walks.pending;
-    out = walks.out ∙ ap (λ (moves : List Move). map effect_at (order_from walks.hidden moves) ++
-        reverse walk.out.items) (are_by Fixes way) ∙
-        ap (λ xs. map effect_at (order_from walks.hidden is_said.rest) ++ reverse xs.items) (sym out);
-  }
 
   pub back_took : link.way ≡ Takes → next.pending ≡ walk.pending →
       next.out.items ≡ walk.out.items ++ reverse (turns_of walk.point link) → WalksTo older order next
@@ -379,19 +337,6 @@ module _ (older : List Entry) (order : List EffectAt) (walk next : Walk) (link :
           sym (reverse-reverse (turns_of walk.point link))) ∙
           ap (λ (es : List EffectAt). es ++ reverse (reverse (turns_of walk.point link))) (sym back) ∙
           sym (reverse-append (reverse (turns_of walk.point link)) (lanes_at walk.point walk.pending.items))
-
--- back over a withdrawal
-pub back_withdrawn : (older : List Entry) (order : List EffectAt) (walk next : Walk) →
-    WalksTo (Withdraws ∷ older) order walk → next.point ≡ walk.point - 1 → next.position ≡ walk.position →
-    next.pending ≡ walk.pending → next.out ≡ walk.out → WalksTo older order next
-back_withdrawn older order walk next walks less position pend out = record {
-  events = let at = walks.events in omega (arith, at, less);
-  moves = walks.moves;
-  hidden = walks.hidden;
-  says = subst (λ (z : Position). Says older z walks.moves) (sym position) walks.says;
-  pending = ap (λ xs. map (λ (x : EffectAt). x.lane) xs.items) pend ∙ walks.pending;
-  out = walks.out ∙ ap (λ xs. map effect_at (order_from walks.hidden walks.moves) ++ reverse xs.items) (sym out);
-}
 
 -- the order of what is traced
 pub traced_order : {S : Type 0} (o : Judged S) (past : List Event) (table : List (Option OpenCall))

@@ -3,6 +3,7 @@ use Rattle.std.proofs.Common.{ℕ, ◌≡◌, ◌≢◌, ◌⊎◌, List, [], �
 use Rattle.std.proofs.Common.{refl, sym, ◌∙◌, ap, inl, inr}
 use Rattle.std.specs.Prelude.{slice_index_or, if◌then◌else◌}
 use Rattle.std.specs.Cmp.Lexicographic.{bytes_decides, same_text}
+use Rattle.std.proofs.lemmas.Bool.{cases_Bool}
 use Rattle.stamp_core.specs.Content.{content_next, same_words}
 use Rattle.stamp_core.specs.declared.call.Call.{Call}
 use Rattle.stamp_core.specs.declared.call.Call.TheVariants.{Get, Put, PutIf}
@@ -10,7 +11,6 @@ use Rattle.stamp_core.specs.declared.lock_decision.LockReply.TheVariants as lock
 use Rattle.stamp_core.specs.declared.reply.Reply.{Reply}
 use Rattle.stamp_core.specs.declared.reply.Reply.TheVariants.{Yes, No, Content}
 use Rattle.stamp_runs.specs.Object.{RecordStep}
-use Rattle.stamp_runs.proofs.Lanes.{true_cases}
 use Rattle.stamp_sets.specs.declared.small_call.SmallReply.TheVariants as small
 use Rattle.stamp_sets.specs.Judged.{guarded}
 use Rattle.stamp_sets.proofs.Answers.{IsAnswered, Stays}
@@ -69,7 +69,7 @@ module _ (number : ℕ) where
   -- it is another one
   module _ (expected next : ℕ) (apart : expected ≢ number) where
     no : (s : List ℕ) → s ≡ number ∷ [] → same_words s (expected ∷ []) ≡ false
-    no s holds = by (true_cases (same_words s (expected ∷ [])))
+    no s holds = by (cases_Bool (same_words s (expected ∷ [])))
       where
         by : (same_words s (expected ∷ []) ≡ true) ⊎ (same_words s (expected ∷ []) ≡ false) →
             same_words s (expected ∷ []) ≡ false

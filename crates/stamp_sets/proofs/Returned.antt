@@ -4,7 +4,7 @@ use Rattle.std.proofs.Common.{Some, None, refl, sym, ◌∙◌, ap, subst, inl, 
 use Rattle.std.specs.Prelude.{slice_set}
 use Rattle.std.specs.Int.{bit_at}
 use Rattle.std.specs.List.{All, Contains}
-use Rattle.std.proofs.lemmas.Bool.{cases_eq}
+use Rattle.std.proofs.lemmas.Bool.{cases_eq, false_from_ne_true}
 use Rattle.std.proofs.lemmas.Option.{none-some, same_Some}
 use Rattle.std.proofs.lemmas.List.{length-set}
 use Rattle.std.proofs.lemmas.List.Elements.{All-contains}
@@ -13,10 +13,10 @@ use Rattle.stamp_core.specs.declared.reply.Reply.{Reply}
 use Rattle.stamp_runs.specs.Object.{Object}
 use Rattle.stamp_runs.specs.Run.{AreAlike, Leads, Phase, ReturnsSooner, all_idle}
 use Rattle.stamp_runs.specs.Run.Phase.{Asks, Gets, Idle}
-use Rattle.stamp_runs.specs.Watching.{Fits, FitsOne, GoesOn, OneSurvives, StandFor, Told}
+use Rattle.stamp_runs.specs.Watching.{Fits, FitsOne, StandFor, Told}
 use Rattle.stamp_runs.specs.Watching.Told.{Never as NeverEnds, Nothing, Returning, Withdrawing}
 use Rattle.stamp_runs.specs.Watching as watched
-use Rattle.stamp_runs.specs.Position.{OfSome, Overwrites, OverwritesNever, StandsFor}
+use Rattle.stamp_runs.specs.Position.{OfSome, Overwrites, OverwritesNever}
 use Rattle.stamp_runs.specs.Position as run
 use Rattle.stamp_runs.specs.Position.Hidden.{no_more}
 use Rattle.stamp_runs.specs.Returning as returning
@@ -30,6 +30,7 @@ use Rattle.stamp_runs.specs.declared.event.Event.{Event}
 use Rattle.stamp_runs.specs.declared.event.Event.TheVariants as event
 use Rattle.stamp_runs.proofs.Lanes.{leads_on, one_call, pick, picks_first, picks_second, set_of, sets_of}
 use Rattle.stamp_runs.proofs.Lanes.{true_or_false}
+use Rattle.stamp_runs.proofs.Keeping.{kept_itself, kept_settled}
 use Rattle.stamp_runs.proofs.Reaching.{reached_came}
 use Rattle.stamp_runs.proofs.Returning.{go_on_by_return}
 use Rattle.stamp_runs.proofs.Sets.{stand_on}
@@ -59,12 +60,11 @@ use Rattle.stamp_sets.proofs.Going.{first_of, rank_of}
 use Rattle.stamp_sets.proofs.Lawful.{IsLawful, free_kind, free_reader, kind_of, not_overwriting, over_as}
 use Rattle.stamp_sets.proofs.Lawful.{overwriting_to}
 use Rattle.stamp_sets.proofs.Layering.{all_from}
-use Rattle.stamp_sets.proofs.Reading.{AsksIn, all_then, asked_at, asks_at, bit_unset, cleared, comes_then, false_from}
-use Rattle.stamp_sets.proofs.Reading.{gets_at, is_set, kinds_beside, kinds_then, moved, no_less_then, not_set}
-use Rattle.stamp_sets.proofs.Reading.{phase_at, reached_on, reads_set, reads_taken, set_bit, taken_at, unawaited_then}
-use Rattle.stamp_sets.proofs.Reading.{unfree_at}
+use Rattle.stamp_sets.proofs.Reading.{AsksIn, FreeThen, asked_at, asks_at, bit_unset, cleared, come_free}
+use Rattle.stamp_sets.proofs.Reading.{gets_at, is_set, kinds_beside, moved, not_set, phase_at, reached_on, reads_set}
+use Rattle.stamp_sets.proofs.Reading.{reads_taken, same_bits, set_bit, taken_at, unfree_at}
 use Rattle.stamp_sets.proofs.Reading.ComesTo.{stays}
-use Rattle.stamp_sets.proofs.Settled.{SettledTo, is_settled, kept_asking, kept_itself, kept_settled, settled_to}
+use Rattle.stamp_sets.proofs.Settled.{SettledTo, is_settled, kept_asking, settled_to}
 use Rattle.stamp_sets.proofs.Tables.{one_open, open_at_set_none, open_at_within}
 use Rattle.stamp_sets.proofs.Telling.{beside_set, told_returns}
 use Rattle.stamp_sets.proofs.Unseen.{hidden, hidden_reached, hidden_reads, hidden_with, reader_answered}
@@ -81,9 +81,8 @@ told_in (Some begun) = told_as begun.ends
 
 fits_ending : (v : ℕ) (ends : Ending) (future : List Event) →
     EndsSo v ends future → FitsOne v (told_as ends) future
-fits_ending v (Returns reply place) future is = is
-fits_ending v Withdraws future is = is
 fits_ending v Never future is = is
+fits_ending v _ future is = is
 
 fits_in : (v : ℕ) (slot : Option OpenCall) (future : List Event) →
     ((b : OpenCall) → slot ≡ Some b → EndsSo v b.ends future) → FitsOne v (told_in slot) future
@@ -155,14 +154,8 @@ module _ {S : Type 0} (o : Judged S) (past : List Event) (table : List (Option O
 abbrev pub fixed_as : {S : Type 0} → run.Position S → Position → run.Position S
 fixed_as p y = record { state = p.state; lanes = p.lanes; free = is_set y.free }
 
-pub same_bits : (a b : Bool) → (a ≡ true → b ≡ true) → (b ≡ true → a ≡ true) → a ≡ b
-same_bits true true one other = refl
-same_bits true false one other = sym (one refl)
-same_bits false true one other = other refl
-same_bits false false one other = refl
-
 module _ {S : Type 0} (o : Judged S) (table : List (Option OpenCall)) (lane : ℕ) where
-  module _ (x y : Position) (p : run.Position S) (reads : Reads o table x p) (is : IsFixed lane x y) where
+  module _ {x y : Position} {p : run.Position S} (reads : Reads o table x p) (is : IsFixed lane x y) where
     pub fixed_free : (v : ℕ) → bit_at y.free v ≡ 1 → bit_at x.free v ≡ 1
     fixed_free v free = (cleared x.free y.free lane v is.clears free).1
 
@@ -212,6 +205,23 @@ module _ {S : Type 0} (o : Judged S) (table : List (Option OpenCall)) (lane : �
   taken_unfree y q reads taken = bit_unset y.free lane
       (λ is. let waits = (reads.kinds lane is).waits in omega (arith, taken, waits))
 
+  -- the lane's call is left out where it returned
+  pub read_returned : {x d : Position} {p : run.Position S} → Reads o table x p → bit_at x.free lane ≡ 0 →
+      IsReturnedFrom lane x d → Reads o (slice_set table lane None) d (moved p lane Idle p.state d.free)
+  read_returned {x} {d} {p} reads unset returned = reads_set o table (slice_set table lane None) x d p lane Idle p.state
+      reads (beside_set table lane None) returned.clears.others
+      (subst (λ (slot : Option OpenCall). HasPhase slot (bit_at d.in_effect lane) Idle)
+      (sym (open_at_set_none table lane)) refl) (subst (λ (n : ℕ). o.holds n p.state) (sym returned.state) reads.state)
+      (λ u is. kinds_beside o table (slice_set table lane None) x d p lane reads (beside_set table lane None)
+      returned.clears.others u (apart u is, was u is))
+    where
+      was : (u : ℕ) → bit_at d.free u ≡ 1 → bit_at x.free u ≡ 1
+      was u is = subst (λ (n : ℕ). bit_at n u ≡ 1) returned.free is
+
+      apart : (u : ℕ) → bit_at d.free u ≡ 1 → u ≢ lane
+      apart u is at = let one : bit_at x.free lane ≡ 1 = subst (λ (v : ℕ). bit_at x.free v ≡ 1) at (was u is) in
+          omega (arith, one, unset)
+
   -- in the first layer the lane's call is not free
   pub first_unfree : (start first : List Position) → StartsWith o table lane start first → (y : Position)
       (q : run.Position S) → Contains first y → Reads o table y q → bit_at y.free lane ≡ 0
@@ -238,28 +248,23 @@ module _ {S : Type 0} (o : Judged S) (lawful : IsLawful o) (table : List (Option
     position = to.then;
     reads = to.reads;
     reached = reached_on first to.then (reached_on from.position first from.reached
-        (comes_then o table follows.lane p follows.after.between from.position follows.after.takes from.reads
-        effect.reply effect.next effect.may effect.step lawful lane follows.after.frees from.position stays)) to.comes;
+        (freed.comes from.position stays)) to.comes;
     not_free = unfree_settled o table (λ l. Unit {0}) follows.after.between q lane follows.after.settles
-        (unawaited_then o table follows.lane p follows.after.between from.position follows.after.takes from.reads
-        effect.reply effect.next effect.may effect.step lawful lane follows.after.frees from.not_free);
+        (freed.not_awaited from.not_free);
   }
     where
       effect : TakesEffectTo o follows.after.takes.begun from.position.state follows.after.between.state
       effect = follows.after.takes.effect.some from.position.state from.reads.state
+
+      freed : FreeThen o table follows.after.takes from.reads effect.may effect.step lawful lane follows.after.frees
+      freed = come_free o table follows.after.takes from.reads effect.may effect.step lawful lane follows.after.frees
 
       first : run.Position S
       first = moved from.position follows.lane (Gets effect.reply) effect.next follows.after.between.free
 
       to : SettledTo o table (λ l. Unit {0}) q first
       to = settled_to o table (λ l. Unit {0}) follows.after.between q first follows.after.settles
-          (reads_taken o table follows.lane p follows.after.between from.position follows.after.takes from.reads
-          effect.reply effect.next effect.may effect.step (kinds_then o table follows.lane p follows.after.between
-          from.position follows.after.takes from.reads effect.reply effect.next effect.may effect.step lawful lane
-          follows.after.frees))
-
-  old_reached : (q : run.Position S) → Old q → IsReached o.step Old q
-  old_reached q old = from_old q q old refl no_more (λ v free. free)
+          (reads_taken o table follows.after.takes from.reads effect.may effect.step freed.kinds)
 
   taken_read : (x y : Position) → IsPossible o past table x → Contains start x → IsTakenFrom o table lane x y →
       ReadsReached y
@@ -271,20 +276,18 @@ module _ {S : Type 0} (o : Judged S) (lawful : IsLawful o) (table : List (Option
       by : IsTakenFrom o table lane x y → ReadsReached y
       by (inl fixed) = record {
         position = fixed_as is.position y;
-        reads = fixed_reads o table lane x y is.position is.reads fixed;
-        reached = fixed_reached o table lane x y is.position is.reads fixed Old old;
+        reads = fixed_reads o table lane is.reads fixed;
+        reached = fixed_reached o table lane is.reads fixed Old old;
         not_free = fixed.clears.here;
       }
-      by (inr (source, hides)) = let reads = hidden_reads o lawful table x y is.position is.reads source hides.number
-          hides.begun hides.is_open hides.overwrites hides.free hides.hidden in record {
-            position = hidden o lawful table x y is.position is.reads source hides.number hides.begun hides.is_open
-                hides.overwrites hides.free hides.hidden;
+      by (inr (source, hides)) = let reads = hidden_reads o lawful table is.reads hides.is_open hides.overwrites
+          hides.free hides.hidden in record {
+            position = hidden o lawful table is.reads hides.is_open hides.overwrites hides.free hides.hidden;
             reads = reads;
-            reached = hidden_reached o lawful table x y is.position is.reads source hides.number hides.begun
-                hides.is_open hides.overwrites hides.free hides.hidden Old old;
-            not_free = taken_unfree o table lane y (hidden o lawful table x y is.position is.reads source hides.number
-                hides.begun hides.is_open hides.overwrites hides.free hides.hidden) reads
-                (hides_taken o table lane source x y hides);
+            reached = hidden_reached o lawful table is.reads hides.is_open hides.overwrites hides.free hides.hidden Old
+                old;
+            not_free = taken_unfree o table lane y (hidden o lawful table is.reads hides.is_open hides.overwrites
+                hides.free hides.hidden) reads (hides_taken o table lane source x y hides);
           }
 
   pub reads_come : All (IsPossible o past table) start → (first : List Position) → StartsWith o table lane start first →
@@ -312,9 +315,7 @@ alike_over O call other reply t alike over = record {
 -- the phase is that of an open call that asks, and may be free
 abbrev pub free_if : {S : Type 0} → Judged S → Option OpenCall → Phase → Bool
 free_if o (Some begun) (Asks call) = may_be_free o begun
-free_if o (Some begun) Idle = false
-free_if o (Some begun) (Gets reply) = false
-free_if o None phase = false
+free_if o _ _ = false
 
 record FreeIf {S : Type 0} (o : Judged S) (slot : Option OpenCall) (phase : Phase) : Type 0 where
   begun : OpenCall
@@ -327,9 +328,7 @@ free_if_so : {S : Type 0} (o : Judged S) (slot : Option OpenCall) (phase : Phase
     FreeIf o slot phase
 free_if_so o (Some begun) (Asks call) is =
     record { begun = begun; call = call; is_open = refl; asks = refl; kind = is }
-free_if_so o (Some begun) Idle is = absurd (true_or_false is refl)
-free_if_so o (Some begun) (Gets reply) is = absurd (true_or_false is refl)
-free_if_so o None phase is = absurd (true_or_false is refl)
+free_if_so o _ _ is = absurd (true_or_false is refl)
 
 so_free_if : {S : Type 0} (o : Judged S) (slot : Option OpenCall) (phase : Phase) → FreeIf o slot phase →
     free_if o slot phase ≡ true
@@ -418,7 +417,7 @@ module _ {S : Type 0} (o : Judged S) (lawful : IsLawful o) (table : List (Option
         is = record {
           begun = it.begun;
           is_open = it.is_open;
-          waits = (asked_at o table there.is.numbers p there.is.reads v it.call it.asks).free;
+          waits = (asked_at o table there.is.reads v it.call it.asks).free;
           kind = it.kind;
         };
         apart = apart;
@@ -443,7 +442,7 @@ module _ {S : Type 0} (o : Judged S) (lawful : IsLawful o) (table : List (Option
             begun = it.begun;
             call = call_of it.begun.asks;
             is_open = it.is_open;
-            asks = asks_at o table there.is.numbers p there.is.reads v it.begun it.is_open it.waits;
+            asks = asks_at o table there.is.reads v it.begun it.is_open it.waits;
             kind = it.kind;
           })
         where
@@ -458,29 +457,22 @@ module _ {S : Type 0} (o : Judged S) (lawful : IsLawful o) (table : List (Option
         position = to.then;
         there = record {
           is = record { numbers = comes.position; among = comes.among; reads = to.reads };
-          reached = reached_on moved_to to.then (reached_on p moved_to there.reached
-              (comes_then o table y.lane there.is.numbers comes.after.between p comes.after.takes there.is.reads y.reply
-              y.next may_it step_it lawful lane comes.after.frees p stays)) to.comes;
+          reached = reached_on moved_to to.then (reached_on p moved_to there.reached (freed.comes p stays)) to.comes;
           not_free = unfree_settled o table (λ l. Unit {0}) comes.after.between comes.position lane comes.after.settles
-              (unawaited_then o table y.lane there.is.numbers comes.after.between p comes.after.takes there.is.reads
-              y.reply y.next may_it step_it lawful lane comes.after.frees there.not_free);
+              (freed.not_awaited there.not_free);
         };
         is = record {
           then = moved_to;
           effect = record {
             state = refl;
             sets = sets_of p.lanes y.lane (Gets y.reply);
-            free = no_less_then o table y.lane there.is.numbers comes.after.between p comes.after.takes there.is.reads
-                y.reply y.next may_it step_it lawful lane comes.after.frees;
-            frees_all = λ over v apart freed. all_then o table y.lane there.is.numbers comes.after.between p
-                comes.after.takes there.is.reads y.reply y.next may_it step_it lawful lane comes.after.frees
-                (subst (λ (c : OpenCall). Overwrites o.step (call_of c.asks) y.reply y.next) one
-                (subst (λ (c : Call). Overwrites o.step c y.reply y.next) (sym its) over)) v apart
-                (freed_from p there v freed);
+            free = freed.no_less;
+            frees_all = λ over v apart is_free. freed.all (subst (λ (c : OpenCall). Overwrites o.step (call_of c.asks)
+                y.reply y.next) one (subst (λ (c : Call). Overwrites o.step c y.reply y.next) (sym its) over)) v apart
+                (freed_from p there v is_free);
           };
-          kept = kept_settled o (Comes e) moved_to to.then (is_settled o table (Comes e)
-              (λ future comes_so v c open_v. (now future comes_so).ends v c open_v) (λ l. Unit {0}) comes.position
-              moved_to to);
+          kept = kept_settled o.step (is_settled o table (Comes e) (λ future comes_so v c open_v. (now future
+              comes_so).ends v c open_v) (λ l. Unit {0}) comes.position moved_to to);
         };
       }
         where
@@ -493,15 +485,15 @@ module _ {S : Type 0} (o : Judged S) (lawful : IsLawful o) (table : List (Option
           step_it : o.step p.state (call_of comes.after.takes.begun.asks) y.reply y.next
           step_it = subst (λ (c : OpenCall). o.step p.state (call_of c.asks) y.reply y.next) one step
 
+          freed : FreeThen o table comes.after.takes there.is.reads may_it step_it lawful lane comes.after.frees
+          freed = come_free o table comes.after.takes there.is.reads may_it step_it lawful lane comes.after.frees
+
           moved_to : run.Position S
           moved_to = moved p y.lane (Gets y.reply) y.next comes.after.between.free
 
           to : SettledTo o table (λ l. Unit {0}) comes.position moved_to
           to = settled_to o table (λ l. Unit {0}) comes.after.between comes.position moved_to comes.after.settles
-              (reads_taken o table y.lane there.is.numbers comes.after.between p comes.after.takes there.is.reads
-              y.reply
-              y.next may_it step_it (kinds_then o table y.lane there.is.numbers comes.after.between p comes.after.takes
-              there.is.reads y.reply y.next may_it step_it lawful lane comes.after.frees))
+              (reads_taken o table comes.after.takes there.is.reads may_it step_it freed.kinds)
 
       none_looked_at : (p : run.Position S) (there : Looked p) (y : Effect S) (b : OpenCall) →
           open_at table y.lane ≡ Some b → call_of b.asks ≡ y.call → MayGet b.ends y.reply →
@@ -551,7 +543,7 @@ module _ {S : Type 0} (o : Judged S) (lawful : IsLawful o) (table : List (Option
       expanded_at p there asked asks = by (each there.is.numbers there.is.among)
         where
           by : IsLookedAt o table lane there.is.numbers done seen → IsExpanded o table lane there.is.numbers seen
-          by (inl to) = let free = (asked_at o table there.is.numbers p there.is.reads lane asked asks).free in
+          by (inl to) = let free = (asked_at o table there.is.reads lane asked asks).free in
               let taken = to.returned.taken in absurd (omega (arith, free, taken))
           by (inr is) = is
 
@@ -624,7 +616,7 @@ module _ {S : Type 0} (o : Judged S) (lawful : IsLawful o) (table : List (Option
           only v c r t asks_c step_c may_c = by (none.each v at.begun at.is_open at.free)
             where
               at : AsksIn (open_at table v) (bit_at there.is.numbers.in_effect v) c
-              at = asked_at o table there.is.numbers p there.is.reads v c asks_c
+              at = asked_at o table there.is.reads v c asks_c
 
               may : MayGet at.begun.ends r
               may = may_as_told at.begun.ends r
@@ -655,7 +647,7 @@ module _ {S : Type 0} (o : Judged S) (lawful : IsLawful o) (table : List (Option
       effects p x asked there asks may = by one.goes
         where
           it : AsksIn (open_at table x.lane) (bit_at there.is.numbers.in_effect x.lane) x.call
-          it = asked_at o table there.is.numbers p there.is.reads x.lane x.call may.asks
+          it = asked_at o table there.is.reads x.lane x.call may.asks
 
           may_it : MayGet it.begun.ends x.reply
           may_it = may_as_told it.begun.ends x.reply
@@ -710,7 +702,7 @@ module _ {S : Type 0} (o : Judged S) (lawful : IsLawful o) (table : List (Option
 
               unfreed : (found : Option ℕ) → o.overwrites it.begun ≡ found →
                   (frees p one.ahead ≡ false) ⊎ (Overwrites o.step x.call x.reply x.next × (frees p x.lane ≡ true))
-              unfreed None none = inl (false_from (frees p one.ahead) (λ is. not_both none is))
+              unfreed None none = inl (false_from_ne_true (frees p one.ahead) (λ is. not_both none is))
               unfreed (Some n) some = let over = overwriting_to o lawful it.begun n some in inr (
                 subst (λ (c : Call). Overwrites o.step c x.reply x.next) it.same (over_as o.step (call_of it.begun.asks)
                     over.reply x.reply p.state over.next x.next over.overwrites step_it),
@@ -738,7 +730,7 @@ module _ {S : Type 0} (o : Judged S) (lawful : IsLawful o) (table : List (Option
                 other = call_of one.first.asks;
                 instead = record {
                   apart = before_apart o table one.ahead x.lane one.first it.begun one.is_first it.is_open before;
-                  asks = asks_at o table there.is.numbers p there.is.reads one.ahead one.first one.is_first one.among;
+                  asks = asks_at o table there.is.reads one.ahead one.first one.is_first one.among;
                   alike = alike;
                   first = λ future comes_so. before_first o table one.ahead x.lane last one.first it.begun x.reply
                       future
@@ -766,33 +758,28 @@ module _ {S : Type 0} (o : Judged S) (lawful : IsLawful o) (table : List (Option
             subst (λ (c : OpenCall). may_be_free o c ≡ true) (one_open table u it.begun b it.is_open is) it.kind
 
         free_waits : (u : ℕ) (b : OpenCall) → open_at table u ≡ Some b → IsFreeIn u → p.lanes u ≡ Asks (call_of b.asks)
-        free_waits u b is free = asks_at o table old.is.numbers p old.is.reads u b is (old.is.reads.kinds u free).waits
+        free_waits u b is free = asks_at o table old.is.reads u b is (old.is.reads.kinds u free).waits
 
         hidden_from : (u : ℕ) (b : OpenCall) (n : ℕ) → open_at table u ≡ Some b → o.overwrites b ≡ Some n → IsFreeIn u →
             HidesAmong o table u n old.is.numbers first → (z : Effect S) → u ≡ z.lane →
             Overwrites o.step (call_of b.asks) z.reply z.next → OneOf Looked (IsHiddenWith o.step e z p)
         hidden_from u b n is some free hides z same_lane over = record {
-          position = hidden o lawful table old.is.numbers hides.position p old.is.reads u n b is some free hides.hidden;
+          position = hidden o lawful table old.is.reads is some free hides.hidden;
           there = record {
             is = record {
               numbers = hides.position;
               among = includes hides.position hides.among;
-              reads = hidden_reads o lawful table old.is.numbers hides.position p old.is.reads u n b is some free
-                  hides.hidden;
+              reads = hidden_reads o lawful table old.is.reads is some free hides.hidden;
             };
-            reached = hidden_reached o lawful table old.is.numbers hides.position p old.is.reads u n b is some free
-                hides.hidden OldOnes old;
+            reached = hidden_reached o lawful table old.is.reads is some free hides.hidden OldOnes old;
             not_free = first_unfree o table lane start first starts hides.position
-                (hidden o lawful table old.is.numbers hides.position p old.is.reads u n b is some free hides.hidden)
-                hides.among (hidden_reads o lawful table old.is.numbers hides.position p old.is.reads u n b is some free
-                hides.hidden);
+                (hidden o lawful table old.is.reads is some free hides.hidden)
+                hides.among (hidden_reads o lawful table old.is.reads is some free hides.hidden);
           };
-          is = hidden_with o lawful table old.is.numbers hides.position p old.is.reads u n b is some free hides.hidden e
-              (λ v c r opens may. may_as_told c.ends r
-              (subst (λ (slot : Option OpenCall). watched.MayGet (told_in slot) r) opens may))
-              (λ future comes v c opens. (now future comes).ends v c opens) z same_lane
-              (over.answer p.state its.next its.reply (its.overwrites.may p.state))
-              (over.leaves p.state its.next its.reply (its.overwrites.may p.state));
+          is = hidden_with o lawful table old.is.reads is some free hides.hidden e (λ v c r opens may. may_as_told
+              c.ends r (subst (λ (slot : Option OpenCall). watched.MayGet (told_in slot) r) opens may)) (λ future comes
+              v c opens. (now future comes).ends v c opens) z same_lane (over.answer p.state its.next its.reply
+              (its.overwrites.may p.state)) (over.leaves p.state its.next its.reply (its.overwrites.may p.state));
         }
           where
             its : IsOverwriting o b n
@@ -882,10 +869,9 @@ module _ {S : Type 0} (o : Judged S) (lawful : IsLawful o) (table : List (Option
               left_it = over.leaves p.state its.next its.reply (its.overwrites.may p.state)
 
               answered : bit_at vain.hidden.then.in_effect lane ≡ 1
-              answered = reader_answered o lawful table old.is.numbers vain.position p old.is.reads u n b is some free
-                  vain.hidden lane begun reply (apart_from u b n is some) awaited_free is_open awaited_reads
-                  (subst (λ (x : Ending). MayGet x reply) (sym ends) same)
-                  (subst (λ (v : S). o.step v (call_of begun.asks) reply v) (sym left_it) step)
+              answered = reader_answered o lawful table old.is.reads is some free vain.hidden lane begun reply
+                  (apart_from u b n is some) awaited_free is_open awaited_reads (subst (λ (x : Ending). MayGet x reply)
+                  (sym ends) same) (subst (λ (v : S). o.step v (call_of begun.asks) reply v) (sym left_it) step)
 
               taken : bit_at vain.position.in_effect lane ≡ 1
               taken = subst (λ (k : ℕ). bit_at k lane ≡ 1) (sym vain.hidden.in_effect) answered
@@ -1005,12 +991,12 @@ module _ {S : Type 0} (o : Judged S) (lawful : IsLawful o) (table : List (Option
             is = record {
               numbers = takes.fixed;
               among = includes takes.fixed takes.among;
-              reads = fixed_reads o table lane old.is.numbers takes.fixed p old.is.reads takes.is;
+              reads = fixed_reads o table lane old.is.reads takes.is;
             };
-            reached = fixed_reached o table lane old.is.numbers takes.fixed p old.is.reads takes.is OldOnes old;
+            reached = fixed_reached o table lane old.is.reads takes.is OldOnes old;
             not_free = takes.is.clears.here;
           };
-          is = fixed_is o table lane old.is.numbers takes.fixed p old.is.reads takes.is;
+          is = fixed_is o table lane old.is.reads takes.is;
         }
           where
             takes : IsTakenUp o table lane old.is.numbers first
@@ -1049,38 +1035,20 @@ module _ {S : Type 0} (o : Judged S) (lawful : IsLawful o) (table : List (Option
         };
       }
 
-      read_returned : (x d : Position) (p : run.Position S) → Reads o table x p → bit_at x.free lane ≡ 0 →
-          IsReturnedFrom lane x d → Reads o later d (moved p lane Idle p.state d.free)
-      read_returned x d p reads unset returned = reads_set o table later x d p lane Idle p.state reads
-          (beside_set table lane None) returned.clears.others
-          (subst (λ (slot : Option OpenCall). HasPhase slot (bit_at d.in_effect lane) Idle)
-          (sym (open_at_set_none table lane)) refl)
-          (subst (λ (n : ℕ). o.holds n p.state) (sym returned.state) reads.state)
-          (λ u is. kinds_beside o table later x d p lane reads (beside_set table lane None) returned.clears.others u
-          (apart u is, was u is))
-        where
-          was : (u : ℕ) → bit_at d.free u ≡ 1 → bit_at x.free u ≡ 1
-          was u is = subst (λ (n : ℕ). bit_at n u ≡ 1) returned.free is
-
-          apart : (u : ℕ) → bit_at d.free u ≡ 1 → u ≢ lane
-          apart u is at = let one : bit_at x.free lane ≡ 1 = subst (λ (v : ℕ). bit_at x.free v ≡ 1) at (was u is) in
-              omega (arith, one, unset)
-
       new_at : (p : run.Position S) (there : Looked p) (d : Position) → Contains done d →
           IsReturnedFrom lane there.is.numbers d → p.lanes lane ≡ Gets reply → New (moved p lane Idle p.state d.free)
       new_at p there d among returned gets = record {
         is = record {
           numbers = d;
           among = among;
-          reads = read_returned there.is.numbers d p there.is.reads there.not_free returned;
+          reads = read_returned o table lane there.is.reads there.not_free returned;
         };
         from = record { position = p; there = there; is = return_at p there d returned gets };
       }
 
       left : AreLeft o.step e Looked New
       left = record {
-        is_open = λ p there. open_phase p there
-            (phase_at o table there.is.numbers p there.is.reads lane begun is_open);
+        is_open = λ p there. open_phase p there (phase_at o table there.is.reads lane begun is_open);
         come = λ q new. new.from;
         stay = λ p there gets. stay p there gets (each there.is.numbers there.is.among);
       }
@@ -1100,11 +1068,11 @@ module _ {S : Type 0} (o : Judged S) (lawful : IsLawful o) (table : List (Option
                 is = record {
                   then = moved p lane Idle p.state to.position.free;
                   return = return_at p there to.position to.returned gets;
-                  kept = kept_itself o e.then_fits (moved p lane Idle p.state to.position.free);
+                  kept = kept_itself o.step e.then_fits (moved p lane Idle p.state to.position.free);
                 };
               }
           stay p there gets (inr is) =
-              let taken = taken_at o table there.is.numbers p there.is.reads lane begun is_open reply gets in
+              let taken = taken_at o table there.is.reads lane begun is_open reply gets in
               let free = is.free in absurd (omega (arith, taken, free))
 
       returns_by : ReturnsBy o.step e OldOnes Looked New
@@ -1151,7 +1119,7 @@ module _ {S : Type 0} (o : Judged S) (lawful : IsLawful o) (table : List (Option
               IsPossible o (past ++ event.Returns lane reply ∷ []) later d
           at d one among = record {
             position = moved from.position lane Idle from.position.state d.free;
-            reads = read_returned one.from d from.position from.reads from.not_free one.returned;
+            reads = read_returned o table lane from.reads from.not_free one.returned;
             may_be = new_may_be o (past ++ event.Returns lane reply ∷ []) later done New
                 (ComesAsTold (open_at later) place)
                 (goes_on stand) (λ q is. is.is) (moved from.position lane Idle from.position.state d.free) new;
@@ -1161,7 +1129,7 @@ module _ {S : Type 0} (o : Judged S) (lawful : IsLawful o) (table : List (Option
               from = reads_come o lawful table past start lane possible first starts one.from (come one.from one.among)
 
               gets : InEffect begun (bit_at one.from.in_effect lane) (from.position.lanes lane)
-              gets = gets_at o table one.from from.position from.reads lane begun is_open one.returned.taken
+              gets = gets_at o table from.reads lane begun is_open one.returned.taken
 
               there : Looked from.position
               there = record {

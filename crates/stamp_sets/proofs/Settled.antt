@@ -10,13 +10,14 @@ use Rattle.stamp_runs.specs.Run.{EndsNever, Lanes, Phase, Sets}
 use Rattle.stamp_runs.specs.Run.Phase.{Asks, Gets}
 use Rattle.stamp_runs.specs.Position.{OverwritesNever}
 use Rattle.stamp_runs.specs.Position as run
-use Rattle.stamp_runs.specs.Returning.{IsKeptAs, IsSettled, IsToldReader, IsUndone}
+use Rattle.stamp_runs.specs.Returning.{IsKeptAs, IsSettled, IsToldReader}
 use Rattle.stamp_runs.specs.declared.event.Event.{Event}
 use Rattle.stamp_runs.proofs.Lanes.{asks_or_gets, one_call, pick, picks_first, picks_second}
 use Rattle.stamp_runs.proofs.Lanes.{sets_of, true_or_false}
 use Rattle.stamp_sets.specs.declared.ending.Ending.{Ending}
 use Rattle.stamp_sets.specs.declared.open_call.OpenCall.{OpenCall}
 use Rattle.stamp_sets.specs.declared.position.Position.{Position}
+use Rattle.stamp_runs.proofs.Keeping.{settled_itself}
 use Rattle.stamp_sets.specs.Judged.{Judged}
 use Rattle.stamp_sets.specs.Kept.{Reads}
 use Rattle.stamp_sets.specs.Told.{EndsSo, MayGet, open_at}
@@ -27,40 +28,7 @@ use Rattle.stamp_sets.proofs.Reading.{ComesTo, asks_at, cleared, comes_changed, 
 use Rattle.stamp_sets.proofs.Reading.{set_bit}
 use Rattle.stamp_sets.proofs.Reading.ComesTo.{stays}
 
--- a position kept as itself
 module _ {S : Type 0} (o : Judged S) (fits : List Event → Type 0) where
-  settled_none : (p : run.Position S) → IsSettled o.step fits p p
-  settled_none p = record {
-    readers = λ v. false;
-    told = λ v. Done;
-    state = refl;
-    shown = record { read = λ v is. absurd (true_or_false is refl); others = λ v not. refl };
-    free = λ v not free. free;
-    each = λ v is. absurd (true_or_false is refl);
-    apart = λ v is. absurd (true_or_false is refl);
-  }
-
-  undone_none : (p : run.Position S) → IsUndone fits p p
-  undone_none p = record {
-    endless = λ v. false;
-    state = refl;
-    asking = record { in_effect = λ v is. absurd (true_or_false is refl); others = λ v not. refl };
-    free = λ v not free. free;
-    never = λ v is. absurd (true_or_false is refl);
-  }
-
-  pub kept_settled : (p q : run.Position S) → IsSettled o.step fits p q → IsKeptAs o.step fits p q
-  kept_settled p q settled = record {
-    between = q;
-    then = q;
-    settled = settled;
-    undone = undone_none q;
-    covers = λ s lanes stands. stands;
-  }
-
-  pub kept_itself : (p : run.Position S) → IsKeptAs o.step fits p p
-  kept_itself p = kept_settled p p (settled_none p)
-
   -- a call that changes nothing and never ends may ask again
   pub kept_asking : (p q : run.Position S) (lane : ℕ) (reply : Reply) → p.state ≡ q.state →
       Sets q.lanes p.lanes lane (Gets reply) → ((v : ℕ) → v ≢ lane → p.free v ≡ true → q.free v ≡ true) →
@@ -68,7 +36,7 @@ module _ {S : Type 0} (o : Judged S) (fits : List Event → Type 0) where
   kept_asking p q lane reply same sets fewer never = record {
     between = p;
     then = q;
-    settled = settled_none p;
+    settled = settled_itself o.step fits p;
     undone = record {
       endless = only;
       state = same;
@@ -128,16 +96,14 @@ module _ {S : Type 0} (o : Judged S) (table : List (Option OpenCall)) where
       SettledTo Lane x first → SettledTo Lane y first
   one_settles Lane x y first last before = record {
     then = after;
-    reads = reads_taken o table last.lane x y before.then last.takes before.reads effect.reply effect.next effect.may
-        effect.step (kinds_cleared o table last.lane x y before.then last.takes before.reads effect.reply effect.next
-        effect.may effect.step last.clears);
+    reads = reads_taken o table last.takes before.reads effect.may effect.step (kinds_cleared o table last.takes
+        before.reads effect.may effect.step last.clears);
     state = before.state ∙ sym still;
     fewer = λ v is. before.fewer v ((before.reads.free v).1
         (cleared x.free y.free last.lane v last.clears ((set_bit y.free v).0 is)).1);
     stay = λ v same is. stays_free v same is (cases_eq v last.lane);
     lanes = λ v. at v (cases_eq v last.lane);
-    comes = comes_changed o table last.lane x y before.then last.takes before.reads effect.reply effect.next effect.may
-        effect.step last.clears first before.comes;
+    comes = comes_changed o table last.takes before.reads effect.may effect.step last.clears first before.comes;
     sees = sees_more before.then.lanes after.lanes last.lane (call_of last.takes.begun.asks) effect.reply before.sees
         last.among asks (subst (λ (t : S). o.step t (call_of last.takes.begun.asks) effect.reply t) (sym before.state)
         (subst (λ (t : S). o.step before.then.state (call_of last.takes.begun.asks) effect.reply t) still effect.step))
@@ -161,7 +127,7 @@ module _ {S : Type 0} (o : Judged S) (table : List (Option OpenCall)) where
       still = last.unchanging.unchanging before.then.state effect.next step
 
       asks : before.then.lanes last.lane ≡ Asks (call_of last.takes.begun.asks)
-      asks = asks_at o table x before.then before.reads last.lane last.takes.begun last.takes.is_open last.takes.free
+      asks = asks_at o table before.reads last.lane last.takes.begun last.takes.is_open last.takes.free
 
       asked_first : IsSettledAt last.lane (first.lanes last.lane) (before.then.lanes last.lane) →
           first.lanes last.lane ≡ Asks (call_of last.takes.begun.asks)
@@ -206,47 +172,47 @@ module _ {S : Type 0} (o : Judged S) (table : List (Option OpenCall)) where
   settled_to Lane p q first (one_more x y rest last) reads =
       one_settles Lane x y first last (settled_to Lane p x first rest reads)
 
-  abbrev pub is_reader : (v : ℕ) (before after : Phase) → IsSettledAt v before after → Bool
-  is_reader v before after (inl same) = false
-  is_reader v before after (inr reader) = true
+  abbrev pub is_reader : {v : ℕ} {before after : Phase} → IsSettledAt v before after → Bool
+  is_reader (inl same) = false
+  is_reader (inr reader) = true
 
-  abbrev pub told_of : (v : ℕ) (before after : Phase) → IsSettledAt v before after → Reply
-  told_of v before after (inl same) = Done
-  told_of v before after (inr reader) = reply_of reader.unchanging.told
+  abbrev pub told_of : {v : ℕ} {before after : Phase} → IsSettledAt v before after → Reply
+  told_of (inl same) = Done
+  told_of (inr reader) = reply_of reader.unchanging.told
 
-  pub reader_reads : (v : ℕ) (before after : Phase) (at : IsSettledAt v before after) →
-      is_reader v before after at ≡ true → after ≡ Gets (told_of v before after at)
-  reader_reads v before after (inl same) is = absurd (true_or_false is refl)
-  reader_reads v before after (inr reader) is = reader.gets
+  pub reader_reads : {v : ℕ} {before after : Phase} (at : IsSettledAt v before after) →
+      is_reader at ≡ true → after ≡ Gets (told_of at)
+  reader_reads (inl same) is = absurd (true_or_false is refl)
+  reader_reads (inr reader) is = reader.gets
 
-  pub other_stays : (v : ℕ) (before after : Phase) (at : IsSettledAt v before after) →
-      is_reader v before after at ≡ false → after ≡ before
-  other_stays v before after (inl same) not = same
-  other_stays v before after (inr reader) not = absurd (true_or_false refl not)
+  pub other_stays : {v : ℕ} {before after : Phase} (at : IsSettledAt v before after) →
+      is_reader at ≡ false → after ≡ before
+  other_stays (inl same) not = same
+  other_stays (inr reader) not = absurd (true_or_false refl not)
 
   -- what is in effect only after it took effect
-  pub reader_if : (v : ℕ) (before after : Phase) (at : IsSettledAt v before after) (call : Call) (reply : Reply) →
-      before ≡ Asks call → after ≡ Gets reply → is_reader v before after at ≡ true
-  reader_if v before after (inl same) call reply asks gets = absurd (asks_or_gets (same ∙ asks) gets)
-  reader_if v before after (inr reader) call reply asks gets = refl
+  pub reader_if : {v : ℕ} {before after : Phase} (at : IsSettledAt v before after) (call : Call) (reply : Reply) →
+      before ≡ Asks call → after ≡ Gets reply → is_reader at ≡ true
+  reader_if (inl same) call reply asks gets = absurd (asks_or_gets (same ∙ asks) gets)
+  reader_if (inr reader) call reply asks gets = refl
 
-  pub gets_still : (v : ℕ) (before after : Phase) (at : IsSettledAt v before after) (reply : Reply) →
+  pub gets_still : {v : ℕ} {before after : Phase} (at : IsSettledAt v before after) (reply : Reply) →
       before ≡ Gets reply → after ≡ Gets reply
-  gets_still v before after (inl same) reply gets = same ∙ gets
-  gets_still v before after (inr reader) reply gets = absurd (asks_or_gets reader.asks gets)
+  gets_still (inl same) reply gets = same ∙ gets
+  gets_still (inr reader) reply gets = absurd (asks_or_gets reader.asks gets)
 
-  pub reader_apart : (v : ℕ) (before after : Phase) (at : IsSettledAt v before after) →
-      is_reader v before after at ≡ true → (call : Call) → before ≡ Asks call → OverwritesNever o.step call
-  reader_apart v before after (inl same) is call asks = absurd (true_or_false is refl)
-  reader_apart v before after (inr reader) is call asks = subst (λ (c : Call). OverwritesNever o.step c)
+  pub reader_apart : {v : ℕ} {before after : Phase} (at : IsSettledAt v before after) →
+      is_reader at ≡ true → (call : Call) → before ≡ Asks call → OverwritesNever o.step call
+  reader_apart (inl same) is call asks = absurd (true_or_false is refl)
+  reader_apart (inr reader) is call asks = subst (λ (c : Call). OverwritesNever o.step c)
       (one_call reader.asks asks) reader.unchanging.never
 
   module _ (fits : List Event → Type 0) (ends : (future : List Event) → fits future → (v : ℕ) (b : OpenCall) →
       open_at table v ≡ Some b → EndsSo v b.ends future) where
-    pub reader_told : (v : ℕ) (before after : Phase) (at : IsSettledAt v before after) →
-        is_reader v before after at ≡ true → IsToldReader o.step fits v (told_of v before after at) before
-    reader_told v before after (inl same) is = absurd (true_or_false is refl)
-    reader_told v before after (inr reader) is = record {
+    pub reader_told : {v : ℕ} {before after : Phase} (at : IsSettledAt v before after) →
+        is_reader at ≡ true → IsToldReader o.step fits v (told_of at) before
+    reader_told (inl same) is = absurd (true_or_false is refl)
+    reader_told {v} (inr reader) is = record {
       call = call_of reader.begun.asks;
       asks = reader.asks;
       still = reader.unchanging.unchanging;
@@ -257,14 +223,14 @@ module _ {S : Type 0} (o : Judged S) (table : List (Option OpenCall)) where
     pub is_settled : (Lane : ℕ → Type 0) (q : Position) (first : run.Position S) (to : SettledTo Lane q first) →
         IsSettled o.step fits first to.then
     is_settled Lane q first to = record {
-      readers = λ v. is_reader v (first.lanes v) (to.then.lanes v) (to.lanes v);
-      told = λ v. told_of v (first.lanes v) (to.then.lanes v) (to.lanes v);
+      readers = λ v. is_reader (to.lanes v);
+      told = λ v. told_of (to.lanes v);
       state = to.state;
       shown = record {
-        read = λ v is. reader_reads v (first.lanes v) (to.then.lanes v) (to.lanes v) is;
-        others = λ v not. other_stays v (first.lanes v) (to.then.lanes v) (to.lanes v) not;
+        read = λ v is. reader_reads (to.lanes v) is;
+        others = λ v not. other_stays (to.lanes v) not;
       };
-      free = λ v not free. to.stay v (other_stays v (first.lanes v) (to.then.lanes v) (to.lanes v) not) free;
-      each = λ v is. reader_told v (first.lanes v) (to.then.lanes v) (to.lanes v) is;
-      apart = λ v is. reader_apart v (first.lanes v) (to.then.lanes v) (to.lanes v) is;
+      free = λ v not free. to.stay v (other_stays (to.lanes v) not) free;
+      each = λ v is. reader_told (to.lanes v) is;
+      apart = λ v is. reader_apart (to.lanes v) is;
     }

@@ -223,18 +223,6 @@ module _ {S : Type 0} (o : Judged S) (table : List (Option OpenCall)) (lane : �
         by (inl is) = inl is
         by (inr same) = inr (inl (subst (λ (y : Position). IsFixed lane p y) same fixed))
 
-    pub takes_fixed : bit_at p.free lane ≡ 0 → TakesUp o table lane p xs ys
-    takes_fixed unset = record {
-      grows = pushed_grows;
-      only = pushed_only;
-      whole = record {
-        fixed = q;
-        among = pushed_has;
-        is = fixed;
-        hidden = λ begun is_open free. absurd (omega (arith, free, unset));
-      };
-    }
-
     pub takes_hidden : (zs : List Position) → HidesEach o table lane p ys zs → TakesUp o table lane p xs zs
     takes_hidden zs hides = record {
       grows = λ x among. hides.grows x (pushed_grows x among);

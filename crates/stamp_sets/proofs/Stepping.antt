@@ -4,7 +4,7 @@ use Rattle.std.proofs.Common.{true, Option, Some, None, refl, sym, ◌∙◌, ap
 use Rattle.std.specs.Prelude.{slice_set, replicate}
 use Rattle.std.specs.Int.{bit_at}
 use Rattle.std.specs.List.{All, Contains}
-use Rattle.std.proofs.lemmas.Bool.{cases_eq}
+use Rattle.std.proofs.lemmas.Bool.{cases_eq, false_from_ne_true}
 use Rattle.std.proofs.lemmas.Nat.Bits.{bit_at-zero}
 use Rattle.std.proofs.lemmas.Option.{none-some}
 use Rattle.std.proofs.lemmas.List.{length-set, get_or-set_same, get_or-set_other, get_or_default, length-replicate}
@@ -13,7 +13,7 @@ use Rattle.stamp_runs.specs.Run.{Lanes, Leads, all_idle}
 use Rattle.stamp_runs.specs.Run.Leads.{leads_nowhere}
 use Rattle.stamp_runs.specs.Run.Phase.{Asks, Idle}
 use Rattle.stamp_runs.specs.Watching.{StandFor}
-use Rattle.stamp_runs.specs.Position.{OfSome, StandsFor, opening_position}
+use Rattle.stamp_runs.specs.Position.{OfSome, opening_position}
 use Rattle.stamp_runs.specs.Position as run
 use Rattle.stamp_runs.specs.Position.Hidden.{no_more}
 use Rattle.stamp_runs.specs.Returning.{IsKeptAs, IsReached, OneOf}
@@ -21,6 +21,7 @@ use Rattle.stamp_runs.specs.Returning.IsReached.{from_old}
 use Rattle.stamp_runs.specs.Stepping.{IsBegun, IsWithdrawn}
 use Rattle.stamp_runs.specs.declared.event.Event.{Event}
 use Rattle.stamp_runs.specs.declared.event.Event.TheVariants as event
+use Rattle.stamp_runs.proofs.Keeping.{kept_settled}
 use Rattle.stamp_runs.proofs.Lanes.{sets_of, true_or_false}
 use Rattle.stamp_runs.proofs.Sets.{stand_on}
 use Rattle.stamp_runs.proofs.Sources.{unfree_stays}
@@ -40,11 +41,11 @@ use Rattle.stamp_sets.specs.inner.Step.{AreBegun, BeginsIn, IsOpening}
 use Rattle.stamp_sets.specs.SmallCall.{call_of}
 use Rattle.stamp_sets.specs.Unchanging.{reads_only}
 use Rattle.stamp_sets.proofs.Layering.{all_from, contains_one}
-use Rattle.stamp_sets.proofs.Reading.{false_from, is_set, kinds_beside, moved, phase_at, reached_on, reads_set}
-use Rattle.stamp_sets.proofs.Reading.{set_bit, unfree_at}
+use Rattle.stamp_sets.proofs.Reading.{is_set, kinds_beside, moved, phase_at, reached_on, reads_set}
+use Rattle.stamp_sets.proofs.Reading.{same_bits, set_bit, unfree_at}
 use Rattle.stamp_sets.proofs.Lawful.{IsLawful, kind_of, overwriting_to}
-use Rattle.stamp_sets.proofs.Returned.{new_may_be, same_bits, stand_kept}
-use Rattle.stamp_sets.proofs.Settled.{SettledTo, is_settled, kept_settled, settled_to}
+use Rattle.stamp_sets.proofs.Returned.{new_may_be, stand_kept}
+use Rattle.stamp_sets.proofs.Settled.{SettledTo, is_settled, settled_to}
 use Rattle.stamp_sets.proofs.Tables.{one_open, open_at_idle, open_at_set_here, open_at_set_none, open_at_set_other}
 use Rattle.stamp_sets.proofs.Telling.{beside_set, no_return, told_begins, told_withdraws}
 
@@ -153,6 +154,27 @@ module _ {S : Type 0} (o : Judged S) (begun : OpenCall) (lane : ℕ) where
     each = λ k d less. let many = so_far.many in so_far.each k d (omega (arith, many)) less;
   }
 
+-- the lane has no open call, and none is free there; and a call begins in it
+module _ {S : Type 0} (o : Judged S) (table : List (Option OpenCall)) (lane : ℕ) (begun : OpenCall)
+    (idle : open_at table lane ≡ None) {x : Position} {p : run.Position S} (reads : Reads o table x p) where
+  pub idle_unfree : (u : ℕ) → bit_at x.free u ≡ 1 → u ≢ lane
+  idle_unfree u is same = none-some at.begun (sym (subst (λ (v : ℕ). open_at table v ≡ None) (sym same) idle) ∙
+      at.is_open)
+    where
+      at : IsFreeCall o (open_at table u) (bit_at x.in_effect u)
+      at = reads.kinds u is
+
+  pub reads_begun : {next : Position} → open_at (slice_set table lane (Some begun)) lane ≡ Some begun →
+      (begins : BeginsIn o begun lane x next) → Reads o (slice_set table lane (Some begun)) begins.plain
+      (moved p lane (Asks (call_of begun.asks)) p.state begins.plain.free)
+  reads_begun here begins = reads_set o table (slice_set table lane (Some begun)) x begins.plain p lane (Asks (call_of
+      begun.asks)) p.state reads (beside_set table lane (Some begun)) begins.clears.others (subst (λ (slot : Option
+      OpenCall). HasPhase slot (bit_at begins.plain.in_effect lane) (Asks (call_of begun.asks))) (sym here) (inl
+      (record { free = begins.clears.here; asks = refl }))) (subst (λ (n : ℕ). o.holds n p.state) (sym begins.state)
+      reads.state) (λ u is. let was : bit_at x.free u ≡ 1 = subst (λ (n : ℕ). bit_at n u ≡ 1) begins.free is in
+      kinds_beside o table (slice_set table lane (Some begun)) x begins.plain p lane reads
+      (beside_set table lane (Some begun)) begins.clears.others u (idle_unfree u was, was))
+
 -- what is kept once a call has begun
 module _ {S : Type 0} (o : Judged S) (past : List Event)
     (table : List (Option OpenCall)) (last lane : ℕ) (begun : OpenCall) (kept new : List Position)
@@ -200,24 +222,18 @@ module _ {S : Type 0} (o : Judged S) (past : List Event)
         (settled_one next q one).comes;
   }
 
-  -- the lane has no open call, and none is free there
-  idle_unfree : (p : run.Position S) (old : Old p) (u : ℕ) → bit_at old.is.numbers.free u ≡ 1 → u ≢ lane
-  idle_unfree p old u is same = none-some at.begun (sym (subst (λ (v : ℕ). open_at table v ≡ None) (sym same) idle) ∙
-      at.is_open)
-    where
-      at : IsFreeCall o (open_at table u) (bit_at old.is.numbers.in_effect u)
-      at = old.is.reads.kinds u is
-
   is_begun : (p : run.Position S) (old : Old p) (free : ℕ) → free ≡ old.is.numbers.free →
       IsBegun lane (call_of begun.asks) p (moved p lane (Asks (call_of begun.asks)) p.state free)
   is_begun p old free same = record {
     idle = subst (λ (slot : Option OpenCall). HasPhase slot (bit_at old.is.numbers.in_effect lane)
         (p.lanes lane)) idle (old.is.reads.lanes lane);
-    not_free = unfree_at o table old.is.numbers p lane old.is.reads (λ is. idle_unfree p old lane is refl);
+    not_free = unfree_at o table old.is.numbers p lane old.is.reads (λ is. idle_unfree o table lane begun idle
+        old.is.reads lane is refl);
     state = refl;
     sets = sets_of p.lanes lane (Asks (call_of begun.asks));
     free = record {
-      not_it = false_from (is_set free lane) (λ is. idle_unfree p old lane (was lane is) refl);
+      not_it = false_from_ne_true (is_set free lane) (λ is. idle_unfree o table lane begun idle old.is.reads lane (was
+          lane is) refl);
       others = λ v apart. same_bits (is_set free v) (p.free v) (λ is. (old.is.reads.free v).1 (was v is))
           (λ is. (set_bit free v).1 (subst (λ (n : ℕ). bit_at n v ≡ 1) (sym same) ((old.is.reads.free v).0 is)));
     };
@@ -235,15 +251,7 @@ module _ {S : Type 0} (o : Judged S) (past : List Event)
     among = among;
     plain = begins.plain;
     settles_to = begins.settles.settles;
-    reads = reads_set o table later old.is.numbers begins.plain p lane (Asks (call_of begun.asks)) p.state old.is.reads
-        (beside_set table lane (Some begun)) begins.clears.others
-        (subst (λ (slot : Option OpenCall).
-        HasPhase slot (bit_at begins.plain.in_effect lane) (Asks (call_of begun.asks))) (sym here)
-        (inl (record { free = begins.clears.here; asks = refl })))
-        (subst (λ (n : ℕ). o.holds n p.state) (sym begins.state) old.is.reads.state)
-        (λ u is. let was : bit_at old.is.numbers.free u ≡ 1 = subst (λ (n : ℕ). bit_at n u ≡ 1) begins.free is in
-        kinds_beside o table later old.is.numbers begins.plain p lane old.is.reads
-        (beside_set table lane (Some begun)) begins.clears.others u (idle_unfree p old u was, was));
+    reads = reads_begun o table lane begun idle old.is.reads here begins;
     is = is_begun p old begins.plain.free begins.free;
   }
 
@@ -272,9 +280,8 @@ module _ {S : Type 0} (o : Judged S) (past : List Event)
   keep q one = record {
     position = (settled_one one.next q one.to).then;
     there = new_one one.next q one.to;
-    is = kept_settled o (ComesAsTold (open_at later) last) q (settled_one one.next q one.to).then (is_settled o later
-        (ComesAsTold (open_at later) last) (λ future fit v b is. fit.ends v b is) (λ l. l ≡ lane) one.next q
-        (settled_one one.next q one.to));
+    is = kept_settled o.step (is_settled o later (ComesAsTold (open_at later) last) (λ future fit v b is. fit.ends v b
+        is) (λ l. l ≡ lane) one.next q (settled_one one.next q one.to));
   }
 
   pub kept_begun : AreKept o past table last kept → AreKept o (past ++ itself ∷ []) later last new
@@ -341,7 +348,7 @@ module _ {S : Type 0} (o : Judged S) (lawful : IsLawful o) (past : List Event) (
     was : IsWithdrawn lane first q
 
   pub asks_in_each : (p : run.Position S) (x : Position) → Reads o table x p → p.lanes lane ≡ Asks (call_of begun.asks)
-  asks_in_each p x reads = by (phase_at o table x p reads lane begun is_open)
+  asks_in_each p x reads = by (phase_at o table reads lane begun is_open)
     where
       by : HasPhase (Some begun) (bit_at x.in_effect lane) (p.lanes lane) →
           p.lanes lane ≡ Asks (call_of begun.asks)
@@ -380,8 +387,8 @@ module _ {S : Type 0} (o : Judged S) (lawful : IsLawful o) (past : List Event) (
     state = refl;
     sets = sets_of p.lanes lane Idle;
     free = record {
-      not_it = false_from (is_set old.is.numbers.free lane) (λ is. withdrawn_unfree p old.is.numbers old.is.reads lane
-          ((set_bit old.is.numbers.free lane).0 is) refl);
+      not_it = false_from_ne_true (is_set old.is.numbers.free lane) (λ is. withdrawn_unfree p old.is.numbers
+          old.is.reads lane ((set_bit old.is.numbers.free lane).0 is) refl);
       others = λ v apart. same_bits (is_set old.is.numbers.free v) (p.free v)
           (λ is. (old.is.reads.free v).1 ((set_bit old.is.numbers.free v).0 is))
           (λ is. (set_bit old.is.numbers.free v).1 ((old.is.reads.free v).0 is));

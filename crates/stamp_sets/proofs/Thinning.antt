@@ -3,8 +3,7 @@ use Rattle.std.proofs.Common.{ℕ, zero, suc, ◌≡◌, ◌≢◌, ◌⊎◌, �
 use Rattle.std.proofs.Common.{bit_and, bit_or, get_or, Some, None, refl, sym, ◌∙◌, ap, subst, inl, inr, arith}
 use Rattle.std.specs.Int.{bit_at}
 use Rattle.std.specs.List.{Contains, remove}
-use Rattle.std.specs.Option.{is_some}
-use Rattle.std.proofs.lemmas.Bool.{cases_eq, cases_lt, false≢true}
+use Rattle.std.proofs.lemmas.Bool.{cases_eq, cases_lt}
 use Rattle.std.proofs.lemmas.Nat.Bits.{bit_at-lt, bit_at-zero, bit_at_and, bit_at_or}
 use Rattle.std.proofs.lemmas.List.Edits.{get_or-remove_above, get_or-remove_below, length-remove}
 use Rattle.std.proofs.lemmas.List.Elements.{All-contains, Contains-get_or}
@@ -61,102 +60,77 @@ module _ {S : Type 0} (o : Judged S) (table : List (Option OpenCall)) where
         after ≡ Asks (call_of begun.asks) → Overwrites o.step (call_of begun.asks) reply t → before ≡ Gets reply →
         IsCoveredIn v before after free
 
-  module _ (v : ℕ) (before after : Phase) (free : Bool) where
+  module _ {v : ℕ} {before after : Phase} {free : Bool} where
     abbrev is_reader : IsCoveredIn v before after free → Bool
-    is_reader (stays same) = false
     is_reader (reads_it begun is still asks gets) = true
-    is_reader (ends_never begun reply is ends gets) = false
-    is_reader (is_hidden begun reply t is freed asks over gets) = false
+    is_reader _ = false
 
     abbrev told_of : IsCoveredIn v before after free → Reply
-    told_of (stays same) = Done
     told_of (reads_it begun is still asks gets) = reply_of still.told
-    told_of (ends_never begun reply is ends gets) = Done
-    told_of (is_hidden begun reply t is freed asks over gets) = Done
+    told_of _ = Done
 
     abbrev is_endless : IsCoveredIn v before after free → Bool
-    is_endless (stays same) = false
-    is_endless (reads_it begun is still asks gets) = false
     is_endless (ends_never begun reply is ends gets) = true
-    is_endless (is_hidden begun reply t is freed asks over gets) = false
+    is_endless _ = false
 
     -- readers are in effect; and calls that never end are as after
     abbrev settled : IsCoveredIn v before after free → Phase
-    settled (stays same) = before
     settled (reads_it begun is still asks gets) = after
-    settled (ends_never begun reply is ends gets) = before
-    settled (is_hidden begun reply t is freed asks over gets) = before
+    settled _ = before
 
     abbrev undone : IsCoveredIn v before after free → Phase
     undone (stays same) = before
-    undone (reads_it begun is still asks gets) = after
-    undone (ends_never begun reply is ends gets) = after
     undone (is_hidden begun reply t is freed asks over gets) = before
+    undone _ = after
 
     settled_reads : (at : IsCoveredIn v before after free) → is_reader at ≡ true → settled at ≡ Gets (told_of at)
-    settled_reads (stays same) is = absurd (true_or_false is refl)
     settled_reads (reads_it begun opens still asks gets) is = gets
-    settled_reads (ends_never begun reply opens ends gets) is = absurd (true_or_false is refl)
-    settled_reads (is_hidden begun reply t opens freed asks over gets) is = absurd (true_or_false is refl)
+    settled_reads _ is = absurd (true_or_false is refl)
 
     settled_others : (at : IsCoveredIn v before after free) → is_reader at ≡ false → settled at ≡ before
-    settled_others (stays same) not = refl
     settled_others (reads_it begun opens still asks gets) not = absurd (true_or_false refl not)
-    settled_others (ends_never begun reply opens ends gets) not = refl
-    settled_others (is_hidden begun reply t opens freed asks over gets) not = refl
+    settled_others _ not = refl
 
     reader_never : (at : IsCoveredIn v before after free) → is_reader at ≡ true → (call : Call) → before ≡ Asks call →
         OverwritesNever o.step call
-    reader_never (stays same) is call asks = absurd (true_or_false is refl)
     reader_never (reads_it begun opens still asks_it gets) is call asks =
         subst (λ (c : Call). OverwritesNever o.step c) (one_call asks_it asks) still.never
-    reader_never (ends_never begun reply opens ends gets) is call asks = absurd (true_or_false is refl)
-    reader_never (is_hidden begun reply t opens freed asks_it over gets) is call asks = absurd (true_or_false is refl)
+    reader_never _ is call asks = absurd (true_or_false is refl)
 
     settled_endless : (at : IsCoveredIn v before after free) → is_endless at ≡ true →
         (reply : Reply) × (settled at ≡ Gets reply)
-    settled_endless (stays same) is = absurd (true_or_false is refl)
-    settled_endless (reads_it begun opens still asks gets) is = absurd (true_or_false is refl)
     settled_endless (ends_never begun reply opens ends gets) is = (reply, gets)
-    settled_endless (is_hidden begun reply t opens freed asks over gets) is = absurd (true_or_false is refl)
+    settled_endless _ is = absurd (true_or_false is refl)
 
     undone_others : (at : IsCoveredIn v before after free) → is_endless at ≡ false → undone at ≡ settled at
-    undone_others (stays same) not = refl
-    undone_others (reads_it begun opens still asks gets) not = refl
     undone_others (ends_never begun reply opens ends gets) not = absurd (true_or_false refl not)
-    undone_others (is_hidden begun reply t opens freed asks over gets) not = refl
+    undone_others _ not = refl
 
     -- what asks and is in effect after was read
     reader_if : (at : IsCoveredIn v before after free) (call : Call) (reply : Reply) → before ≡ Asks call →
         after ≡ Gets reply → is_reader at ≡ true
     reader_if (stays same) call reply asks gets = absurd (asks_or_gets (sym same ∙ asks) gets)
     reader_if (reads_it begun opens still asks_it gets_it) call reply asks gets = refl
-    reader_if (ends_never begun other opens ends gets_it) call reply asks gets = absurd (asks_or_gets asks gets_it)
-    reader_if (is_hidden begun other t opens freed asks_it over gets_it) call reply asks gets =
-        absurd (asks_or_gets asks gets_it)
+    reader_if (ends_never begun other opens ends it) call reply asks gets = absurd (asks_or_gets asks it)
+    reader_if (is_hidden begun other t opens freed asked over it) call reply asks gets = absurd (asks_or_gets asks it)
 
     module _ (fits : List Event → Type 0) (ends : (future : List Event) → fits future → (b : OpenCall) →
         open_at table v ≡ Some b → EndsSo v b.ends future) where
       reader_told : (at : IsCoveredIn v before after free) → is_reader at ≡ true →
           IsToldReader o.step fits v (told_of at) before
-      reader_told (stays same) is = absurd (true_or_false is refl)
       reader_told (reads_it begun opens still asks gets) is = record {
         call = call_of begun.asks;
         asks = asks;
         still = still.unchanging;
         ends = λ future fit. subst (λ (e : Ending). EndsSo v e future) still.ends (ends future fit begun opens);
       }
-      reader_told (ends_never begun reply opens never gets) is = absurd (true_or_false is refl)
-      reader_told (is_hidden begun reply t opens freed asks over gets) is = absurd (true_or_false is refl)
+      reader_told _ is = absurd (true_or_false is refl)
 
       endless_told : (at : IsCoveredIn v before after free) → is_endless at ≡ true → (future : List Event) →
           fits future → EndsNever v future
-      endless_told (stays same) is future fit = absurd (true_or_false is refl)
-      endless_told (reads_it begun opens still asks gets) is future fit = absurd (true_or_false is refl)
       endless_told (ends_never begun reply opens never gets) is future fit =
           subst (λ (e : Ending). EndsSo v e future) never (ends future fit begun opens)
-      endless_told (is_hidden begun reply t opens freed asks over gets) is future fit =
-          absurd (true_or_false is refl)
+      endless_told _ is future fit = absurd (true_or_false is refl)
 
     -- one lane after another is hidden
     hidden_one : (at : IsCoveredIn v before after free) (frees : ℕ → Bool) (lanes : Lanes) → frees v ≡ free →
@@ -238,13 +212,12 @@ module _ {S : Type 0} (o : Judged S) (lawful : IsLawful o) (table : List (Option
       where
         by : CoversIn o begun v y x → At v
         by (is_same bits more) = same_in (bit_at x.in_effect v) (bit_at y.in_effect v) bits
-            (phase_at o table x p reads_x v begun is_open) (phase_at o table y q reads_y v begun is_open)
-        by (is_free number some freed) = free_in number (bit_at x.in_effect v) some ((reads_y.free v).1 freed)
-            (asks_at o table y q reads_y v begun is_open (reads_y.kinds v freed).waits)
-            (phase_at o table x p reads_x v begun is_open)
+            (phase_at o table reads_x v begun is_open) (phase_at o table reads_y v begun is_open)
+        by (is_free number some freed) = free_in number (bit_at x.in_effect v) some ((reads_y.free v).1 freed) (asks_at
+            o table reads_y v begun is_open (reads_y.kinds v freed).waits) (phase_at o table reads_x v begun is_open)
         by (has_read reads taken) = read_in (bit_at x.in_effect v) (bit_at y.in_effect v) reads
-            (phase_at o table x p reads_x v begun is_open) (gets_at o table y q reads_y v begun is_open taken)
-        by (never_ends never taken) = let gets = gets_at o table x p reads_x v begun is_open taken in
+            (phase_at o table reads_x v begun is_open) (gets_at o table reads_y v begun is_open taken)
+        by (never_ends never taken) = let gets = gets_at o table reads_x v begun is_open taken in
             ends_never begun gets.reply is_open never gets.gets
 
   at : (v : ℕ) → At v
@@ -259,10 +232,10 @@ module _ {S : Type 0} (o : Judged S) (lawful : IsLawful o) (table : List (Option
       by (Some begun) is = at_open v begun is
 
   abbrev readers : ℕ → Bool
-  readers v = is_reader o table v (p.lanes v) (q.lanes v) (q.free v) (at v)
+  readers v = is_reader o table (at v)
 
   abbrev endless : ℕ → Bool
-  endless v = is_endless o table v (p.lanes v) (q.lanes v) (q.free v) (at v)
+  endless v = is_endless o table (at v)
 
   fewer : (v : ℕ) → readers v ≡ false → p.free v ≡ true → q.free v ≡ true
   fewer v not free = by (covered.each v it.begun it.is_open)
@@ -276,20 +249,20 @@ module _ {S : Type 0} (o : Judged S) (lawful : IsLawful o) (table : List (Option
       by : CoversIn o it.begun v y x → q.free v ≡ true
       by (is_same bits more) = (reads_y.free v).1 (more bit)
       by (is_free number some freed) = (reads_y.free v).1 freed
-      by (has_read reads taken) = let gets = gets_at o table y q reads_y v it.begun it.is_open taken in
-          absurd (true_or_false (reader_if o table v (p.lanes v) (q.lanes v) (q.free v) (at v) (call_of it.begun.asks)
-          gets.reply (asks_at o table x p reads_x v it.begun it.is_open it.waits) gets.gets) not)
+      by (has_read reads taken) = let gets = gets_at o table reads_y v it.begun it.is_open taken in
+          absurd (true_or_false (reader_if o table (at v) (call_of it.begun.asks)
+          gets.reply (asks_at o table reads_x v it.begun it.is_open it.waits) gets.gets) not)
       by (never_ends never taken) = let waits = it.waits in absurd (omega (arith, waits, taken))
 
   abbrev between : run.Position S
   between = record {
     state = p.state;
-    lanes = λ v. settled o table v (p.lanes v) (q.lanes v) (q.free v) (at v);
+    lanes = λ v. settled o table (at v);
     free = q.free;
   }
 
   abbrev after : Lanes
-  after v = undone o table v (p.lanes v) (q.lanes v) (q.free v) (at v)
+  after v = undone o table (at v)
 
   abbrev then : run.Position S
   then = record { state = p.state; lanes = after; free = q.free }
@@ -315,8 +288,8 @@ module _ {S : Type 0} (o : Judged S) (lawful : IsLawful o) (table : List (Option
 
   hidden_below : (n : ℕ) → Hidden o.step q.free None q.lanes (filled n)
   hidden_below zero = no_more
-  hidden_below (suc n) = hidden_on o.step (hidden_below n) (hidden_one o table n (p.lanes n) (q.lanes n) (q.free n)
-      (at n) q.free (filled n) refl (filled_above n n (omega arith)))
+  hidden_below (suc n) = hidden_on o.step (hidden_below n) (hidden_one o table (at n) q.free (filled n) refl
+      (filled_above n n (omega arith)))
 
   all_hidden : Hidden o.step q.free None q.lanes after
   all_hidden = subst (λ (l : Lanes). Hidden o.step q.free None q.lanes l)
@@ -324,8 +297,7 @@ module _ {S : Type 0} (o : Judged S) (lawful : IsLawful o) (table : List (Option
     where
       each : (v : ℕ) → (v < length table) ⊎ (length table ≤ v) → filled (length table) v ≡ after v
       each v (inl low) = filled_below (length table) v low
-      each v (inr far) = filled_above (length table) v far ∙
-          sym (beyond o table v (p.lanes v) (q.lanes v) (q.free v) (at v) far)
+      each v (inr far) = filled_above (length table) v far ∙ sym (beyond o table (at v) far)
 
   -- so the one is kept as the other
   pub kept_covered : (fits : List Event → Type 0) → ((future : List Event) → fits future → (v : ℕ) (b : OpenCall) →
@@ -335,26 +307,25 @@ module _ {S : Type 0} (o : Judged S) (lawful : IsLawful o) (table : List (Option
     then = then;
     settled = record {
       readers = readers;
-      told = λ v. told_of o table v (p.lanes v) (q.lanes v) (q.free v) (at v);
+      told = λ v. told_of o table (at v);
       state = refl;
       shown = record {
-        read = λ v is. settled_reads o table v (p.lanes v) (q.lanes v) (q.free v) (at v) is;
-        others = λ v not. settled_others o table v (p.lanes v) (q.lanes v) (q.free v) (at v) not;
+        read = λ v is. settled_reads o table (at v) is;
+        others = λ v not. settled_others o table (at v) not;
       };
       free = fewer;
-      each = λ v is. reader_told o table v (p.lanes v) (q.lanes v) (q.free v) fits
-          (λ future fit b opens. ends future fit v b opens) (at v) is;
-      apart = λ v is call asks. reader_never o table v (p.lanes v) (q.lanes v) (q.free v) (at v) is call asks;
+      each = λ v is. reader_told o table fits (λ future fit b opens. ends future fit v b opens) (at v) is;
+      apart = λ v is call asks. reader_never o table (at v) is call asks;
     };
     undone = record {
       endless = endless;
       state = refl;
       asking = record {
-        in_effect = λ v is. settled_endless o table v (p.lanes v) (q.lanes v) (q.free v) (at v) is;
-        others = λ v not. undone_others o table v (p.lanes v) (q.lanes v) (q.free v) (at v) not;
+        in_effect = λ v is. settled_endless o table (at v) is;
+        others = λ v not. undone_others o table (at v) not;
       };
       free = λ v not free. free;
-      never = λ v is future fit. endless_told o table v (p.lanes v) (q.lanes v) (q.free v) fits
+      never = λ v is future fit. endless_told o table fits
           (λ later fits_later b opens. ends later fits_later v b opens) (at v) is future fit;
     };
     covers = λ s lanes stands. record {
@@ -533,11 +504,6 @@ open_more table Kind old new lane is begun opens so adds are other one = by (add
 pub none_open_as : (table : List (Option OpenCall)) (Kind : OpenCall → Type 0) → AreOpenAs table Kind 0
 none_open_as table Kind lane is = let none = bit_at-zero lane in absurd (omega (arith, is, none))
 
--- what was found
-pub some_of : (found : Option ℕ) → is_some found ≡ true → (number : ℕ) × (found ≡ Some number)
-some_of None is = absurd (false≢true is)
-some_of (Some number) is = (number, refl)
-
 -- the elements of a list but one
 get_in_remove : (xs : List Position) (at k : ℕ) (d : Position) → at < length xs → k < length xs → k ≢ at →
     Contains (remove xs at) (get_or xs k d)
@@ -569,14 +535,6 @@ contains_from_remove xs at x less (k, within, is) = by (cases_lt k at)
 
 -- positions are dropped one by one
 module _ {S : Type 0} (o : Judged S) (table : List (Option OpenCall)) where
-  pub none_dropped : (xs : List Position) → IsThinned o table xs xs
-  none_dropped xs = record {
-    kept = λ past last are. are;
-    only = λ x among. among;
-    fewer = omega arith;
-    some = λ more. more;
-  }
-
   module _ (lawful : IsLawful o) (one : (n : ℕ) (s t : S) → o.holds n s → o.holds n t → s ≡ t) where
     pub one_dropped : (old xs : List Position) (at : ℕ) (d : Position) → at < length xs → IsThinned o table old xs →
         IsCoveredAt o table at xs → IsThinned o table old (remove xs at)

@@ -1,14 +1,12 @@
 -- Positions that are traced, once an event has come.
-use Rattle.std.proofs.Common.{ℕ, zero, suc, ◌≡◌, ◌≢◌, ◌⊎◌, ◌+◌, ◌^◌, ◌<◌, ◌≤◌, List, [], ◌∷◌, ◌++◌, length, Option}
+use Rattle.std.proofs.Common.{ℕ, ◌≡◌, ◌≢◌, ◌⊎◌, ◌+◌, ◌<◌, List, [], ◌∷◌, ◌++◌, length, Option}
 use Rattle.std.proofs.Common.{Some, None}
 use Rattle.std.proofs.Common.{refl, sym, ◌∙◌, ap, subst, inl, inr, arith}
 use Rattle.std.specs.Prelude.{slice_set}
 use Rattle.std.specs.Int.{bit_at}
 use Rattle.std.proofs.lemmas.Bool.{cases_eq}
 use Rattle.std.proofs.lemmas.List.{length-append, length-set}
-use Rattle.std.proofs.lemmas.Nat.Bits.{same_from_bits_below}
-use Rattle.std.proofs.lemmas.Option.{none-some}
-use Rattle.std.proofs.Math.Nat.{pow-succ'}
+use Rattle.std.proofs.lemmas.Nat.Bits.{same_from_bits}
 use Rattle.stamp_core.specs.declared.reply.Reply.{Reply}
 use Rattle.stamp_runs.specs.Position as run
 use Rattle.stamp_runs.specs.Run.Phase.{Asks, Gets, Idle}
@@ -28,7 +26,7 @@ use Rattle.stamp_sets.specs.declared.small_call.SmallReply.{SmallReply}
 use Rattle.stamp_sets.specs.declared.trail.Entry.{Entry}
 use Rattle.stamp_sets.specs.declared.trail.Entry.TheVariants as entry
 use Rattle.stamp_sets.specs.Judged.{Judged}
-use Rattle.stamp_sets.specs.Kept.{HasPhase, IsFreeCall, IsInEffect, Reads}
+use Rattle.stamp_sets.specs.Kept.{HasPhase, IsInEffect, Reads}
 use Rattle.stamp_sets.specs.SmallCall.{call_of, reply_of}
 use Rattle.stamp_sets.specs.Told.{MayGet, open_at}
 use Rattle.stamp_sets.specs.Tracing.{IsReturnedFrom}
@@ -37,27 +35,14 @@ use Rattle.stamp_sets.specs.inner.Effect.Settles.{as_it_is, one_more}
 use Rattle.stamp_sets.specs.inner.Step.{BeginsIn}
 use Rattle.stamp_sets.specs.Tracing.{IsTracedBy, Says, events_in}
 use Rattle.stamp_sets.proofs.Lawful.{IsLawful}
-use Rattle.stamp_sets.proofs.Reading.{bit_unset, gets_at, kinds_beside, moved, not_set, reads_set, set_bit, taken_at}
+use Rattle.stamp_sets.proofs.Reading.{bit_unset, gets_at, moved, not_set, set_bit, taken_at}
 use Rattle.stamp_sets.proofs.Reading.{unfree_at}
 use Rattle.stamp_sets.proofs.Settled.{SettledTo, settled_to}
-use Rattle.stamp_sets.proofs.Stepping.{asks_in_each, reads_ended, withdrawn_unfree}
-use Rattle.stamp_sets.proofs.Tables.{idle_apart, open_at_set_here, open_at_set_none, open_at_set_other}
+use Rattle.stamp_sets.proofs.Returned.{read_returned, taken_unfree}
+use Rattle.stamp_sets.proofs.Stepping.{asks_in_each, idle_unfree, reads_begun, reads_ended, withdrawn_unfree}
+use Rattle.stamp_sets.proofs.Tables.{idle_apart, open_at_set_here, open_at_set_other}
 use Rattle.stamp_sets.proofs.Tables.{open_at_within}
-use Rattle.stamp_sets.proofs.Telling.{beside_set}
 use Rattle.stamp_sets.proofs.Turns.{WasSeen, seen_at}
-
-below_power : (n : ℕ) → n < 2 ^ n
-below_power zero = omega arith
-below_power (suc n) = let low = below_power n in let twice = pow-succ' 2 n in
-    omega (arith, low, twice)
-
--- numbers with the same bits are equal
-pub same_number : (a b : ℕ) → ((i : ℕ) → bit_at a i ≡ bit_at b i) → a ≡ b
-same_number a b same = same_from_bits_below (a + b) a b (below a (a + b) (omega arith)) (below b (a + b) (omega arith))
-    (λ i low. same i)
-  where
-    below : (n m : ℕ) → n ≤ m → n < 2 ^ m
-    below n m low = let high = below_power m in omega (arith, low, high)
 
 one_event_more : (past : List Event) (n : ℕ) (e : Event) → n ≡ length past → n + 1 ≡ length (past ++ e ∷ [])
 one_event_more past n e same = let long = length-append past (e ∷ []) in omega (arith, long, same)
@@ -83,18 +68,12 @@ module _ {S : Type 0} (o : Judged S) (past : List Event) (table : List (Option O
     full = length-set table lane None ∙ is.full;
     events = one_event_more past (events_in trail) (event.Returns lane reply) is.events;
     position = after;
-    reads = reads_set o table (slice_set table lane None) x y is.position lane Idle is.position.state is.reads
-        (beside_set table lane None) returned.clears.others
-        (subst (λ (slot : Option OpenCall). HasPhase slot (bit_at y.in_effect lane) Idle)
-        (sym (open_at_set_none table lane)) refl)
-        (subst (λ (n : ℕ). o.holds n is.position.state) (sym returned.state) is.reads.state)
-        (λ u free. kinds_beside o table (slice_set table lane None) x y is.position lane is.reads
-        (beside_set table lane None) returned.clears.others u (apart u free, was u free));
+    reads = read_returned o table lane is.reads unset returned;
     moves = is.moves;
     trace = with_event is.position after (event.Returns lane reply) is.trace refl (
       taken.gets ∙ ap Gets (sym (subst (λ (e : Ending). MayGet e taken.reply) ends taken.may) ∙ same),
       sets_of is.position.lanes lane Idle,
-    ) (not_set y.free lane (bit_unset y.free lane (λ free. apart lane free refl)))
+    ) (not_set y.free lane (subst (λ (n : ℕ). bit_at n lane ≡ 0) (sym returned.free) unset))
         (λ v free. (is.reads.free v).1 (was v ((set_bit y.free v).0 free)));
     says = (within, x, returned, is.says);
     idle = idle_then x y returned.clears.others returned.clears.here is.idle;
@@ -107,14 +86,13 @@ module _ {S : Type 0} (o : Judged S) (past : List Event) (table : List (Option O
       within = let low = open_at_within table lane begun is_open in let full = is.full in omega (arith, low, full)
 
       taken : IsInEffect begun (bit_at x.in_effect lane) (is.position.lanes lane)
-      taken = gets_at o table x is.position is.reads lane begun is_open returned.taken
+      taken = gets_at o table is.reads lane begun is_open returned.taken
 
       was : (v : ℕ) → bit_at y.free v ≡ 1 → bit_at x.free v ≡ 1
       was v free = subst (λ (n : ℕ). bit_at n v ≡ 1) returned.free free
 
-      apart : (v : ℕ) → bit_at y.free v ≡ 1 → v ≢ lane
-      apart v free at = let waits = (is.reads.kinds v (was v free)).waits in
-          let set = subst (λ (u : ℕ). bit_at x.in_effect u ≡ 1) (sym at) returned.taken in omega (arith, waits, set)
+      unset : bit_at x.free lane ≡ 0
+      unset = taken_unfree o table lane x is.position is.reads returned.taken
 
   -- it is withdrawn
   pub withdrawal_traced : (lawful : IsLawful o) (x : Position) → begun.ends ≡ Withdraws →
@@ -140,8 +118,7 @@ module _ {S : Type 0} (o : Judged S) (past : List Event) (table : List (Option O
       after = moved is.position lane Idle is.position.state x.free
 
       waits : bit_at x.in_effect lane ≡ 0
-      waits = bit_unset x.in_effect lane (λ set. let taken =
-          gets_at o table x is.position is.reads lane begun is_open set in
+      waits = bit_unset x.in_effect lane (λ set. let taken = gets_at o table is.reads lane begun is_open set in
           subst (λ (e : Ending). MayGet e taken.reply) ends taken.may)
 
 -- what settles in one lane is the same in the others
@@ -185,13 +162,6 @@ module _ {S : Type 0} (o : Judged S) (past : List Event) (table : List (Option O
   here : open_at later lane ≡ Some begun
   here = let full = is.full in open_at_set_here table lane (Some begun) (omega (arith, below, full))
 
-  idle_unfree : (u : ℕ) → bit_at x.free u ≡ 1 → u ≢ lane
-  idle_unfree u free same = none-some at.begun (sym (subst (λ (v : ℕ). open_at table v ≡ None) (sym same) none) ∙
-      at.is_open)
-    where
-      at : IsFreeCall o (open_at table u) (bit_at x.in_effect u)
-      at = is.reads.kinds u free
-
   abbrev first : run.Position S
   first = moved is.position lane (Asks (call_of begun.asks)) is.position.state begins.plain.free
 
@@ -199,14 +169,7 @@ module _ {S : Type 0} (o : Judged S) (past : List Event) (table : List (Option O
   was_free v free = subst (λ (n : ℕ). bit_at n v ≡ 1) begins.free free
 
   first_reads : Reads o later begins.plain first
-  first_reads = reads_set o table later x begins.plain is.position lane (Asks (call_of begun.asks)) is.position.state
-      is.reads (beside_set table lane (Some begun)) begins.clears.others
-      (subst (λ (slot : Option OpenCall).
-      HasPhase slot (bit_at begins.plain.in_effect lane) (Asks (call_of begun.asks))) (sym here)
-      (inl (record { free = begins.clears.here; asks = refl })))
-      (subst (λ (n : ℕ). o.holds n is.position.state) (sym begins.state) is.reads.state)
-      (λ u free. kinds_beside o table later x begins.plain is.position lane is.reads
-      (beside_set table lane (Some begun)) begins.clears.others u (idle_unfree u (was_free u free), was_free u free))
+  first_reads = reads_begun o table lane begun none is.reads here begins
 
   settles : Settles o later (λ l. l ≡ lane) begins.plain y
   settles = begins.settles.settles later here
@@ -223,15 +186,15 @@ module _ {S : Type 0} (o : Judged S) (past : List Event) (table : List (Option O
         (is.reads.lanes lane),
     sets_of is.position.lanes lane (Asks (call_of begun.asks)),
   ) (not_set begins.plain.free lane (bit_unset begins.plain.free lane
-      (λ free. idle_unfree lane (was_free lane free) refl)))
+      (λ free. idle_unfree o table lane begun none is.reads lane (was_free lane free) refl)))
       (λ v free. (is.reads.free v).1 (was_free v ((set_bit begins.plain.free v).0 free)))
 
   others_bits : (v : ℕ) → v ≢ lane → bit_at y.in_effect v ≡ bit_at x.in_effect v
   others_bits v apart = beside.others v apart ∙ begins.clears.others v apart
 
   same_free : y.free ≡ x.free
-  same_free = same_number y.free x.free (λ v. beside.free (bit_unset begins.plain.free lane
-      (λ free. idle_unfree lane (was_free lane free) refl)) v ∙ ap (λ (n : ℕ). bit_at n v) begins.free)
+  same_free = same_from_bits y.free x.free (λ v. beside.free (bit_unset begins.plain.free lane (λ free. idle_unfree o
+      table lane begun none is.reads lane (was_free lane free) refl)) v ∙ ap (λ (n : ℕ). bit_at n v) begins.free)
 
   idle_later : (v : ℕ) → open_at later v ≡ None → bit_at y.in_effect v ≡ 0
   idle_later v idle = others_bits v apart ∙
@@ -259,9 +222,8 @@ module _ {S : Type 0} (o : Judged S) (past : List Event) (table : List (Option O
 
       by : (to.then.lanes lane ≡ first.lanes lane) ⊎
           WasSeen o.step (λ l. l ≡ lane) first.state lane (first.lanes lane) (to.then.lanes lane) → After
-      by (inl same) = absurd (asks_or_gets
-          (same ∙ (sets_of is.position.lanes lane (Asks (call_of begun.asks))).here)
-          (gets_at o later y to.then to.reads lane begun here taken).gets)
+      by (inl same) = absurd (asks_or_gets (same ∙ (sets_of is.position.lanes lane (Asks (call_of begun.asks))).here)
+          (gets_at o later to.reads lane begun here taken).gets)
       by (inr was) = record {
         full = length-set table lane (Some begun) ∙ is.full;
         events = one_event_more past (events_in trail) itself is.events;
@@ -309,7 +271,7 @@ module _ {S : Type 0} (o : Judged S) (past : List Event) (table : List (Option O
           WasSeen o.step (λ l. l ≡ lane) first.state v (first.lanes v) (to.then.lanes v) →
           to.then.lanes v ≡ first.lanes v
       by v (inl still) = still
-      by v (inr was) = absurd (waits (taken_at o later y to.then to.reads lane begun here was.reply
+      by v (inr was) = absurd (waits (taken_at o later to.reads lane begun here was.reply
           (subst (λ (w : ℕ). to.then.lanes w ≡ Gets was.reply) was.among was.gets)))
 
       bits : (v : ℕ) → (v ≡ lane) ⊎ (v ≢ lane) → bit_at y.in_effect v ≡ bit_at x.in_effect v
@@ -318,7 +280,7 @@ module _ {S : Type 0} (o : Judged S) (past : List Event) (table : List (Option O
       bits v (inr apart) = others_bits v apart
 
       numbers : y.in_effect ≡ x.in_effect
-      numbers = same_number y.in_effect x.in_effect (λ v. bits v (cases_eq v lane))
+      numbers = same_from_bits y.in_effect x.in_effect (λ v. bits v (cases_eq v lane))
 
       same : y ≡ x
       same = λ i. record {

@@ -12,7 +12,6 @@ use Rattle.stamp_core.specs.declared.reply.Reply.TheVariants.{Done}
 use Rattle.stamp_runs.specs.Object.{Object}
 use Rattle.stamp_runs.specs.declared.event.Event.{Event}
 use Rattle.stamp_runs.specs.Run.Phase.{Asks, Gets}
-use Rattle.stamp_runs.specs.Position.{Overwrites}
 use Rattle.stamp_runs.specs.Position as run
 use Rattle.stamp_runs.specs.Trace.{IsTrace, Move}
 use Rattle.stamp_runs.specs.Trace.{taken_at as taken_when}
@@ -41,7 +40,7 @@ use Rattle.stamp_sets.specs.inner.Layer.{AreReturned, LooksThrough, ReturnsFromO
 use Rattle.stamp_sets.specs.Told.{open_at}
 use Rattle.stamp_sets.proofs.Lawful.{IsLawful, over_as, overwriting_to}
 use Rattle.stamp_sets.proofs.Layering.{none_in_nil, returned_one}
-use Rattle.stamp_sets.proofs.Reading.{asks_at, cleared, kinds_then, moved, not_set, reads_taken, set_bit}
+use Rattle.stamp_sets.proofs.Reading.{asks_at, cleared, come_free, moved, not_set, reads_taken, set_bit}
 use Rattle.stamp_sets.proofs.Returned.{fixed_as, fixed_free, fixed_reads}
 use Rattle.stamp_sets.proofs.Settled.{SettledTo, settled_to}
 use Rattle.stamp_sets.proofs.Tables.{one_open}
@@ -96,11 +95,10 @@ module _ {S : Type 0} (o : Judged S) (past : List Event) (table : List (Option O
     full = is.full;
     events = is.events;
     position = fixed_as is.position y;
-    reads = fixed_reads o table lane x y is.position is.reads fixed;
+    reads = fixed_reads o table lane is.reads fixed;
     moves = is.moves;
-    trace = trace_fewer o.step o.start is.position (fixed_as is.position y) is.trace refl refl
-        (λ v free. (is.reads.free v).1 (fixed_free o table lane x y is.position is.reads fixed v
-        ((set_bit y.free v).0 free)));
+    trace = trace_fewer o.step o.start is.position (fixed_as is.position y) is.trace refl refl (λ v free.
+        (is.reads.free v).1 (fixed_free o table lane is.reads fixed v ((set_bit y.free v).0 free)));
     says = inr (
       refl,
       is.moves,
@@ -125,17 +123,14 @@ module _ {S : Type 0} (o : Judged S) (past : List Event) (table : List (Option O
       full = is.full;
       events = is.events;
       position = there;
-      reads = hidden_reads o lawful table x y is.position is.reads source hides.number hides.begun hides.is_open
-          hides.overwrites hides.free hides.hidden;
+      reads = hidden_reads o lawful table is.reads hides.is_open hides.overwrites hides.free hides.hidden;
       moves = hiding ((source, overs.reply) ∷ read.readers) ∷ is.moves;
       trace = trace_hidden o.step o.start is.position there source (call_of hides.begun.asks) overs.reply overs.next
-          read.readers is.trace refl ((is.reads.free source).1 hides.free)
-          (asked_before o lawful table x y is.position is.reads source hides.number hides.begun hides.is_open
-          hides.overwrites hides.free hides.hidden) overs.overwrites
-          (All-weaker (λ (r : ℕ × Reply). bit_at hides.hidden.there.free r.0 ≡ 1)
-          (λ (r : ℕ × Reply). is.position.free r.0 ≡ true) (λ r at. free_before r.0 at) read.readers read.among)
-          read.in_turn
-          (λ v free. free_before v ((set_bit hides.hidden.there.free v).0 (to.fewer v free)));
+          read.readers is.trace refl ((is.reads.free source).1 hides.free) (asked_before o lawful table is.reads
+          hides.is_open hides.overwrites hides.free hides.hidden) overs.overwrites (All-weaker (λ (r : ℕ × Reply).
+          bit_at hides.hidden.there.free r.0 ≡ 1) (λ (r : ℕ × Reply). is.position.free r.0 ≡ true) (λ r at. free_before
+          r.0 at) read.readers read.among) read.in_turn (λ v free. free_before v ((set_bit hides.hidden.there.free v).0
+          (to.fewer v free)));
       says = inr (
         refl,
         is.moves,
@@ -149,21 +144,18 @@ module _ {S : Type 0} (o : Judged S) (past : List Event) (table : List (Option O
     }
       where
         overs : IsOverwriting o hides.begun hides.number
-        overs = over_source o lawful table x y is.position is.reads source hides.number hides.begun hides.is_open
-            hides.overwrites hides.free hides.hidden
+        overs = over_source o lawful table is.reads hides.is_open hides.overwrites hides.free hides.hidden
 
         to : SettledTo o table (λ v. bit_at hides.hidden.there.free v ≡ 1) hides.hidden.then
             (moved is.position source (Gets overs.reply) overs.next hides.hidden.there.free)
-        to = shown_to o lawful table x y is.position is.reads source hides.number hides.begun hides.is_open
-            hides.overwrites hides.free hides.hidden
+        to = shown_to o lawful table is.reads hides.is_open hides.overwrites hides.free hides.hidden
 
         there : run.Position S
-        there = hidden o lawful table x y is.position is.reads source hides.number hides.begun hides.is_open
-            hides.overwrites hides.free hides.hidden
+        there = hidden o lawful table is.reads hides.is_open hides.overwrites hides.free hides.hidden
 
         free_before : (v : ℕ) → bit_at hides.hidden.there.free v ≡ 1 → is.position.free v ≡ true
-        free_before v free = (is.reads.free v).1 (was_free o lawful table x y is.position is.reads source hides.number
-            hides.begun hides.is_open hides.overwrites hides.free hides.hidden v free).1
+        free_before v free = (is.reads.free v).1 (was_free o lawful table is.reads hides.is_open hides.overwrites
+            hides.free hides.hidden v free).1
 
         read : AreRead o table is.full (λ v. bit_at hides.hidden.there.free v ≡ 1) Hides x y hides.hidden.there
             hides.hidden.then source is.position is.reads overs.reply overs.next hides.hidden.there.free
@@ -186,12 +178,11 @@ module _ {S : Type 0} (o : Judged S) (past : List Event) (table : List (Option O
 
         to : SettledTo o table (λ l. Unit {0}) y first
         to = settled_to o table (λ l. Unit {0}) after.between y first after.settles
-            (reads_taken o table lane x after.between is.position after.takes is.reads effect.reply effect.next
-            effect.may effect.step (kinds_then o table lane x after.between is.position after.takes is.reads
-            effect.reply effect.next effect.may effect.step lawful awaited after.frees))
+            (reads_taken o table after.takes is.reads effect.may effect.step
+            (come_free o table after.takes is.reads effect.may effect.step lawful awaited after.frees).kinds)
 
         asks : is.position.lanes lane ≡ Asks (call_of after.takes.begun.asks)
-        asks = asks_at o table x is.position is.reads lane after.takes.begun after.takes.is_open after.takes.free
+        asks = asks_at o table is.reads lane after.takes.begun after.takes.is_open after.takes.free
 
         own : Option ℕ → Move
         own None = taking (taken_when (length past) (lane, effect.reply))
@@ -334,21 +325,7 @@ module _ {S : Type 0} (o : Judged S) (table : List (Option OpenCall)) where
           (newest a b (Comes link) before noted on) (then_traced past before on from)))
 
   -- a position is added as it is; or fixed; or where a call was hidden, or took effect
-  pub noted_itself : (p : Position) (trail : Trail) (xs ys : List Position) → ys ≡ xs ++ p ∷ [] →
-      AreNoted o table (λ (x : Position). x ≡ p) trail trail xs ys
-  noted_itself p trail xs ys pushed = record {
-    on = refl;
-    stay = λ past before on from x is. is;
-    each = λ past before on from x among. by past before (from p refl) x (Contains-push_cases xs p x
-        (subst (λ (zs : List Position). Contains zs x) pushed among));
-  }
-    where
-      by : (past : List Event) (before : List Entry) → IsTracedIn o past table before trail p → (x : Position) →
-          Contains xs x ⊎ (p ≡ x) →
-          Contains xs x ⊎ IsTracedIn o past table before trail x
-      by past before is x (inl among) = inl among
-      by past before is x (inr same) = inr (subst (λ (y : Position). IsTracedIn o past table before trail y) same is)
-
+  -- a position is added fixed; or where a call was hidden, or took effect
   pub fix_noted : (lane : ℕ) (p q : Position) → IsFixed lane p q → (a b : Trail) (xs ys : List Position) →
       ys ≡ xs ++ q ∷ [] → HasNoted a b (Comes (record { way = Fixes; lane = lane; from = p; to = q })) →
       AreNoted o table (λ (x : Position). x ≡ p) a b xs ys

@@ -7,6 +7,7 @@ use Rattle.std.specs.List.{All}
 use Rattle.std.proofs.lemmas.Bool.{and_parts, cases_eq, eq-eqb}
 use Rattle.std.proofs.lemmas.Option.{none-some}
 use Rattle.std.proofs.lemmas.List.Elements.{All-cons, All-nil, All-head, All-tail, All-weaker}
+use Rattle.std.specs.Cmp.Derive.{both_true}
 use Rattle.stamp_core.specs.declared.call.Call.{Call}
 use Rattle.stamp_core.specs.declared.reply.Reply.{Reply}
 use Rattle.stamp_core.specs.declared.reply.Reply.TheVariants.{Done}
@@ -120,11 +121,6 @@ eq_not a b apart = by (a == b) refl
     by true is = absurd (apart (eqb-true a b is))
     by false is = refl
 
-both : (a b : Bool) → a ≡ true → b ≡ true → (a && b) ≡ true
-both true true one other = refl
-both true false one other = other
-both false b one other = one
-
 -- so is a lane among the readers of a link
 pub record ReadsIn (link : Link) (v : ℕ) : Type 0 where
   pub apart : v ≢ link.lane
@@ -143,9 +139,7 @@ reader_in link v is =
     }
 
 in_reader : (link : Link) (v : ℕ) → ReadsIn link v → is_reader link v ≡ true
-in_reader link v is = both (not (v == link.lane))
-    ((bit_at link.to.in_effect v == 1) && (bit_at link.from.in_effect v == 0)) (eq_not v link.lane is.apart)
-    (both (bit_at link.to.in_effect v == 1) (bit_at link.from.in_effect v == 0)
+in_reader link v is = both_true (eq_not v link.lane is.apart) (both_true
     (eq-eqb (bit_at link.to.in_effect v) 1 is.taken) (eq-eqb (bit_at link.from.in_effect v) 0 is.waited))
 
 -- the readers of a link, each with its reply
@@ -248,10 +242,9 @@ module _ {S : Type 0} (o : Judged S) (table : List (Option OpenCall)) (full : le
         known : (begun : OpenCall) → open_at table v ≡ Some begun →
             (at : (to.then.lanes v ≡ first.lanes v) ⊎
             WasSeen o.step Lane next v (first.lanes v) (to.then.lanes v)) → ReadsAt (v, told_by v at)
-        known begun is_open (inl still) = absurd (asks_or_gets
-            (still ∙ (sets_of p.lanes lane (Gets reply)).others v is.apart ∙
-            asks_at o table x p reads v begun is_open is.waited)
-            (gets_at o table z to.then to.reads v begun is_open took).gets)
+        known begun is_open (inl still) = absurd (asks_or_gets (still ∙ (sets_of p.lanes lane (Gets reply)).others v
+            is.apart ∙ asks_at o table reads v begun is_open is.waited) (gets_at o table to.reads v begun is_open
+            took).gets)
         known begun is_open (inr was) = record {
           read = record { call = was.call; asks = was.asks; step = was.step; gets = was.gets };
           among = was.among;
@@ -270,7 +263,7 @@ module _ {S : Type 0} (o : Judged S) (table : List (Option OpenCall)) (full : le
       (let low = open_at_within table v asked.begun asked.is_open in omega (arith, low, full)),
       record {
         apart = apart;
-        taken = subst (λ (n : ℕ). bit_at n v ≡ 1) (sym same) (taken_at o table z to.then to.reads v asked.begun
+        taken = subst (λ (n : ℕ). bit_at n v ≡ 1) (sym same) (taken_at o table to.reads v asked.begun
             asked.is_open was.reply was.gets);
         waited = asked.free;
       },
@@ -281,8 +274,7 @@ module _ {S : Type 0} (o : Judged S) (table : List (Option OpenCall)) (full : le
             (sets_of p.lanes lane (Gets reply)).here)
 
         asked : AsksIn (open_at table v) (bit_at x.in_effect v) was.call
-        asked = asked_at o table x p reads v was.call (sym ((sets_of p.lanes lane (Gets reply)).others v apart) ∙
-            was.asks)
+        asked = asked_at o table reads v was.call (sym ((sets_of p.lanes lane (Gets reply)).others v apart) ∙ was.asks)
 
     -- the readers in turn
     pub record AreRead : Type 0 where

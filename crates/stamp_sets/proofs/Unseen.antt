@@ -8,9 +8,8 @@ use Rattle.stamp_core.specs.declared.reply.Reply.{Reply}
 use Rattle.stamp_runs.specs.Object.{Object}
 use Rattle.stamp_runs.specs.Run.{Lanes, Phase}
 use Rattle.stamp_runs.specs.Run.Phase.{Asks, Gets}
-use Rattle.stamp_runs.specs.Watching.{Told}
 use Rattle.stamp_runs.specs.Watching as watched
-use Rattle.stamp_runs.specs.Position.{Hidden, Overwrites, OverwritesNever, ReadsOrOverwrites}
+use Rattle.stamp_runs.specs.Position.{Hidden, Overwrites, ReadsOrOverwrites}
 use Rattle.stamp_runs.specs.Position as run
 use Rattle.stamp_runs.specs.Position.Hidden.{no_more, overwrites, sees}
 use Rattle.stamp_runs.specs.Returning.{Comes, Effect, IsHiddenWith, IsReached, IsToldReader, Return}
@@ -49,8 +48,8 @@ reader_returns o begun is never = by begun.ends (Returns is.told is.place) is.en
     by : (a b : Ending) → a ≡ b → a ≡ Never → ⊥
     by a b same none = cc
 
-module _ {S : Type 0} (o : Judged S) (lawful : IsLawful o) (table : List (Option OpenCall)) (x y : Position)
-    (p : run.Position S) (reads : Reads o table x p) (source number : ℕ) (begun : OpenCall)
+module _ {S : Type 0} (o : Judged S) (lawful : IsLawful o) (table : List (Option OpenCall)) {x y : Position}
+    {p : run.Position S} (reads : Reads o table x p) {source number : ℕ} {begun : OpenCall}
     (is_open : open_at table source ≡ Some begun) (leaves : o.overwrites begun ≡ Some number)
     (free : bit_at x.free source ≡ 1) (hides : IsHidden o table source number x y) where
   abbrev pub over : IsOverwriting o begun number
@@ -66,7 +65,7 @@ module _ {S : Type 0} (o : Judged S) (lawful : IsLawful o) (table : List (Option
   waits v is = (reads.kinds v is).waits
 
   pub asks : p.lanes source ≡ Asks (call_of begun.asks)
-  asks = asks_at o table x p reads source begun is_open (waits source free)
+  asks = asks_at o table reads source begun is_open (waits source free)
 
   -- as if it had taken effect in sight
   abbrev pub shown : run.Position S
@@ -108,8 +107,7 @@ module _ {S : Type 0} (o : Judged S) (lawful : IsLawful o) (table : List (Option
       (λ v is. (reads.free v).1 (was_free v ((set_bit hides.there.free v).0 (to.fewer v is))).1)
 
   gets : to.then.lanes source ≡ Gets over.reply
-  gets = gets_still o table source (shown.lanes source) (to.then.lanes source) (to.lanes source) over.reply
-      (sets_of p.lanes source (Gets over.reply)).here
+  gets = gets_still o table (to.lanes source) over.reply (sets_of p.lanes source (Gets over.reply)).here
 
   -- what another free call becomes that reads
   pub reader_answered : (v : ℕ) (b : OpenCall) (reply : Reply) → v ≢ source → bit_at x.free v ≡ 1 →
@@ -125,19 +123,16 @@ module _ {S : Type 0} (o : Judged S) (lawful : IsLawful o) (table : List (Option
           (subst (λ (n : ℕ). o.holds n over.next) (sym hides.at) over.holds) may step).0)
 
   abbrev readers : ℕ → Bool
-  readers = λ v. pick (cases_eq v source) false (is_reader o table v (shown.lanes v) (to.then.lanes v) (to.lanes v))
+  readers = λ v. pick (cases_eq v source) false (is_reader o table (to.lanes v))
 
   abbrev told : ℕ → Reply
-  told = λ v. told_of o table v (shown.lanes v) (to.then.lanes v) (to.lanes v)
+  told = λ v. told_of o table (to.lanes v)
 
   read_apart : (v : ℕ) → readers v ≡ true → v ≢ source
-  read_apart v is same = true_or_false is (picks_first (cases_eq v source) false
-      (is_reader o table v (shown.lanes v) (to.then.lanes v) (to.lanes v)) same)
+  read_apart v is same = true_or_false is (picks_first (cases_eq v source) false (is_reader o table (to.lanes v)) same)
 
-  read_is : (v : ℕ) → v ≢ source →
-      readers v ≡ is_reader o table v (shown.lanes v) (to.then.lanes v) (to.lanes v)
-  read_is v apart = picks_second (cases_eq v source) false
-      (is_reader o table v (shown.lanes v) (to.then.lanes v) (to.lanes v)) apart
+  read_is : (v : ℕ) → v ≢ source → readers v ≡ is_reader o table (to.lanes v)
+  read_is v apart = picks_second (cases_eq v source) false (is_reader o table (to.lanes v)) apart
 
   before_is : (v : ℕ) → v ≢ source → shown.lanes v ≡ p.lanes v
   before_is v apart = (sets_of p.lanes source (Gets over.reply)).others v apart
@@ -150,7 +145,7 @@ module _ {S : Type 0} (o : Judged S) (lawful : IsLawful o) (table : List (Option
         ReadsOrOverwrites o.step e.told over.next readers v call
     free_kinds v call is asks_it apart = record {
       which = which (kind_of o lawful it.begun it.kind);
-      apart = λ read. reader_apart o table v (shown.lanes v) (to.then.lanes v) (to.lanes v)
+      apart = λ read. reader_apart o table (to.lanes v)
           (sym (read_is v apart) ∙ read) call (before_is v apart ∙ asks_it);
     }
       where
@@ -161,7 +156,7 @@ module _ {S : Type 0} (o : Judged S) (lawful : IsLawful o) (table : List (Option
         it = reads.kinds v bit
 
         its : call_of it.begun.asks ≡ call
-        its = one_call (asks_at o table x p reads v it.begun it.is_open it.waits) asks_it
+        its = one_call (asks_at o table reads v it.begun it.is_open it.waits) asks_it
 
         which : ((n : ℕ) × (o.overwrites it.begun ≡ Some n)) ⊎
             ((o.overwrites it.begun ≡ None) × (reads_only it.begun ≡ true)) →
@@ -170,13 +165,12 @@ module _ {S : Type 0} (o : Judged S) (lawful : IsLawful o) (table : List (Option
             readers v ≡ true)
         which (inl some) = let is = overwriting_to o lawful it.begun some.0 some.1 in
             inl (is.reply, is.next, subst (λ (c : Call). Overwrites o.step c is.reply is.next) its is.overwrites)
-        which (inr none) = inr (λ reply step may. read_is v apart ∙ reader_if o table v (shown.lanes v)
-            (to.then.lanes v) (to.lanes v) call (answer reply step may).reply (before_is v apart ∙ asks_it)
-            (answer reply step may).gets)
+        which (inr none) = inr (λ reply step may. read_is v apart ∙ reader_if o table (to.lanes v) call (answer reply
+            step may).reply (before_is v apart ∙ asks_it) (answer reply step may).gets)
           where
             answer : (reply : Reply) → o.step over.next call reply over.next → watched.MayGet (e.told v) reply →
                 InEffect it.begun (bit_at hides.then.in_effect v) (to.then.lanes v)
-            answer reply step may = gets_at o table hides.then to.then to.reads v it.begun it.is_open
+            answer reply step may = gets_at o table to.reads v it.begun it.is_open
                 (reader_answered v it.begun reply apart bit it.is_open none.1 (may_as v it.begun reply it.is_open may)
                 (subst (λ (c : Call). o.step over.next c reply over.next) (sym its) step))
 
@@ -189,23 +183,18 @@ module _ {S : Type 0} (o : Judged S) (lawful : IsLawful o) (table : List (Option
         state = refl;
         shows = record {
           here = gets;
-          readers_get = λ v apart is. reader_reads o table v (shown.lanes v) (to.then.lanes v) (to.lanes v)
-              (sym (read_is v apart) ∙ is);
-          others = λ v apart not. other_stays o table v (shown.lanes v) (to.then.lanes v) (to.lanes v)
-              (sym (read_is v apart) ∙ not) ∙ before_is v apart;
+          readers_get = λ v apart is. reader_reads o table (to.lanes v) (sym (read_is v apart) ∙ is);
+          others = λ v apart not. other_stays o table (to.lanes v) (sym (read_is v apart) ∙ not) ∙ before_is v apart;
         };
-        free = λ v apart not is. to.stay v (other_stays o table v (shown.lanes v) (to.then.lanes v) (to.lanes v)
-            (sym (read_is v apart) ∙ not)) ((set_bit hides.there.free v).1
-            (hides.clears.others v apart ∙ (reads.free v).0 is));
+        free = λ v apart not is. to.stay v (other_stays o table (to.lanes v) (sym (read_is v apart) ∙ not)) ((set_bit
+            hides.there.free v).1 (hides.clears.others v apart ∙ (reads.free v).0 is));
         overwrites = λ c asks_it. subst (λ (d : Call). Overwrites o.step d over.reply over.next)
             (one_call asks asks_it) over.overwrites;
         each = λ v c is asks_it apart. free_kinds v c is asks_it apart;
       };
-      apart = picks_first (cases_eq source source) false
-          (is_reader o table source (shown.lanes source) (to.then.lanes source) (to.lanes source)) refl;
-      each = λ v is. subst (λ (phase : Phase). IsToldReader o.step (Comes e) v (told v) phase)
-          (before_is v (read_apart v is)) (reader_told o table (Comes e) ends v (shown.lanes v) (to.then.lanes v)
-          (to.lanes v) (sym (read_is v (read_apart v is)) ∙ is));
+      apart = picks_first (cases_eq source source) false (is_reader o table (to.lanes source)) refl;
+      each = λ v is. subst (λ (phase : Phase). IsToldReader o.step (Comes e) v (told v) phase) (before_is v (read_apart
+          v is)) (reader_told o table (Comes e) ends (to.lanes v) (sym (read_is v (read_apart v is)) ∙ is));
     }
 
     pub hidden_with : (z : Effect S) → source ≡ z.lane → over.reply ≡ z.reply → over.next ≡ z.next →

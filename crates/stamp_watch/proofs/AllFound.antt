@@ -1,16 +1,14 @@
 -- All replies that are possible, found by their numbers.
-use Rattle.std.proofs.Common.{ℕ, ◌≡◌, ◌≢◌, ◌⊎◌, ◌<◌, ◌≤◌, ◌==◌, Bool, List, [], ◌∷◌}
-use Rattle.std.proofs.Common.{◌++◌, length, Some, get_or, refl, sym}
+use Rattle.std.proofs.Common.{ℕ, ◌≡◌, ◌≢◌, ◌⊎◌, Bool, List, [], ◌∷◌}
+use Rattle.std.proofs.Common.{◌++◌, length, get_or, sym}
 use Rattle.std.proofs.Common.{◌∙◌, ap, subst, arith, inl, inr}
 use Rattle.std.specs.Prelude.{map, if◌then◌else◌}
 use Rattle.std.specs.List.{All, AllPairs, Contains}
 use Rattle.std.proofs.Math.Seq.{get_or-append_seam}
 use Rattle.std.proofs.lemmas.List.{get_or-map, get_or_append_left, length-append, length-map}
-use Rattle.std.proofs.lemmas.List.Elements.{All-contains, All-nil, All-push, All-weaker, Contains-append_left}
+use Rattle.std.proofs.lemmas.List.Elements.{All-nil, All-push, All-weaker, Contains-append_left}
 use Rattle.std.proofs.lemmas.List.Elements.{Contains-push, Contains-push_cases}
 use Rattle.std.proofs.lemmas.List.Quantifiers.{all_pairs_push}
-use Rattle.stamp_core.specs.LockDecision.{reply_as}
-use Rattle.stamp_core.specs.declared.lock_decision.LockReply.{LockReply}
 use Rattle.stamp_core.specs.declared.reply.Reply.{Reply}
 use Rattle.stamp_core.specs.declared.reply.Reply.TheVariants as reply
 use Rattle.stamp_explain.specs.Observed.{ObservedHistory}
@@ -29,10 +27,8 @@ use Rattle.stamp_runs.specs.Names.{EachOfReply}
 use Rattle.stamp_watch.specs.Names.{name_in}
 use Rattle.stamp_watch.specs.ReplyLaws.{IsContentOf}
 use Rattle.stamp_watch.specs.declared.trial.Trial.{Trial}
-use Rattle.stamp_watch.specs.inner.Names.{IsReplyBy}
-use Rattle.stamp_watch.specs.inner.Trial.{AreFound, IsFoundIn, IsFoundReply, IsReplyIn, IsTold, IsTrialAt}
-use Rattle.stamp_watch.proofs.Named.{content_told, names_differ}
-use Rattle.stamp_watch.proofs.TriedReplies.{known_if_possible, no_content, reply_by_number}
+use Rattle.stamp_watch.specs.inner.Trial.{AreFound, IsFoundIn, IsFoundReply, IsReplyIn, IsTrialAt}
+use Rattle.stamp_watch.proofs.TriedReplies.{known_if_possible, no_content, one_told, reply_by_number}
 use Rattle.stamp_watch.proofs.Trying.{explained_by_name, name_for, not_zero}
 
 -- where no two of a mapped list are the same, no two of the list are
@@ -43,27 +39,6 @@ differ_unmapped {X} {Y} f (x ∷ xs) all = pairs_cons (λ (a b : X). a ≢ b) x 
     (λ k d lt same. pairs_head (λ (a b : Y). a ≢ b) (f x) (map f xs) all k (f d) (omega (arith, lt, length-map xs f))
     (ap f same ∙ sym (get_or-map f xs k d (f d) lt)))
     (differ_unmapped f xs (pairs_tail (λ (a b : Y). a ≢ b) (f x) (map f xs) all))
-
--- a reply without a content is told by itself
-plain_is : (contents : List (List ℕ)) (answer : LockReply) (told : Reply) →
-    IsReplyBy contents told (given.OfLock answer) → told ≡ reply_as answer
-plain_is contents answer (reply.Content words) is = absurd (no_content answer (name_in contents words) is.small_is)
-plain_is contents answer (reply.Stamp s) is = sym is.small_is
-plain_is contents answer reply.Yes is = sym is.small_is
-plain_is contents answer reply.No is = sym is.small_is
-plain_is contents answer reply.Done is = sym is.small_is
-plain_is contents answer reply.Mismatch is = sym is.small_is
-plain_is contents answer (reply.Count n) is = sym is.small_is
-
--- one number tells one reply
-one_told : (contents : List (List ℕ)) (told other : Reply) (small : SmallReply) → IsReplyBy contents told small →
-    IsReplyBy contents other small → told ≡ other
-one_told contents told other (given.OfLock answer) is its =
-    plain_is contents answer told is ∙ sym (plain_is contents answer other its)
-one_told contents told other (given.Content n) is its =
-    let one = content_told contents told n is in
-    let two = content_told contents other n its in
-    one.1.0 ∙ ap reply.Content (names_differ contents one.0 two.0 (one.1.1 ∙ sym two.1.1)) ∙ sym two.1.0
 
 before_last : {X : Type 0} (xs : List X) (x : X) → AllPairs (λ (a b : X). a ≢ b) (xs ++ x ∷ []) → (y : X) →
     Contains xs y → y ≢ x

@@ -1,21 +1,13 @@
 -- All replies that are possible, found by their numbers.
-use Rattle.std.proofs.Common.{ℕ, ◌≡◌, ◌≢◌, ◌<◌, ◌≤◌, ◌+◌, ◌==◌, Bool, true, false, List}
-use Rattle.std.proofs.Common.{[], ◌∷◌, ◌++◌, length, Option, Some}
-use Rattle.std.proofs.Common.{None, get_or, refl, sym, ◌∙◌, ap, subst, arith, inl, inr, ◌⊎◌}
-use Rattle.std.specs.Prelude.{map, take, if◌then◌else◌}
-use Rattle.std.specs.List.{All, AllPairs, Contains}
-use Rattle.std.proofs.lemmas.List.{length-append}
-use Rattle.std.proofs.lemmas.List.Elements.{All-contains, All-nil, All-push, All-weaker}
+use Rattle.std.proofs.Common.{ℕ, ◌≢◌, List}
+use Rattle.std.proofs.Common.{[]}
+use Rattle.std.specs.List.{Contains}
+use Rattle.std.proofs.lemmas.List.Elements.{All-nil}
 use Rattle.stamp_core.specs.declared.reply.Reply.{Reply}
-use Rattle.stamp_core.specs.declared.reply.Reply.TheVariants as reply
-use Rattle.stamp_core.specs.declared.lock_decision.LockReply.TheVariants as own
 use Rattle.stamp_explain.specs.Observed.{ObservedHistory}
 use Rattle.stamp_explain.specs.Possible.{AreAllPossible, ArePossible, IsPossible}
 use Rattle.stamp_explain.proofs.Choosing.{AreChosen}
-use Rattle.stamp_explain.proofs.Lists.{contains_from_map, none_in_empty, pairs_none}
-use Rattle.stamp_sets.specs.SmallCall.{reply_of}
-use Rattle.stamp_sets.specs.declared.small_call.SmallReply.{SmallReply}
-use Rattle.stamp_sets.specs.declared.small_call.SmallReply.TheVariants as given
+use Rattle.stamp_explain.proofs.Lists.{none_in_empty, pairs_none}
 
 -- where no reply is possible none is found
 pub none_possible : (h : ObservedHistory) (i : ℕ) (tried : List Reply) → ((r : Reply) → ¬ IsPossible h i r) →

@@ -5,8 +5,8 @@ use Rattle.std.specs.List.{All, AllPairs, AllZip, Contains}
 use Rattle.std.proofs.lemmas.List.{take-map, length-take}
 use Rattle.std.proofs.lemmas.List.Kept.{AllPairs-cons}
 use Rattle.std.proofs.lemmas.List.Elements.{All-cons, All-head, All-nil, All-tail, All-weaker}
-use Rattle.std.proofs.lemmas.Option.{get_or_from_slice_get, slice_get_within}
 use Rattle.stamp_core.specs.Content.{zeros}
+use Rattle.stamp_explain.proofs.Lists.{contains_at}
 use Rattle.stamp_explain.proofs.Lists.{pairs_none}
 use Rattle.stamp_explain.specs.declared.observed.Observation.{Observation}
 use Rattle.stamp_explain.specs.declared.observed.Returned.{Returned}
@@ -63,9 +63,6 @@ points_rise {n = n} {order = order} (by_next event happens rest) = (
 )
 
 -- what a list has at a number stands in it
-pub has_at : {X : Type 0} (xs : List X) (k : ℕ) (x : X) → slice_get xs k ≡ Some x → Contains xs x
-has_at xs k x at = (k, slice_get_within xs k x at, get_or_from_slice_get xs k x x at)
-
 module _ (h : ObservedHistory) (observed : IsObserved h) (moments : List Moment) (events : List Event)
     (of : AreEventsOf h moments events) (k : ℕ) (entries : List Observation)
     (are : AreChosen (IsCutEntry h observed moments events of k) h.entries entries)
@@ -92,7 +89,7 @@ module _ (h : ObservedHistory) (observed : IsObserved h) (moments : List Moment)
     taken_there x y is low taken = record {
       lane = its.thread ∙ taken.lane;
       began = subst (λ (i : ℕ). Contains (take x.point moments) (beginning_of i c)) (sym (index_of y))
-          (has_at (take x.point moments) y.entry.first (beginning_of y.index c)
+          (contains_at (take x.point moments) y.entry.first (beginning_of y.index c)
           (take_has x.point y.entry.first moments (beginning_of y.index c) taken.began its.first));
       still_open = λ r has. returns r (subst (λ (i : ℕ). Contains (take x.point moments) (return_of i r))
           (index_of y) has);

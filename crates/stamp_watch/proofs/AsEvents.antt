@@ -9,7 +9,7 @@ use Rattle.std.proofs.lemmas.Option.{none-some, same_Some, slice_get_within}
 use Rattle.std.proofs.lemmas.Slice.Zip.{AllZip-long}
 use Rattle.stamp_explain.specs.declared.observed.Observation.{Observation}
 use Rattle.stamp_explain.specs.declared.observed.Returned.{Returned}
-use Rattle.stamp_explain.specs.Observed.{ObservedHistory, observed_as, IsObserved, IsReturnAt}
+use Rattle.stamp_explain.specs.Observed.{ObservedHistory, observed_as, IsObserved}
 use Rattle.stamp_explain.specs.Explained.{IsExplained}
 use Rattle.stamp_explain.specs.Cut.{IsStuck, cut, cut_after, cut_entries, cut_entry, returned_by}
 use Rattle.stamp_watch.proofs.Corresponding.{positions_tell_order}
@@ -240,23 +240,13 @@ module _ (h : ObservedHistory) (observed : IsObserved h) (moments : List Moment)
 pub explained_as_events : ExplainedAsEvents
 explained_as_events h moments events observed of = explained_so h observed moments events of
 
--- up to a return, with it, a history is explained exactly where the run is
-pub returned_as_events : (h : ObservedHistory) (moments : List Moment) (events : List Event) (i k : ℕ)
-    (at : IsReturnAt h.entries i) → IsObserved h → AreEventsOf h moments events →
-    slice_get moments k ≡ Some (return_of i at.return) →
-    IsExplained (cut_after at.return i h) ↔
-    AreExplainedFrom (Both h.limits) (state_at_first h) (take (k + 1) events)
-returned_as_events h moments events i k at observed of at_k = subst (λ (n : ℕ). IsExplained (cut_after at.return i h) ↔
-    AreExplainedFrom (Both h.limits) (state_at_first h) (take n events)) (sym (add-one k))
-    (cut_at h observed moments events of at.return.last (i + 1) (suc k)
-    (tells_after h observed moments events of i k at.return at_k))
-
 -- with the return of a call a history is explained as the run is up to there
-pub cut_with_return : (h : ObservedHistory) (observed : IsObserved h) (moments : List Moment) (events : List Event)
+pub returned_as_events : (h : ObservedHistory) (observed : IsObserved h) (moments : List Moment) (events : List Event)
     (of : AreEventsOf h moments events) (i k : ℕ) (r : Returned) → slice_get moments k ≡ Some (return_of i r) →
-    IsExplained (cut r.last (i + 1) h) ↔ AreExplainedFrom (Both h.limits) (state_at_first h) (take (suc k) events)
-cut_with_return h observed moments events of i k r there =
-    cut_at h observed moments events of r.last (i + 1) (suc k) (tells_after h observed moments events of i k r there)
+    IsExplained (cut_after r i h) ↔ AreExplainedFrom (Both h.limits) (state_at_first h) (take (k + 1) events)
+returned_as_events h observed moments events of i k r there = subst (λ (n : ℕ). IsExplained (cut_after r i h) ↔
+    AreExplainedFrom (Both h.limits) (state_at_first h) (take n events)) (sym (add-one k))
+    (cut_at h observed moments events of r.last (i + 1) (suc k) (tells_after h observed moments events of i k r there))
 
 -- a history is stuck at an entry where it is explained before its return, and not with it
 pub stuck_as_events : StuckAsEvents
@@ -269,13 +259,11 @@ stuck_as_events h moments events i k at observed of at_k = (there, back)
 
     after : IsExplained (cut_after at.return i h) ↔
         AreExplainedFrom (Both h.limits) (state_at_first h) (take (k + 1) events)
-    after = returned_as_events h moments events i k at observed of at_k
+    after = returned_as_events h observed moments events of i k at.return at_k
 
     there : IsStuck h i → AreStuckFrom (Both h.limits) (state_at_first h) events k
     there stuck =
-        let entry = same_Some stuck.at.entry at.entry (sym stuck.at.is_entry ∙ at.is_entry) in
-        let same : stuck.at.return ≡ at.return = same_Some stuck.at.return at.return (sym stuck.at.returned ∙
-        ap (λ (e : Observation). e.returned) entry ∙ at.returned) in
+        let same : stuck.at.return ≡ at.return = cc in
         record {
           explained = before.0 (subst (λ (r : Returned). IsExplained (cut r.last i h)) same stuck.explained);
           stuck = λ way. stuck.stuck (subst (λ (r : Returned). IsExplained (cut r.last (i + 1) h)) (sym same)

@@ -17,6 +17,7 @@ use Rattle.stamp_explain.specs.declared.observed.Observation.{Observation}
 use Rattle.stamp_explain.specs.Observed.{HasReturned, observed_as}
 use Rattle.stamp_explain.specs.Explained.{Effect, IsEffectOf, history_of, indices_of, IsExplained}
 use Rattle.stamp_explain.specs.inner.States.{Runs, StateTransition, after_call}
+use Rattle.stamp_explain.proofs.Lists.{contains_at}
 use Rattle.stamp_explain.proofs.Lists.{none_in_empty, contains_cases, contains_first, contains_rest}
 use Rattle.stamp_explain.proofs.Entries.{same_entry}
 use Rattle.stamp_explain.proofs.Legal.{legal_runs, runs_legal}
@@ -36,7 +37,7 @@ use Rattle.stamp_runs.proofs.OwnEvents.{none_idle}
 use Rattle.stamp_watch.specs.AsObserved.{entries_from}
 use Rattle.stamp_watch.specs.Ordered.{Explains}
 use Rattle.stamp_watch.specs.WatchLaws.{ExplainedAsObserved, OrderExplains, TracesExplain}
-use Rattle.stamp_watch.proofs.Numbered.{contains_at, own_firsts}
+use Rattle.stamp_watch.proofs.Numbered.{own_firsts}
 use Rattle.stamp_watch.proofs.Remaining.{IsAhead, ahead_at_first}
 use Rattle.stamp_watch.proofs.Remaining.IsAhead.{of_later}
 use Rattle.stamp_watch.proofs.Planning.{AnswersOf, entries_of, IsLate, IsPlanned, planned}

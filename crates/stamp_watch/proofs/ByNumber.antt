@@ -90,10 +90,7 @@ entry_begins n (Begins lane call ∷ events) e has = by (in_with_entry lane call
       is = is;
     }
     by (inr later) more = begins_past n (Begins lane call) events e (more later)
-entry_begins n (Returns lane reply ∷ events) e has =
-    begins_past n (Returns lane reply) events e (entry_begins (n + 1) events e has)
-entry_begins n (Withdraws lane ∷ events) e has =
-    begins_past n (Withdraws lane) events e (entry_begins (n + 1) events e has)
+entry_begins n (which ∷ events) e has = begins_past n which events e (entry_begins (n + 1) events e has)
 
 pub begins_entry : (n number first lane : ℕ) (call : Call) (events : List Event) (e : Observation) →
     first ≡ n + number → slice_get events number ≡ Some (Begins lane call) →

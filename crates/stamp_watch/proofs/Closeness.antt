@@ -66,8 +66,7 @@ ends_where_open : (calls : Calls) (lane : ℕ) (e : Event) → IsSome (calls lan
     IsEndOf lane e
 ends_where_open calls lane (Begins u call) taken same may =
     absurd (false≢true (sym (ap is_some may) ∙ ap (λ (v : ℕ). is_some (calls v)) same ∙ taken))
-ends_where_open calls lane (Returns u reply) taken same may = same
-ends_where_open calls lane (Withdraws u) taken same may = same
+ends_where_open calls lane _ taken same may = same
 
 next_ends : (calls : Calls) (lane : ℕ) (before : List Event) (e : Event) (after : List Event) → IsSome (calls lane) →
     IsSpared before lane → lane_of e ≡ lane → AreInFormFrom calls (before ++ e ∷ after) → IsEndOf lane e
@@ -239,8 +238,7 @@ past_first reach lane behind behind' aside aside' x rest none long is = by is.be
 
 no_end_of_beginning : (lane : ℕ) (x : Event) → IsBeginning x → IsEndOf lane x → ⊥
 no_end_of_beginning lane (Begins u call) begins ends = ends
-no_end_of_beginning lane (Returns u reply) begins ends = begins
-no_end_of_beginning lane (Withdraws u) begins ends = begins
+no_end_of_beginning lane _ begins ends = begins
 
 pub near_aside : (reach : ℕ) (given aside waiting rest : List Event) (x : Event) → waiting ≡ x ∷ rest → IsBeginning x →
     AreNear reach given aside waiting → AreNear reach given (aside ++ x ∷ []) rest
@@ -418,20 +416,14 @@ near_open reach k given aside waiting lanes are waits = by (drop k given) refl w
 module _ (limits : Bounds) (most reach : ℕ) where
   pub found_near : (events : List Event) → ((k : ℕ) → IsOpenFor events k reach → ⊥) → (v : Verdict) →
       IsFound limits events most (Some reach) v → IsFound limits events most None v
-  found_near events none verdict.Explained found = found
-  found_near events none (verdict.Stuck k) found = found
-  found_near events none (verdict.StuckWithin k m) found = found
   found_near events none (verdict.Undecided k cause.TooMany) found = found
   found_near events none (verdict.Undecided k cause.TooFar) found =
       absurd (none k (subst (λ (xs : List Event). IsOpenFor xs k reach) (append-nil events) (found []).2.0))
-  found_near events none (verdict.Broken k) found = found
+  found_near events none _ found = found
 
   pub rest_near : (events : List Event) → ((k : ℕ) → IsOpenFor events k reach → ⊥) → (v : Verdict) →
       IsRest limits events most (Some reach) v → IsRest limits events most None v
-  rest_near events none verdict.Explained rest = rest
-  rest_near events none (verdict.Stuck k) rest = rest
-  rest_near events none (verdict.StuckWithin k m) rest = rest
   rest_near events none (verdict.Undecided k cause.TooMany) rest = rest
   rest_near events none (verdict.Undecided k cause.TooFar) rest =
       found_near events none (verdict.Undecided k cause.TooFar) rest
-  rest_near events none (verdict.Broken k) rest = rest
+  rest_near events none _ rest = rest

@@ -27,10 +27,9 @@ same_allows : (o p : Option Returned) (reply : Reply) →
     option_map (λ (r : Returned). r.reply) o ≡ option_map (λ (r : Returned). r.reply) p →
     MatchOption o (Unit {0}) (λ (r : Returned). r.reply ≡ reply) →
     MatchOption p (Unit {0}) (λ (r : Returned). r.reply ≡ reply)
-same_allows None None reply same allows = tt
 same_allows None (Some r) reply same allows = absurd (none-some r.reply same)
-same_allows (Some q) None reply same allows = tt
 same_allows (Some q) (Some r) reply same allows = sym (same_Some q.reply r.reply same) ∙ allows
+same_allows _ None reply same allows = tt
 
 module _ (g h : ObservedHistory) (are : Correspond g h) where
   abbrev pub there : Effect → Effect

@@ -6,7 +6,7 @@ use Rattle.std.specs.List.{All}
 use Rattle.std.specs.Bool.{IsTrue}
 use Rattle.std.proofs.lemmas.Bool.{cases_eq, eq-eqb, eqb-true}
 use Rattle.std.proofs.lemmas.List.{get_or-set_same, get_or-set_other, length-set, length-replicate, get_or-replicate}
-use Rattle.std.proofs.lemmas.List.Elements.{All-cons, All-head, All-nil, All-push, All-tail}
+use Rattle.std.proofs.lemmas.List.Elements.{All-cons, All-head, All-nil, All-tail}
 use Rattle.std.proofs.lemmas.List.Sums.{sum_by-append, sum_by-cons}
 use Rattle.stamp_core.specs.declared.call.Call.{Call}
 use Rattle.stamp_runs.specs.Run.{lane_of}
@@ -73,36 +73,6 @@ first_counted old e rest d is first_is =
     let one : one_of (lane_of e) e ≡ 1 = one_here (lane_of e) e refl in omega (arith, here, same, all, one)
 
 module _ (old new : Waiting) (e : Event) (is : IsCounted old) where
-  -- one more waits
-  pub counted_push : lane_of e < 64 → new.events.items ≡ old.events.items ++ e ∷ [] →
-      new.counts ≡ set old.counts (lane_of e) (get_or old.counts (lane_of e) 0 + 1) → IsCounted new
-  counted_push low items_are counts_are = record {
-    lanes = subst (All (λ (d : Event). lane_of d < 64)) (sym items_are)
-        (All-push (λ (d : Event). lane_of d < 64) old.events.items e is.lanes low);
-    many = ap (λ (xs : List ℕ). length xs) counts_are ∙
-        length-set old.counts (lane_of e) (get_or old.counts (lane_of e) 0 + 1) ∙ is.many;
-    counts = λ lane d less. ap (λ (xs : List ℕ). get_or xs lane d) counts_are ∙ by lane d less
-        (cases_eq (lane_of e) lane) ∙
-        sym (count_behind lane old.events.items e) ∙ ap (λ (xs : List Event). count_of lane xs) (sym items_are);
-  }
-    where
-      by : (lane d : ℕ) → lane < 64 → (lane_of e ≡ lane) ⊎ (lane_of e ≢ lane) →
-          get_or (set old.counts (lane_of e) (get_or old.counts (lane_of e) 0 + 1)) lane d ≡
-          count_of lane old.events.items + one_of lane e
-      by lane d less (inl same) = ap (λ (n : ℕ). get_or (set old.counts (lane_of e)
-          (get_or old.counts (lane_of e) 0 + 1)) n d) (sym same) ∙
-          get_or-set_same old.counts (lane_of e) (get_or old.counts (lane_of e) 0 + 1) d
-          (let many : length old.counts ≡ 64 = is.many in omega (arith, many, low)) ∙
-          (let here : get_or old.counts (lane_of e) 0 ≡ count_of (lane_of e) old.events.items = is.counts (lane_of e) 0
-          low in
-          let one : one_of lane e ≡ 1 = one_here lane e same in
-          let there : count_of (lane_of e) old.events.items ≡ count_of lane old.events.items =
-          ap (λ (n : ℕ). count_of n old.events.items) same in omega (arith, here, one, there))
-      by lane d less (inr apart) = get_or-set_other old.counts (lane_of e) lane
-          (get_or old.counts (lane_of e) 0 + 1) d (λ is_it. apart (sym is_it)) ∙
-          (let here : get_or old.counts lane d ≡ count_of lane old.events.items = is.counts lane d less in
-          let none : one_of lane e ≡ 0 = one_elsewhere lane e apart in omega (arith, here, none))
-
   -- the first waits no longer
   module _ (first_is : old.events.items ≡ e ∷ new.events.items) where
     pub first_low : lane_of e < 64

@@ -10,7 +10,7 @@ use Rattle.std.proofs.Math.Seq.{drop-append_seam}
 use Rattle.stamp_core.specs.Limits.{AreInRange, Bounds}
 use Rattle.stamp_runs.specs.Run.{lane_of}
 use Rattle.stamp_runs.specs.declared.event.Event.{Event}
-use Rattle.stamp_runs.specs.declared.event.Event.TheVariants.{Begins, Returns, Withdraws}
+use Rattle.stamp_runs.specs.declared.event.Event.TheVariants.{Withdraws}
 use Rattle.stamp_watch.specs.Issued.{LosesNothing}
 use Rattle.stamp_watch.specs.Ahead.{IsSpared}
 use Rattle.stamp_watch.specs.declared.delay.Delay.{Delay}
@@ -51,15 +51,6 @@ room_of limits most ahead given judge n is less = record {
       judge_long limits most ahead given judge is none in omega (arith, long, less);
 }
 
-pub judge_known : (delay : Delay) → IsReady delay → IsJudgeOfSome delay.judge
-judge_known delay ready = record {
-  limits = ready.limits;
-  most = ready.most;
-  ahead = reach_of ready.ahead;
-  run = ready.delayed.given;
-  judge_of = ready.delayed.judge_of;
-}
-
 module _ (delay : Delay) (ready : IsReady delay) where
   pub given_of_all : length ready.delayed.given + length delay.aside.items ≡ delay.passed
   given_of_all = given_length (ready.ahead - 64) ready.run ready.delayed.given delay.aside.items
@@ -79,9 +70,8 @@ module _ (delay : Delay) (ready : IsReady delay) where
   }
 
 low_lane : (e : Event) → IsOfLane e → lane_of e < 64
-low_lane (Begins lane call) is = is.0
-low_lane (Returns lane reply) is = is.0
 low_lane (Withdraws lane) is = is
+low_lane _ is = is.0
 
 handed_as : (ahead : ℕ) (run given aside aside' waiting waiting' : List Event) (first first' : Option ℕ)
     (passed passed' : ℕ) → aside' ≡ aside → waiting' ≡ waiting → first' ≡ first → passed' ≡ passed →

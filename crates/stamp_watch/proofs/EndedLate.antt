@@ -42,24 +42,18 @@ module _ (limits : Bounds) (run given : List Event) (delay : Delay) (keeps : Kee
   before_late : (o : Option ℕ) → delay.first_late ≡ o → (v : Verdict) →
       ((k : ℕ) → v ≡ verdict.Stuck k → MatchOption o ⊤ (λ (first : ℕ). k < first)) →
       EndsInRun run delay.judge.course v
-  before_late o first_is verdict.Explained before = tt
   before_late o first_is (verdict.Stuck k) before = later_ended limits run delay k later
       (subst (λ (p : Option ℕ). MatchOption p ⊤ (λ (first : ℕ). k < first)) (sym first_is) (before k refl))
-  before_late o first_is (verdict.StuckWithin k m) before = tt
-  before_late o first_is (verdict.Undecided k why) before = tt
-  before_late o first_is (verdict.Broken k) before = tt
+  before_late o first_is _ before = tt
 
   by_late : (n : ℕ) → delay.first_late ≡ Some n → (v : Verdict) → RestsBefore v n ⊎ IsSettledFor aside shown v →
       EndsInRun run delay.judge.course v
-  by_late n first_is verdict.Explained is = tt
   by_late n first_is (verdict.Stuck k) (inl less) = later_ended limits run delay k later
       (subst (λ (p : Option ℕ). MatchOption p ⊤ (λ (first : ℕ). k < first)) (sym first_is) less)
   by_late n first_is (verdict.Stuck k) (inr is) = IfSome_then
       (ended_from delay.judge.course.first delay.judge.course.events.items k)
       (kept_ended limits given delay.judge.course k keeps) (settled k is)
-  by_late n first_is (verdict.StuckWithin k m) is = tt
-  by_late n first_is (verdict.Undecided k why) is = tt
-  by_late n first_is (verdict.Broken k) is = tt
+  by_late n first_is _ is = tt
 
   pub found_in_run : (first : Option ℕ) → delay.first_late ≡ first → (v : Verdict) (f : LateVerdict) →
       IsFindingOf aside shown first v f → EndsInRunLate run delay f

@@ -12,6 +12,7 @@ use Rattle.std.proofs.lemmas.Option.{get_or_from_slice_get, slice_get_within}
 use Rattle.stamp_explain.specs.declared.observed.Observation.{Observation}
 use Rattle.stamp_explain.specs.Observed.{ObservedHistory, IsBefore, IsObserved}
 use Rattle.stamp_explain.specs.Explained.{Effect, IsEffectOf, indices_of}
+use Rattle.stamp_explain.proofs.Lists.{contains_at}
 use Rattle.stamp_explain.proofs.Lists.{pairs_map}
 use Rattle.stamp_explain.specs.Cut.{cut_entry, returned_by}
 use Rattle.stamp_runs.specs.declared.event.Event.{Event}
@@ -26,7 +27,7 @@ use Rattle.stamp_watch.specs.Ordered.{ExplainsAt, IsTakenAt}
 use Rattle.stamp_watch.specs.inner.Ordering.{AreAlong, AreEntriesOf, IsLastBegun}
 use Rattle.stamp_sets.specs.Order.{effect_at}
 use Rattle.stamp_watch.proofs.LastBegun.{AreLastAt}
-use Rattle.stamp_watch.proofs.AlongMoments.{IsWithin, has_at, points_rise, points_within}
+use Rattle.stamp_watch.proofs.AlongMoments.{IsWithin, points_rise, points_within}
 use Rattle.stamp_watch.proofs.AsEvents.{cut_chosen}
 use Rattle.stamp_watch.proofs.ByNumber.{in_take, take_has}
 use Rattle.stamp_watch.proofs.Ranking.{apart, before_numbered, before_returned, begins_first, one_entry_at, one_number}
@@ -138,7 +139,7 @@ module _ (h : ObservedHistory) (observed : IsObserved h) (moments : List Moment)
                 let back = before_returned e f before in
                 let q = returned h observed moments events of y.index e back.0 its.is_entry back.1.0 in
                 let less = before_numbered h observed moments events of y.index j k q.0 f back.0 q.1 now.1 back.1.1 in
-                absurd (taken.still_open back.0 (has_at (take x.point moments) q.0 (return_of y.index back.0)
+                absurd (taken.still_open back.0 (contains_at (take x.point moments) q.0 (return_of y.index back.0)
                 (take_has x.point q.0 moments (return_of y.index back.0) (omega (arith, less, now.0)) q.1)))
 
     indices_are : (order : List Taken) (effects : List Effect) (indices : List ℕ) →
@@ -209,10 +210,3 @@ further {X} xs seen point low within =
 
 pub among : {X : Type 0} (P : X → Type 0) (xs : List X) (from n : ℕ) → All P xs → All P (take n (drop from xs))
 among P xs from n each = All-take P n (drop from xs) (All-drop P from xs each)
-
-pub zip_push : {X Y : Type 0} (R : X → Y → Type 0) (xs : List X) (ys : List Y) (x : X) (y : Y) → AllZip R xs ys →
-    R x y → AllZip R (xs ++ x ∷ []) (ys ++ y ∷ [])
-zip_push R [] [] x y zip is = (is, tt)
-zip_push R [] (v ∷ ys) x y zip is = absurd zip
-zip_push R (u ∷ xs) [] x y zip is = absurd zip
-zip_push R (u ∷ xs) (v ∷ ys) x y zip is = (zip.0, zip_push R xs ys x y zip.1 is)

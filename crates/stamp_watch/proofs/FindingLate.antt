@@ -223,9 +223,8 @@ module _ (limits : Bounds) (most ahead : ℕ) (run given aside waiting : List Ev
   why_late verdict.Explained n k tells rests not within more = absurd tells
   why_late (verdict.Stuck j) n k tells rests not within more = inr (one_unshown limits run more (ahead - 64) k aside
       waiting shown late (subst (λ (i : ℕ). ¬ IsSettled aside shown i) tells not) (omega (arith, within)))
-  why_late (verdict.StuckWithin j m) n k tells rests not within more = inl tt
-  why_late (verdict.Undecided j why) n k tells rests not within more = inl tt
   why_late (verdict.Broken j) n k tells rests not within more = absurd rests
+  why_late _ n k tells rests not within more = inl tt
 
   -- the run is stuck where it is with calls begun late, if it is shown by then that nothing is lost by those
   settled : (o : Option ℕ) → IsShownIfAny limits run given aside waiting o → (k : ℕ) → IsSettled aside o k →
@@ -258,7 +257,6 @@ module _ (limits : Bounds) (most ahead : ℕ) (run given aside waiting : List Ev
 
     settled_found : (w : Verdict) → IsFound limits given most None w → IsSettledFor aside shown w →
         IsLateFound limits run most ahead (finding.Is w)
-    settled_found verdict.Explained has none = absurd none
     settled_found (verdict.Stuck k) has is = settled shown shows k is
         (let within : k + 1 ≤ length given = cut_within given (k + 1) (has (stray ∷ [])).0 in
         let long : length (given ++ (aside ++ waiting)) ≡ length given + length (aside ++ waiting) =
@@ -267,9 +265,7 @@ module _ (limits : Bounds) (most ahead : ℕ) (run given aside waiting : List Ev
         (place_here k (place_given k (place_of limits given most 0 k (verdict.Stuck k) (has (stray ∷ [])) refl
         (omega arith)))).explained
         (has waiting).1.stuck
-    settled_found (verdict.StuckWithin k m) has none = absurd none
-    settled_found (verdict.Undecided k why) has none = absurd none
-    settled_found (verdict.Broken k) has none = absurd none
+    settled_found _ has none = absurd none
 
     pub found_by : (f : LateVerdict) → IsFindingOf aside shown first v f → IsLateFound limits run most ahead f
     found_by f by_it = by first is.first_is f by_it
@@ -317,18 +313,14 @@ module _ (limits : Bounds) (most ahead : ℕ) (run given aside waiting : List Ev
         IsVerdict limits (given ++ (aside ++ waiting)) most None w → RestsBefore w n →
         IsRest limits run most None w
     rest_before n less within same verdict.Explained has rests = (whole, explained_here has.1)
-    rest_before n less within same (verdict.Stuck k) has rests = rests_before limits run (given ++ (aside ++ waiting))
-        most n of_lanes_here less (same_here n within same) (verdict.Stuck k) (λ e. cc) rests has
-    rest_before n less within same (verdict.StuckWithin k m) has rests = rests_before limits run
-        (given ++ (aside ++ waiting)) most n of_lanes_here less (same_here n within same) (verdict.StuckWithin k m)
-        (λ e. cc) rests has
     rest_before n less within same (verdict.Undecided k why) has rests = absurd rests
     rest_before n less within same (verdict.Broken k) has rests =
         absurd (not_broken limits (given ++ (aside ++ waiting)) most k of_lanes_here has)
+    rest_before n less within same which has rests = rests_before limits run (given ++ (aside ++ waiting)) most n
+        of_lanes_here less (same_here n within same) which (λ e. cc) rests has
 
     settled_rest : (w : Verdict) → IsRest limits (given ++ (aside ++ waiting)) most None w →
         IsSettledFor aside shown w → IsRest limits run most None w
-    settled_rest verdict.Explained ends none = absurd none
     settled_rest (verdict.Stuck k) ends is = settled shown shows k is
         (let within : k + 1 ≤ length (given ++ (aside ++ waiting)) = cut_within (given ++ (aside ++ waiting)) (k + 1)
         (ends (stray ∷ [])).0 in
@@ -337,9 +329,7 @@ module _ (limits : Bounds) (most ahead : ℕ) (run given aside waiting : List Ev
         refl (omega arith))).explained
         (λ way. (ends []).1.stuck (subst (λ (xs : List Event). AreExplained limits (take (k + 1) xs))
         (sym (none_aside (settled_in k is)) ∙ sym (append-nil (given ++ (aside ++ waiting)))) way))
-    settled_rest (verdict.StuckWithin k m) ends none = absurd none
-    settled_rest (verdict.Undecided k why) ends none = absurd none
-    settled_rest (verdict.Broken k) ends none = absurd none
+    settled_rest _ ends none = absurd none
 
     pub rest_by : (f : LateVerdict) → IsFindingOf aside shown first v f → IsLateRest limits run most ahead f
     rest_by f by_it = by first is.first_is f by_it

@@ -1,19 +1,19 @@
 -- The contents that a legal history tells in replies.
-use Rattle.std.proofs.Common.{ℕ, ◌≡◌, ◌⊎◌, ◌≤◌, ◌<◌, ◌==◌, Bool, true, false, List, []}
+use Rattle.std.proofs.Common.{ℕ, ◌≡◌, ◌⊎◌, ◌≤◌, ◌==◌, Bool, true, false, List, []}
 use Rattle.std.proofs.Common.{◌∷◌, ◌++◌, length, Option, Some, None}
 use Rattle.std.proofs.Common.{◌+◌, zero, suc, refl, sym, ◌∙◌, ap, subst, arith, inl, inr}
 use Rattle.std.specs.Prelude.{◌&&◌, if◌then◌else◌, nat_lt, IsTrue, slice_get}
 use Rattle.std.specs.List.{All, Contains}
-use Rattle.std.proofs.lemmas.Bool.{false≢true}
+use Rattle.std.proofs.lemmas.Bool.{and_parts, false≢true}
 use Rattle.std.proofs.lemmas.Bool.Decides.{nat_tests}
 use Rattle.std.proofs.lemmas.List.{length-replicate}
 use Rattle.std.proofs.lemmas.List.Elements.{All-cons, All-contains, All-head, All-nil, All-tail, All-weaker}
 use Rattle.std.proofs.lemmas.Option.{MatchOption-at_some, none-some, same_Some}
 use Rattle.stamp_core.specs.LockEvent.{LockEvent, Counts, counts}
 use Rattle.stamp_core.specs.Limits.{Bounds}
-use Rattle.stamp_core.specs.Call.{call_suits, is_lock_call}
-use Rattle.stamp_core.specs.Content.{RecordReplies, content_next, same_words, zeros}
-use Rattle.stamp_core.specs.History.{History, IsLegalFrom, IsReply, Replies, appended_by}
+use Rattle.stamp_core.specs.Call.{call_suits}
+use Rattle.stamp_core.specs.Content.{content_next, same_words, zeros}
+use Rattle.stamp_core.specs.History.{IsLegalFrom, IsReply, Replies, appended_by}
 use Rattle.stamp_core.specs.Transition.{Transition, row, transition}
 use Rattle.stamp_core.specs.declared.call.Call.{Call}
 use Rattle.stamp_core.specs.declared.call.Call.TheVariants as call
@@ -22,8 +22,8 @@ use Rattle.stamp_core.specs.declared.reply.Reply.TheVariants as reply
 use Rattle.stamp_explain.specs.declared.observed.Observation.{Observation}
 use Rattle.stamp_explain.specs.declared.observed.Returned.{Returned}
 use Rattle.stamp_explain.specs.Cut.{cut, cut_entries, cut_entry, returned_by}
-use Rattle.stamp_explain.specs.Explained.{Effect, IsEffectOf, IsExplained, history_of, indices_of}
-use Rattle.stamp_explain.specs.Observed.{AllowsReply, ObservedHistory, IsObserved, IsReturnAt}
+use Rattle.stamp_explain.specs.Explained.{Effect, IsEffectOf, IsExplained, history_of}
+use Rattle.stamp_explain.specs.Observed.{ObservedHistory, IsReturnAt}
 use Rattle.stamp_explain.proofs.Lists.{at_index}
 use Rattle.stamp_explain.proofs.Lists.{contains_cases, contains_from_map, none_in_empty}
 use Rattle.stamp_runs.specs.Names.{EachOfReply}
@@ -51,26 +51,21 @@ yes_or_no true = refl
 yes_or_no false = refl
 
 row_plain : (l : Bounds) (c : Counts) (asked : Call) → HasPlain (row l c asked)
-row_plain l c call.TryWrite = either _ (has_own refl) (has_own refl)
-row_plain l c call.TryRead = either _ (has_own refl) (has_own refl)
 row_plain l c call.WriteLock = search (either, has_own, has_none)
 row_plain l c call.ReadLock = either _ (has_own refl) has_none
 row_plain l c call.Optimistic = has_own refl
 row_plain l c (call.Validate s) = has_own (yes_or_no _)
-row_plain l c (call.UnlockWrite s) = either _ (has_own refl) (has_own refl)
-row_plain l c (call.UnlockRead s) = either _ (has_own refl) (has_own refl)
 row_plain l c (call.Unlock s) = search (either, has_own)
 row_plain l c (call.ToWrite s) = search (either, has_own)
 row_plain l c (call.ToRead s) = search (either, has_own)
 row_plain l c (call.ToOptimistic s) = search (either, has_own)
-row_plain l c call.TryUnlockWrite = either _ (has_own refl) (has_own refl)
-row_plain l c call.TryUnlockRead = either _ (has_own refl) (has_own refl)
 row_plain l c call.IsWriteLocked = has_own (yes_or_no _)
 row_plain l c call.IsReadLocked = has_own (yes_or_no _)
 row_plain l c call.ReadCount = has_own refl
 row_plain l c call.Get = has_none
 row_plain l c (call.Put words) = has_none
 row_plain l c (call.PutIf expected words) = has_none
+row_plain l c _ = either _ (has_own refl) (has_own refl)
 
 plain_reply : (t : Option Transition) (r : Reply) → HasPlain t → Replies t r → TellsNone r
 plain_reply None r plain none = absurd none
@@ -78,20 +73,7 @@ plain_reply (Some t) r (has_own own) is = subst TellsNone is own
 
 none_foreign : (width : ℕ) (r : Reply) → TellsNone r → EachOfReply (IsContentOf width) r
 none_foreign width (reply.Content words) none = absurd (false≢true (sym none))
-none_foreign width (reply.Stamp s) none = tt
-none_foreign width reply.Yes none = tt
-none_foreign width reply.No none = tt
-none_foreign width reply.Done none = tt
-none_foreign width reply.Mismatch none = tt
-none_foreign width (reply.Count n) none = tt
-
-and_left : (a b : Bool) → (a && b) ≡ true → a ≡ true
-and_left true b is = refl
-and_left false b is = absurd (false≢true is)
-
-and_right : (a b : Bool) → (a && b) ≡ true → b ≡ true
-and_right true b is = is
-and_right false b is = absurd (false≢true is)
+none_foreign width _ none = tt
 
 some_there : (width : ℕ) → nat_lt 0 width ≡ true → 1 ≤ width
 some_there width is = grind (arith, nat_tests)
@@ -100,81 +82,30 @@ same_length : (a b : ℕ) → (a == b) ≡ true → a ≡ b
 same_length a b is = grind (arith, nat_tests)
 
 -- a reply of lock or record tells what the record holds, if anything
-reply_known : (limits : Bounds) (s : List LockEvent) (width : ℕ) (content : List ℕ) (asked : Call) (r : Reply) →
-    length content ≡ width → IsTrue (call_suits width asked) → IsReply limits s content asked r →
-    EachOfReply (IsContentOf width) r
-reply_known limits s width content call.TryWrite r long suits is = none_foreign width r
-    (plain_reply (transition limits s call.TryWrite) r (row_plain limits (counts s) call.TryWrite) is)
-reply_known limits s width content call.TryRead r long suits is = none_foreign width r
-    (plain_reply (transition limits s call.TryRead) r (row_plain limits (counts s) call.TryRead) is)
-reply_known limits s width content call.WriteLock r long suits is = none_foreign width r
-    (plain_reply (transition limits s call.WriteLock) r (row_plain limits (counts s) call.WriteLock) is)
-reply_known limits s width content call.ReadLock r long suits is = none_foreign width r
-    (plain_reply (transition limits s call.ReadLock) r (row_plain limits (counts s) call.ReadLock) is)
-reply_known limits s width content call.Optimistic r long suits is = none_foreign width r
-    (plain_reply (transition limits s call.Optimistic) r (row_plain limits (counts s) call.Optimistic) is)
-reply_known limits s width content (call.Validate t) r long suits is = none_foreign width r
-    (plain_reply (transition limits s (call.Validate t)) r (row_plain limits (counts s) (call.Validate t)) is)
-reply_known limits s width content (call.UnlockWrite t) r long suits is = none_foreign width r
-    (plain_reply (transition limits s (call.UnlockWrite t)) r (row_plain limits (counts s) (call.UnlockWrite t)) is)
-reply_known limits s width content (call.UnlockRead t) r long suits is = none_foreign width r
-    (plain_reply (transition limits s (call.UnlockRead t)) r (row_plain limits (counts s) (call.UnlockRead t)) is)
-reply_known limits s width content (call.Unlock t) r long suits is = none_foreign width r
-    (plain_reply (transition limits s (call.Unlock t)) r (row_plain limits (counts s) (call.Unlock t)) is)
-reply_known limits s width content (call.ToWrite t) r long suits is = none_foreign width r
-    (plain_reply (transition limits s (call.ToWrite t)) r (row_plain limits (counts s) (call.ToWrite t)) is)
-reply_known limits s width content (call.ToRead t) r long suits is = none_foreign width r
-    (plain_reply (transition limits s (call.ToRead t)) r (row_plain limits (counts s) (call.ToRead t)) is)
-reply_known limits s width content (call.ToOptimistic t) r long suits is = none_foreign width r
-    (plain_reply (transition limits s (call.ToOptimistic t)) r (row_plain limits (counts s) (call.ToOptimistic t)) is)
-reply_known limits s width content call.TryUnlockWrite r long suits is = none_foreign width r
-    (plain_reply (transition limits s call.TryUnlockWrite) r (row_plain limits (counts s) call.TryUnlockWrite) is)
-reply_known limits s width content call.TryUnlockRead r long suits is = none_foreign width r
-    (plain_reply (transition limits s call.TryUnlockRead) r (row_plain limits (counts s) call.TryUnlockRead) is)
-reply_known limits s width content call.IsWriteLocked r long suits is = none_foreign width r
-    (plain_reply (transition limits s call.IsWriteLocked) r (row_plain limits (counts s) call.IsWriteLocked) is)
-reply_known limits s width content call.IsReadLocked r long suits is = none_foreign width r
-    (plain_reply (transition limits s call.IsReadLocked) r (row_plain limits (counts s) call.IsReadLocked) is)
-reply_known limits s width content call.ReadCount r long suits is = none_foreign width r
-    (plain_reply (transition limits s call.ReadCount) r (row_plain limits (counts s) call.ReadCount) is)
-reply_known limits s width content call.Get r long suits is = subst (EachOfReply (IsContentOf width)) (sym is)
-    (record { some = some_there width suits; wide = long })
-reply_known limits s width content (call.Put words) r long suits is =
-    subst (EachOfReply (IsContentOf width)) (sym is) tt
-reply_known limits s width content (call.PutIf expected words) r long suits is =
-    subst (EachOfReply (IsContentOf width)) (sym is) (none_foreign width _ (yes_or_no (same_words content expected)))
+module _ (limits : Bounds) (s : List LockEvent) (width : ℕ) (content : List ℕ) (r : Reply)
+    (long : length content ≡ width)
+  where
+    by_lock : (asked : Call) → Replies (transition limits s asked) r → EachOfReply (IsContentOf width) r
+    by_lock asked is = none_foreign width r
+        (plain_reply (transition limits s asked) r (row_plain limits (counts s) asked) is)
+
+    reply_known : (asked : Call) → IsTrue (call_suits width asked) → IsReply limits s content asked r →
+        EachOfReply (IsContentOf width) r
+    reply_known call.Get suits is = subst (EachOfReply (IsContentOf width)) (sym is)
+        (record { some = some_there width suits; wide = long })
+    reply_known (call.Put words) suits is = subst (EachOfReply (IsContentOf width)) (sym is) tt
+    reply_known (call.PutIf expected words) suits is = subst (EachOfReply (IsContentOf width)) (sym is)
+        (none_foreign width _ (yes_or_no (same_words content expected)))
+    reply_known which suits is = by_lock which is
 
 -- and the record stays as wide
 next_long : (width : ℕ) (content : List ℕ) (asked : Call) (r : Reply) → length content ≡ width →
     IsTrue (call_suits width asked) → length (content_next content asked r) ≡ width
-next_long width content call.TryWrite r long suits = long
-next_long width content call.TryRead r long suits = long
-next_long width content call.WriteLock r long suits = long
-next_long width content call.ReadLock r long suits = long
-next_long width content call.Optimistic r long suits = long
-next_long width content (call.Validate s) r long suits = long
-next_long width content (call.UnlockWrite s) r long suits = long
-next_long width content (call.UnlockRead s) r long suits = long
-next_long width content (call.Unlock s) r long suits = long
-next_long width content (call.ToWrite s) r long suits = long
-next_long width content (call.ToRead s) r long suits = long
-next_long width content (call.ToOptimistic s) r long suits = long
-next_long width content call.TryUnlockWrite r long suits = long
-next_long width content call.TryUnlockRead r long suits = long
-next_long width content call.IsWriteLocked r long suits = long
-next_long width content call.IsReadLocked r long suits = long
-next_long width content call.ReadCount r long suits = long
-next_long width content call.Get r long suits = long
 next_long width content (call.Put words) r long suits =
-    same_length (length words) width (and_right (nat_lt 0 width) (length words == width) suits)
+    same_length (length words) width (and_parts (nat_lt 0 width) (length words == width) suits).1
 next_long width content (call.PutIf expected words) reply.Yes long suits = same_length (length words) width
-    (and_right (nat_lt 0 width && (length expected == width)) (length words == width) suits)
-next_long width content (call.PutIf expected words) (reply.Stamp s) long suits = long
-next_long width content (call.PutIf expected words) reply.No long suits = long
-next_long width content (call.PutIf expected words) reply.Done long suits = long
-next_long width content (call.PutIf expected words) reply.Mismatch long suits = long
-next_long width content (call.PutIf expected words) (reply.Count n) long suits = long
-next_long width content (call.PutIf expected words) (reply.Content c) long suits = long
+    (and_parts (nat_lt 0 width && (length expected == width)) (length words == width) suits).1
+next_long width content _ r long suits = long
 
 -- along an order of effects
 abbrev Suits : ℕ → Effect → Type 0
@@ -195,7 +126,7 @@ effects_known limits s width content (y ∷ order) long suits legal x has = by (
     by : (y ≡ x) ⊎ Contains order x → (Contains order x → EachOfReply (IsContentOf width) x.reply) →
         EachOfReply (IsContentOf width) x.reply
     by (inl here) _ = subst (λ (z : Effect). EachOfReply (IsContentOf width) z.reply) here
-        (reply_known limits s width content y.entry.call y.reply long its legal.0)
+        (reply_known limits s width content y.reply long y.entry.call its legal.0)
     by (inr later) more = more later
 
 abbrev pub EntrySuits : ℕ → Observation → Type 0

@@ -8,7 +8,7 @@ use Rattle.std.proofs.lemmas.List.{take-append-drop}
 use Rattle.std.proofs.lemmas.Option.{none-some, same_Some}
 use Rattle.stamp_core.specs.declared.call.Call.{Call}
 use Rattle.stamp_runs.specs.declared.event.Event.{Event}
-use Rattle.stamp_runs.specs.declared.event.Event.TheVariants.{Begins, Returns, Withdraws}
+use Rattle.stamp_runs.specs.declared.event.Event.TheVariants.{Begins}
 use Rattle.stamp_runs.specs.Object.{Object}
 use Rattle.stamp_runs.specs.Own.{AreInFormFrom, MayCome, none_open, open_after, open_then}
 use Rattle.stamp_runs.specs.Run.{AreExplainedFrom, IsEndOf, Lanes, Survives}
@@ -48,8 +48,7 @@ open_after_one calls (x ∷ past) event = open_after_one (open_then calls x) pas
 -- an event of another lane leaves the call of a lane
 pub open_other : (lane : ℕ) (calls : Calls) (e : Event) → lane_of e ≢ lane → open_then calls e lane ≡ calls lane
 open_other lane calls (Begins u call) apart = in_other (Some call) (calls lane) apart
-open_other lane calls (Returns u reply) apart = in_other None (calls lane) apart
-open_other lane calls (Withdraws u) apart = in_other None (calls lane) apart
+open_other lane calls _ apart = in_other None (calls lane) apart
 
 -- where a call is open, one is behind an event that does not end it
 pub still_open : (lane : ℕ) (calls : Calls) (event : Event) → ¬ IsEndOf lane event → IsSome (calls lane) →
@@ -59,9 +58,7 @@ still_open lane calls (Begins u call) not is = by (u == lane)
     by : (a : Bool) → IsSome (if a then Some call else calls lane)
     by true = refl
     by false = is
-still_open lane calls (Returns u reply) not is =
-    ap is_some (open_other lane calls (Returns u reply) not) ∙ is
-still_open lane calls (Withdraws u) not is = ap is_some (open_other lane calls (Withdraws u) not) ∙ is
+still_open lane calls which not is = ap is_some (open_other lane calls which not) ∙ is
 
 -- a call that is open behind the end of one was so before it, in another lane
 pub past_end : (u lane : ℕ) (was : Option Call) → IsSome (if u == lane then None else was) →

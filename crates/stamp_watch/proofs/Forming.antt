@@ -2,9 +2,11 @@
 use Rattle.std.proofs.Common.{ℕ, ◌≡◌, ◌≢◌, ◌⊎◌, ◌+◌, ◌<◌, ◌≤◌, ◌==◌, Bool, true, false, List, [], ◌∷◌, ◌++◌, length}
 use Rattle.std.proofs.Common.{get_or, Option, Some, None, refl, sym, ◌∙◌, ap, subst, inl, inr, arith, append_assoc}
 use Rattle.std.proofs.Common.{append-nil}
+use Rattle.std.specs.Prelude.{IsSome}
 use Rattle.std.specs.Prelude.{◌↔◌, if◌then◌else◌, is_some, take}
 use Rattle.std.specs.Int.{bit_at}
 use Rattle.std.specs.List.{fold}
+use Rattle.std.proofs.lemmas.Bool.{false_from_ne_true}
 use Rattle.std.proofs.lemmas.Bool.{cases_eq, cases_lt, false≢true}
 use Rattle.std.proofs.lemmas.List.{take_all, length-append, length_push}
 use Rattle.std.proofs.lemmas.List.Elements.{All-push, All-contains, All-take, All-nil, Contains-push}
@@ -39,10 +41,6 @@ pub next_of_lane : (past : List Event) (e : Event) (more : List Event) → AreOf
 next_of_lane past e more whole = All-contains IsOfLane (past ++ e ∷ more) e whole.lanes
     (Contains-append_right past (e ∷ more) e (Contains-get_or (e ∷ more) 0 e (omega arith)))
 
-not_true : (b : Bool) → (b ≡ true → ⊥) → b ≡ false
-not_true true none = absurd (none refl)
-not_true false none = refl
-
 pub of_lanes_up_to : (k : ℕ) (events : List Event) → AreOfLanes events → AreOfLanes (take k events)
 of_lanes_up_to k events whole = record {
   form = form_up_to k none_open events whole.form;
@@ -52,14 +50,13 @@ of_lanes_up_to k events whole = record {
 module _ (past : List Event) (busy : ℕ) (lanes : AreBusyLanes past busy) where
   comes_then : (e : Event) → MayComeIn busy e → MayCome (open_after past) e
   comes_then (Begins lane call) may = none_is (open_after past lane)
-      (not_true (is_busy_after past lane) (λ is. may.0.1 ((lanes.same lane may.0.0).0 is)))
+      (false_from_ne_true (is_busy_after past lane) (λ is. may.0.1 ((lanes.same lane may.0.0).0 is)))
   comes_then (Returns lane reply) may = (lanes.same lane may.0.0).1 may.0.1
   comes_then (Withdraws lane) may = (lanes.same lane may.0).1 may.1
 
   of_lane_then : (e : Event) → MayComeIn busy e → IsOfLane e
-  of_lane_then (Begins lane call) may = (may.0.0, may.1)
-  of_lane_then (Returns lane reply) may = (may.0.0, may.1)
   of_lane_then (Withdraws lane) may = may.0
+  of_lane_then _ may = (may.0.0, may.1)
 
   comes_back : (e : Event) → MayCome (open_after past) e → IsOfLane e → MayComeIn busy e
   comes_back (Begins lane call) may is =
@@ -72,13 +69,6 @@ pub busy_after_one : (past : List Event) (e : Event) (lane : ℕ) →
     is_busy_after (past ++ e ∷ []) lane ≡ is_some (open_then (open_after past) e lane)
 busy_after_one past e lane = ap (λ (calls : Calls). is_some (calls lane)) (open_after_one none_open past e)
 
-iff_same : (a b : Bool) (x y : ℕ) → a ≡ b → x ≡ y → (b ≡ true) ↔ (y ≡ 1) → (a ≡ true) ↔ (x ≡ 1)
-iff_same a b x y first second iff =
-    ((λ is. second ∙ iff.0 (sym first ∙ is)), (λ one. first ∙ iff.1 (sym second ∙ one)))
-
-iff_true : (a : Bool) (x : ℕ) → a ≡ true → x ≡ 1 → (a ≡ true) ↔ (x ≡ 1)
-iff_true a x first second = ((λ _. second), (λ _. first))
-
 iff_false : (a : Bool) (x : ℕ) → a ≡ false → x ≡ 0 → (a ≡ true) ↔ (x ≡ 1)
 iff_false a x first second = (
   (λ is. absurd (false≢true (sym first ∙ is))),
@@ -86,13 +76,13 @@ iff_false a x first second = (
 )
 
 -- the bit of a lane with an open call, and of one without
-abbrev bit_of : Option Call → ℕ
+abbrev pub bit_of : Option Call → ℕ
 bit_of None = 0
 bit_of (Some call) = 1
 
-iff_bit : (slot : Option Call) (a : Bool) (x : ℕ) → a ≡ is_some slot → x ≡ bit_of slot → (a ≡ true) ↔ (x ≡ 1)
-iff_bit None a x first second = iff_false a x first second
-iff_bit (Some call) a x first second = iff_true a x first second
+pub some_bit : (slot : Option Call) → IsSome slot ↔ (bit_of slot ≡ 1)
+some_bit None = ((λ is. absurd (false≢true is)), λ one. absurd (omega (arith, one)))
+some_bit (Some call) = ((λ is. refl), λ one. refl)
 
 -- the lanes with an open call, once one lane has this one, or none
 lanes_then : (past : List Event) (busy after u : ℕ) (slot : Option Call) (e : Event) → AreBusyLanes past busy →
@@ -105,13 +95,18 @@ lanes_then past busy after u slot e lanes is then_open = record {
   where
     by : (lane : ℕ) → lane < 64 → (u ≡ lane) ⊎ (u ≢ lane) →
         (is_busy_after (past ++ e ∷ []) lane ≡ true) ↔ (bit_at after lane ≡ 1)
-    by lane below (inl same) = iff_bit slot (is_busy_after (past ++ e ∷ []) lane) (bit_at after lane)
-        (busy_after_one past e lane ∙ ap is_some (then_open lane ∙ in_lane slot (open_after past lane) same))
-        (subst (λ (v : ℕ). bit_at after v ≡ bit_of slot) same is.here)
-    by lane below (inr apart) = iff_same (is_busy_after (past ++ e ∷ []) lane) (is_busy_after past lane)
-        (bit_at after lane) (bit_at busy lane)
-        (busy_after_one past e lane ∙ ap is_some (then_open lane ∙ in_other slot (open_after past lane) apart))
-        (is.others lane (λ e. apart (sym e))) (lanes.same lane below)
+    by lane below (inl same) = rw (
+      busy_after_one past e lane,
+      then_open lane,
+      in_lane slot (open_after past lane) same,
+      subst (λ (v : ℕ). bit_at after v ≡ bit_of slot) same is.here,
+    ) (some_bit slot)
+    by lane below (inr apart) = rw (
+      busy_after_one past e lane,
+      then_open lane,
+      in_other slot (open_after past lane) apart,
+      is.others lane (λ e. apart (sym e)),
+    ) (lanes.same lane below)
 
 -- the lanes with an open call after one more event
 pub busy_lanes_then : (past : List Event) (busy after : ℕ) (e : Event) → AreBusyLanes past busy →

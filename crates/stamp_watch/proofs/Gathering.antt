@@ -9,7 +9,7 @@ use Rattle.stamp_explain.proofs.Lists.{contains_map, pairs_map}
 use Rattle.stamp_sets.specs.SmallCall.{reply_of}
 use Rattle.stamp_sets.specs.declared.small_call.SmallReply.{SmallReply}
 use Rattle.stamp_watch.specs.inner.Candidates.{AreAdded, as_content, as_stamp}
-use Rattle.stamp_watch.proofs.TellingVersions.{same_stamp}
+use Rattle.stamp_watch.proofs.Giving.{same_stamp}
 
 -- one number more
 pub added_on : (P Q : ℕ → Type 0) (old now : List ℕ) (x : ℕ) → ((n : ℕ) → Q n → P n ⊎ (n ≡ x)) →
@@ -22,12 +22,6 @@ added_on P Q old now x either is = record {
     by : (n : ℕ) → P n ⊎ (n ≡ x) → Contains (now ++ x ∷ []) n
     by n (inl of) = Contains-append_left now (x ∷ []) n (is.added n of)
     by n (inr same) = subst (Contains (now ++ x ∷ [])) (sym same) (Contains-push now x)
-
-pub added_one : (P : ℕ → Type 0) (old : List ℕ) (x : ℕ) → ((n : ℕ) → P n → n ≡ x) → AreAdded P old (old ++ x ∷ [])
-added_one P old x only = record {
-  added = λ n of. subst (Contains (old ++ x ∷ [])) (sym (only n of)) (Contains-push old x);
-  kept = λ n was. Contains-append_left old (x ∷ []) n was;
-}
 
 -- they are replied
 pub stamp_replied : (numbers : List ℕ) (replies : List SmallReply) (s : ℕ) → replies ≡ map as_stamp numbers →

@@ -11,7 +11,7 @@ use Rattle.std.proofs.lemmas.List.Elements.{Contains-append_left, Contains-push}
 use Rattle.std.proofs.lemmas.Option.{none-some}
 use Rattle.stamp_core.specs.LockEvent.{LockEvent, Counts, counts, write_count}
 use Rattle.stamp_core.specs.LockEvent.LockEvent.{WriteAcquired}
-use Rattle.stamp_core.specs.IsWellFormed.{CountsAreWithin, IsWellFormed}
+use Rattle.stamp_core.specs.IsWellFormed.{IsWellFormed}
 use Rattle.stamp_core.specs.Limits.{AreInRange, Bounds, units}
 use Rattle.stamp_core.specs.Stamp.{IsStamp, is_held_read, is_held_write, optimistic_stamp, write_stamp}
 use Rattle.stamp_core.specs.Transition.{Transition, answer, change, may_read, may_write, next_write, row}
@@ -22,11 +22,11 @@ use Rattle.stamp_core.specs.Content.{RecordReplies, content_next, same_words}
 use Rattle.stamp_core.specs.Decoded.{after_events}
 use Rattle.stamp_core.specs.declared.call.Call.{Call}
 use Rattle.stamp_core.specs.declared.call.Call.TheVariants.{TryWrite, TryRead, WriteLock, ReadLock}
-use Rattle.stamp_core.specs.declared.call.Call.TheVariants.{Optimistic, Validate, UnlockWrite}
+use Rattle.stamp_core.specs.declared.call.Call.TheVariants.{Optimistic, UnlockWrite}
 use Rattle.stamp_core.specs.declared.call.Call.TheVariants.{UnlockRead, Unlock, ToWrite, ToRead}
 use Rattle.stamp_core.specs.declared.call.Call.TheVariants.{ToOptimistic, TryUnlockWrite}
-use Rattle.stamp_core.specs.declared.call.Call.TheVariants.{TryUnlockRead, IsWriteLocked}
-use Rattle.stamp_core.specs.declared.call.Call.TheVariants.{IsReadLocked, ReadCount, Get, Put}
+use Rattle.stamp_core.specs.declared.call.Call.TheVariants.{TryUnlockRead}
+use Rattle.stamp_core.specs.declared.call.Call.TheVariants.{ReadCount, Get, Put}
 use Rattle.stamp_core.specs.declared.call.Call.TheVariants.{PutIf}
 use Rattle.stamp_core.specs.declared.reply.Reply.{Reply}
 use Rattle.stamp_core.specs.declared.reply.Reply.TheVariants.{Content, Count, Done, Mismatch, No, Stamp, Yes}
@@ -41,7 +41,9 @@ use Rattle.stamp_watch.specs.Possible.{counts_below, plain_replies}
 use Rattle.stamp_watch.specs.declared.candidates.Issued.{Issued}
 use Rattle.stamp_watch.specs.declared.candidates.Issued.TheVariants.{OfWriter}
 use Rattle.stamp_watch.specs.inner.Candidates.{IsGiven, IsPlain, Leaves, MayBeGiven, MayBeNow, stamps_given}
-use Rattle.stamp_watch.proofs.TellingVersions.{same_stamp}
+
+pub same_stamp : {a b : ℕ} → Stamp a ≡ Stamp b → a ≡ b
+same_stamp is = cc
 
 -- the counts that a transition leaves
 abbrev pub left_by : Counts → List LockEvent → ℕ
@@ -171,65 +173,63 @@ got_write l c call appended one writes plain = stamp_given (inr (inr (at (sym wr
 room_left : (l : Bounds) (c : Counts) → may_read l c ≡ true → c.readers + 1 ≤ l.readers
 room_left l c may = let room : c.readers < l.readers = grind (arith, nat_tests) in omega (arith, room)
 
-pub row_gives : (limits : Bounds) (c : Counts) → AreInRange limits → CountsAreWithin limits c → (call : Call) →
-    Gives limits c call (row limits c call)
-row_gives l c range within TryWrite = gives_if l c TryWrite (may_write l c)
+pub row_gives : (limits : Bounds) (c : Counts) → AreInRange limits → (call : Call) →
+    (call ≡ ReadCount → c.readers ≤ limits.readers) → Gives limits c call (row limits c call)
+row_gives l c range TryWrite within = gives_if l c TryWrite (may_write l c)
     (λ _. got_write l c TryWrite (WriteAcquired ∷ []) refl refl tt) (λ _. stamp_given (inl refl) (inl refl) tt)
-row_gives l c range within TryRead = gives_if l c TryRead (may_read l c)
+row_gives l c range TryRead within = gives_if l c TryRead (may_read l c)
     (λ h. stamp_given (inr (inr (omega arith, (c.readers + 1, omega arith, room_left l c h, refl)))) (inl refl) tt)
     (λ _. stamp_given (inl refl) (inl refl) tt)
-row_gives l c range within WriteLock = gives_if l c WriteLock (c.write_count == l.versions)
+row_gives l c range WriteLock within = gives_if l c WriteLock (c.write_count == l.versions)
     (λ _. stamp_given (inl refl) (inl refl) tt)
     (λ _. gives_if l c WriteLock (may_write l c)
     (λ _. got_write l c WriteLock (WriteAcquired ∷ []) refl refl tt) (λ _. none_given))
-row_gives l c range within ReadLock = gives_if l c ReadLock (may_read l c)
+row_gives l c range ReadLock within = gives_if l c ReadLock (may_read l c)
     (λ h. stamp_given (inr (inr (omega arith, (c.readers + 1, omega arith, room_left l c h, refl)))) (inl refl) tt)
     (λ _. none_given)
-row_gives l c range within Optimistic = by (c.writers == 0)
+row_gives l c range Optimistic within = by (c.writers == 0)
   where
     by : (b : Bool) → Gives l c Optimistic
         (answer (Stamp (if b then optimistic_stamp (units l) c.write_count else 0)))
     by true = stamp_given (inr (inr (omega arith, refl))) (inl refl) tt
     by false = stamp_given (inl refl) (inl refl) tt
-row_gives l c range within (Validate s) = yes_given _ (λ reply is. is) refl
-row_gives l c range within (UnlockWrite s) = gives_if l c (UnlockWrite s) (is_held_write (units l) c s)
+row_gives l c range (UnlockWrite s) within = gives_if l c (UnlockWrite s) (is_held_write (units l) c s)
     (λ _. other_given done_none refl first_of refl) (λ _. other_given mismatch_none refl second_of refl)
-row_gives l c range within (UnlockRead s) = gives_if l c (UnlockRead s) (is_held_read (units l) c s)
+row_gives l c range (UnlockRead s) within = gives_if l c (UnlockRead s) (is_held_read (units l) c s)
     (λ _. other_given done_none refl first_of refl) (λ _. other_given mismatch_none refl second_of refl)
-row_gives l c range within (Unlock s) = gives_if l c (Unlock s) (is_held_write (units l) c s)
+row_gives l c range (Unlock s) within = gives_if l c (Unlock s) (is_held_write (units l) c s)
     (λ _. other_given done_none refl first_of refl)
     (λ _. gives_if l c (Unlock s) (is_held_read (units l) c s) (λ _. other_given done_none refl first_of refl)
     (λ _. other_given mismatch_none refl second_of refl))
-row_gives l c range within (ToWrite s) = gives_if l c (ToWrite s) (is_held_write (units l) c s)
+row_gives l c range (ToWrite s) within = gives_if l c (ToWrite s) (is_held_write (units l) c s)
     (λ _. stamp_given (inr (inl refl)) (inl refl) tt)
     (λ _. gives_if l c (ToWrite s) (is_held_read (units l) c s && (c.readers == 1) && nat_lt c.write_count l.versions)
     (λ _. got_write l c (ToWrite s) _ refl refl tt)
     (λ _. gives_if l c (ToWrite s) ((s == optimistic_stamp (units l) c.write_count) && may_write l c)
     (λ _. got_write l c (ToWrite s) _ refl refl tt) (λ _. stamp_given (inl refl) (inl refl) tt)))
-row_gives l c range within (ToRead s) = gives_if l c (ToRead s) (is_held_write (units l) c s)
+row_gives l c range (ToRead s) within = gives_if l c (ToRead s) (is_held_write (units l) c s)
     (λ _. stamp_given (inr (inr (omega arith, (1, omega arith, range.some_reader, refl)))) (inl refl) tt)
     (λ _. gives_if l c (ToRead s) (is_held_read (units l) c s) (λ _. stamp_given (inr (inl refl)) (inl refl) tt)
     (λ _. gives_if l c (ToRead s) ((s == optimistic_stamp (units l) c.write_count) && may_read l c)
     (λ h. stamp_given (inr (inr (omega arith, (c.readers + 1, omega arith, room_left l c (and_parts _ _ h).1, refl))))
     (inl refl) tt)
     (λ _. stamp_given (inl refl) (inl refl) tt)))
-row_gives l c range within (ToOptimistic s) = gives_if l c (ToOptimistic s) (is_held_write (units l) c s)
+row_gives l c range (ToOptimistic s) within = gives_if l c (ToOptimistic s) (is_held_write (units l) c s)
     (λ _. stamp_given (inr (inr (omega arith, refl))) (inl refl) tt)
     (λ _. gives_if l c (ToOptimistic s) (is_held_read (units l) c s)
     (λ _. stamp_given (inr (inr (omega arith, refl))) (inl refl) tt)
     (λ _. gives_if l c (ToOptimistic s) ((s == optimistic_stamp (units l) c.write_count) && (c.writers == 0))
     (λ _. stamp_given (inr (inl refl)) (inl refl) tt) (λ _. stamp_given (inl refl) (inl refl) tt)))
-row_gives l c range within TryUnlockWrite = gives_if l c TryUnlockWrite (c.writers == 1)
+row_gives l c range TryUnlockWrite within = gives_if l c TryUnlockWrite (c.writers == 1)
     (λ _. other_given yes_none refl first_of refl) (λ _. other_given no_none refl second_of refl)
-row_gives l c range within TryUnlockRead = gives_if l c TryUnlockRead (nat_lt 0 c.readers)
+row_gives l c range TryUnlockRead within = gives_if l c TryUnlockRead (nat_lt 0 c.readers)
     (λ _. other_given yes_none refl first_of refl) (λ _. other_given no_none refl second_of refl)
-row_gives l c range within IsWriteLocked = yes_given _ (λ reply is. is) refl
-row_gives l c range within IsReadLocked = yes_given _ (λ reply is. is) refl
-row_gives l c range within ReadCount = other_given count_none refl (count_among (l.readers + 1) c.readers
-    (let few : c.readers ≤ l.readers = within.readers in omega (arith, few))) refl
-row_gives l c range within Get = none_given
-row_gives l c range within (Put words) = none_given
-row_gives l c range within (PutIf expected words) = none_given
+row_gives l c range ReadCount within = other_given count_none refl (count_among (l.readers + 1) c.readers
+    (let few = within refl in omega (arith, few))) refl
+row_gives l c range Get within = none_given
+row_gives l c range (Put words) within = none_given
+row_gives l c range (PutIf expected words) within = none_given
+row_gives l c range _ within = yes_given _ (λ reply is. is) refl
 
 -- what a call does that takes effect, and what it is given
 pub record StepGives (limits : Bounds) (s next : State) (call : Call) (reply : Reply) : Type 0 where
@@ -302,7 +302,7 @@ module _ (limits : Bounds) (range : AreInRange limits) (s next : State) (call : 
   lock_gives : is_lock_call call ≡ true → LockStep limits s.0 call reply next.0 → next.1 ≡ s.1 →
       StepGives limits s next call reply
   lock_gives is step same = by (transition limits s.0 call)
-      (row_gives limits (counts s.0) range (obeys_now limits s.0 well_formed).within call).given
+      (row_gives limits (counts s.0) range call (λ _. (obeys_now limits s.0 well_formed).within.readers)).given
       (row_issues limits (counts s.0) range (obeys_now limits s.0 well_formed).within call).issued
       step.replies counted after
     where

@@ -183,13 +183,11 @@ first_or_some number (Some first) some = refl
 
 pub begins_so : (e : Event) (waiting : List Event) → IsToBeAside e waiting → IsBeginning e
 begins_so (Begins lane call) waiting spared = tt
-begins_so (Returns lane reply) waiting none = none
-begins_so (Withdraws lane) waiting none = none
+begins_so _ waiting none = none
 
 pub spared_so : (e : Event) (waiting : List Event) → IsToBeAside e waiting → IsSpared waiting (lane_of e)
 spared_so (Begins lane call) waiting spared = spared
-spared_so (Returns lane reply) waiting none = absurd none
-spared_so (Withdraws lane) waiting none = absurd none
+spared_so _ waiting none = absurd none
 
 -- the first event that waits no longer does
 module _ (ahead : ℕ) (run given aside waiting : List Event) (x : Event) (first : Option ℕ) (passed : ℕ)

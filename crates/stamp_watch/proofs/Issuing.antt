@@ -19,9 +19,6 @@ use Rattle.stamp_watch.specs.Ahead.{IsSpared}
 use Rattle.stamp_watch.specs.inner.Delay.{IsFirstOfLaneAt}
 use Rattle.stamp_watch.proofs.TellingVersions.{one_version}
 
-same_begun : {l m : ℕ} {a b : Call} → Begins l a ≡ Begins m b → (l ≡ m) × (a ≡ b)
-same_begun is = (cc, cc)
-
 same_returned : {l m s t : ℕ} → Returns l (Stamp s) ≡ Returns m (Stamp t) → (l ≡ m) × (s ≡ t)
 same_returned is = (cc, cc)
 
@@ -120,18 +117,6 @@ module _ (limits : Bounds) (version : ℕ) (b : Event) (behind : List Event) whe
       (λ is. lt-ltb k version (subst (λ (n : ℕ). n < version) (issued_once limits b e is.of k
           (subst (IssuesOf limits is.of b) (sym (end_is is)) is.issues) issues) is.older)),
     )
-
--- among events, by the places of those that begin such calls
-pub older_at : (limits : Bounds) (version : ℕ) (events : List Event) (place : ℕ) (b : Event) → place < length events →
-    get_or events place b ≡ b → IssuesOlder limits version b (drop (suc place) events) → ReturnsOlder limits version
-    events
-older_at limits version events place b less read is = record {
-  before = take place events;
-  begun = b;
-  behind = drop (suc place) events;
-  events_are = around events place b less read;
-  one = is;
-}
 
 pub no_older : (limits : Bounds) (version : ℕ) (events : List Event) → ((k : ℕ) (d : Event) → k < length events →
     ¬ IssuesOlder limits version (get_or events k d) (drop (suc k) events)) → ¬ ReturnsOlder limits version events

@@ -398,8 +398,6 @@ both_ok (Err e) P Q p q = tt
 -- a search for where events are stuck is given up at none
 pub never_given_up : (events : List Event) (from to : ℕ) (verdict : Verdict) → IsStuckAmong from to verdict →
     GivesUpAmong events verdict
-never_given_up events from to Explained among = tt
-never_given_up events from to (Stuck k) among = tt
-never_given_up events from to (StuckWithin k m) among = tt
 never_given_up events from to (Undecided k why) among = absurd among
 never_given_up events from to (Broken k) among = absurd among
+never_given_up events from to _ among = tt

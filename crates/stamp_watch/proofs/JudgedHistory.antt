@@ -1,14 +1,11 @@
 -- What is found of a history, by the verdict of its run by numbers.
-use Rattle.std.proofs.Common.{◌≡◌, ◌⊎◌, ℕ, zero, suc, ◌+◌, ◌<◌, ◌≤◌, List, [], ◌∷◌, length, refl, sym}
+use Rattle.std.proofs.Common.{◌≡◌, ◌⊎◌, ℕ, zero, suc, ◌+◌, ◌<◌, ◌≤◌, List, length, refl, sym}
 use Rattle.std.proofs.Common.{◌∙◌, ap, subst, inl, inr, arith, get_or, Option, Some, None}
 use Rattle.std.specs.Prelude.{◌-◌, ◌↔◌, map, option_map, slice_get, take}
-use Rattle.std.specs.List.{All, AllZip}
 use Rattle.std.proofs.lemmas.Bool.{cases_lt, false≢true}
 use Rattle.std.proofs.lemmas.List.{length-map, take-map, take_all}
-use Rattle.std.proofs.lemmas.List.Elements.{All-head, All-tail}
 use Rattle.std.proofs.lemmas.Option.{none-some, same_Some, slice_get-get_or, slice_get-map, slice_get_within}
 use Rattle.std.proofs.lemmas.Slice.Zip.{AllZip-long}
-use Rattle.stamp_explain.specs.declared.observed.Observation.{Observation}
 use Rattle.stamp_explain.specs.Cut.{IsStuck, cut_after, cut_before}
 use Rattle.stamp_explain.specs.Explained.{IsExplained}
 use Rattle.stamp_explain.specs.Observed.{IsObserved, ObservedHistory}
@@ -22,26 +19,21 @@ use Rattle.stamp_watch.specs.declared.moments.Moment.{Moment}
 use Rattle.stamp_watch.specs.declared.verdict.Verdict.TheVariants.{Explained, Stuck, StuckWithin, Undecided, Broken}
 use Rattle.stamp_watch.specs.declared.verdict.Why.{Why}
 use Rattle.stamp_watch.specs.declared.verdict.Why.TheVariants.{TooMany, TooFar}
-use Rattle.stamp_watch.specs.AsEvents.{AreEventsOf, AreMomentsOf, IsEventAt, IsMomentOf, IsReturnOf}
+use Rattle.stamp_watch.specs.AsEvents.{AreEventsOf, AreMomentsOf, AreNamesFor, IsEventAt, IsReturnOf}
 use Rattle.stamp_watch.specs.AsEvents.{return_of, state_at_first}
 use Rattle.stamp_watch.specs.History.{IsRunOf, IsStuckBetween, IsUndecided, NoneReturns, ReturnsAt}
 use Rattle.stamp_watch.specs.Verdict.{AreOfLanes, IsVerdict}
-use Rattle.stamp_watch.specs.inner.History.{IsForeign, IsReturnPlace, IsToldRun}
+use Rattle.stamp_watch.specs.inner.History.{IsReturnPlace, IsToldRun}
 use Rattle.stamp_watch.specs.inner.Judging.{AreTaken, GivesUpAmong, IsReturn, ReturnsHere}
+use Rattle.stamp_watch.specs.inner.Trial.{IsForeign}
 use Rattle.stamp_watch.proofs.AsEvents.{cut_as_events, explained_by_numbers, explained_on, named_as_events}
-use Rattle.stamp_watch.proofs.AsEvents.{returned_as_events, stuck_as_events, stuck_at_returns}
+use Rattle.stamp_watch.proofs.AsEvents.{returned_as_events, stuck_as_events, stuck_at_returns, told_test}
 use Rattle.stamp_watch.proofs.ByNumber.{in_take}
+use Rattle.stamp_watch.proofs.Foreign.{cut_replies_known}
 use Rattle.stamp_watch.proofs.Ranking.{zip_at, zip_there}
-use Rattle.stamp_watch.proofs.WideReplies.{foreign_explains_none}
-
--- the events at moments
-pub events_at : (entries : List Observation) (moments : List Moment) → All (IsMomentOf entries) moments →
-    (events : List Event) × AllZip (IsEventAt entries) moments events
-events_at entries [] each = ([], tt)
-events_at entries (m ∷ moments) each =
-    let first = All-head (IsMomentOf entries) m moments each in
-    let rest = events_at entries moments (All-tail (IsMomentOf entries) m moments each) in
-    (first.0 ∷ rest.0, (first.1, rest.1))
+use Rattle.stamp_watch.proofs.Renamed.{each_reply}
+use Rattle.stamp_watch.proofs.TellingRuns.{told_taken}
+use Rattle.stamp_watch.proofs.Trying.{all_events, name_for, names_are}
 
 -- the history is stuck at the entry that returns at the moment of this place
 pub record IsStuckThere (h : ObservedHistory) (moments : List Moment) (place : ℕ) : Type 0 where
@@ -75,37 +67,43 @@ return_named name (Withdraws lane) is = is
 module _ (h : ObservedHistory) (observed : IsObserved h) (moments : List Moment) (are : AreMomentsOf h.entries moments)
     (told : List Event) (run_is : IsToldRun h moments told)
   where
+    abbrev name : Names
+    name = name_for h.width run_is.contents
+
+    names : AreNamesFor h name
+    names = names_are h run_is.contents run_is.are
+
     abbrev events : List Event
-    events = (events_at h.entries moments are.each).0
+    events = (all_events h.entries moments are.each).0
 
     of : AreEventsOf h moments events
-    of = record { are = are; events_are = (events_at h.entries moments are.each).1 }
+    of = record { are = are; events_are = (all_events h.entries moments are.each).1 }
 
     abbrev pub run : List Event
-    run = map (event_by run_is.name) events
+    run = map (event_by name) events
 
     pub taken : AreTaken run told
-    taken = run_is.taken events of
+    taken = told_taken h observed moments told run_is events of
 
     pub told_whole : AreOfLanes told
     told_whole = subst AreOfLanes (sym taken.same) taken.form.whole
 
     pub is_run : IsRunOf h moments run
-    is_run = record { events = events; are = of; name = run_is.name; names = run_is.names; run_is = refl }
+    is_run = record { events = events; are = of; name = name; names = names; run_is = refl }
 
     same_long : length events ≡ length moments
     same_long = AllZip-long (IsEventAt h.entries) moments events of.events_are
 
     pub run_long : length run ≡ length moments
-    run_long = length-map events (event_by run_is.name) ∙ same_long
+    run_long = length-map events (event_by name) ∙ same_long
 
     -- up to a moment
     explained_up_to : (k : ℕ) → AreExplainedFrom (Both h.limits) (state_at_first h) (take k events) ↔
         AreExplained h.limits (take k run)
     explained_up_to k = subst (λ (es : List Event).
         AreExplainedFrom (Both h.limits) (state_at_first h) (take k events) ↔ AreExplained h.limits es)
-        (sym (take-map (event_by run_is.name) k events))
-        (named_as_events h run_is.name (take k events) run_is.names)
+        (sym (take-map (event_by name) k events))
+        (named_as_events h name (take k events) names)
 
     returns_at : (k : ℕ) → IsReturnOf h.entries (slice_get moments k) → (i : ℕ) × ReturnsAt h moments k i
     returns_at k is = (is.index, record { at = is.at; here = is.moment })
@@ -117,7 +115,7 @@ module _ (h : ObservedHistory) (observed : IsObserved h) (moments : List Moment)
         ((explained_up_to k).1 explained)
 
     pub judged_explained : (most : ℕ) → IsVerdict h.limits run most None Explained → IsExplained h
-    judged_explained most is = (explained_by_numbers h moments events run_is.name observed of run_is.names).1 is.1
+    judged_explained most is = (explained_by_numbers h moments events name observed of names).1 is.1
 
     stuck_there : (k : ℕ) → AreStuckAt h.limits run k → IsStuckThere h moments k
     stuck_there k stuck = by (returns_at k (stuck_at_returns h moments events k observed of in_words))
@@ -149,8 +147,10 @@ module _ (h : ObservedHistory) (observed : IsObserved h) (moments : List Moment)
       stuck = record {
         at = returns.at;
         explained = before_return k m.entry there explained;
-        stuck = foreign_explains_none h m.entry returns.at observed
-            (subst (IsForeign h.width) returns.event_is foreign);
+        stuck = λ after. subst (IsForeign h.width) returns.event_is foreign (each_reply (λ words its. its.wide)
+            returns.at.return.reply (cut_replies_known h returns.at.return.last (m.entry + 1) observed.suit after
+            m.entry returns.at (told_test returns.at.return.last returns.at.return.last m.entry (m.entry + 1)
+            (inr (refl, omega arith)))));
       };
     }
       where
@@ -176,7 +176,7 @@ module _ (h : ObservedHistory) (observed : IsObserved h) (moments : List Moment)
         by (Some e) at =
             let found = zip_at (IsEventAt h.entries) k moments events e of.events_are at in
             foreign_there k e found.0 found.1.0 found.1.1
-            (run_is.foreign events e of (sym (ap (slice_get events) last) ∙ at)) is.1
+            (run_is.so_far.foreign found.0 e (sym (ap (slice_get moments) last) ∙ found.1.0) found.1.1) is.1
 
     -- it is given up at a return
     return_there : (k : ℕ) → ReturnsHere told k → (i : ℕ) × ReturnsAt h moments k i
@@ -187,8 +187,8 @@ module _ (h : ObservedHistory) (observed : IsObserved h) (moments : List Moment)
             (subst (λ (es : List Event). slice_get es k ≡ Some here.event) taken.same here.here)).1
 
         named : (o : Option Event) → slice_get events k ≡ o →
-            option_map (event_by run_is.name) o ≡ Some here.event
-        named o at = sym (slice_get-map (event_by run_is.name) events k ∙ ap (option_map (event_by run_is.name)) at) ∙
+            option_map (event_by name) o ≡ Some here.event
+        named o at = sym (slice_get-map (event_by name) events k ∙ ap (option_map (event_by name)) at) ∙
             in_run
 
         at_moment : (e : Event) (m : Moment) → IsReturn e → slice_get moments k ≡ Some m → IsEventAt h.entries m e →
@@ -201,7 +201,7 @@ module _ (h : ObservedHistory) (observed : IsObserved h) (moments : List Moment)
         by None at = absurd (none-some here.event (named None at))
         by (Some e) at =
             let found = zip_at (IsEventAt h.entries) k moments events e of.events_are at in
-            at_moment e found.0 (return_named run_is.name e (subst IsReturn (sym (same_Some (event_by run_is.name e)
+            at_moment e found.0 (return_named name e (subst IsReturn (sym (same_Some (event_by name e)
             here.event (named (Some e) at))) here.is)) found.1.0 found.1.1
 
     pub judged_undecided : (most k : ℕ) (why : Why) → IsVerdict h.limits run most None (Undecided k why) →
@@ -279,7 +279,7 @@ module _ (h : ObservedHistory) (observed : IsObserved h) (moments : List Moment)
           NoneReturns moments (last + 1) m → ¬ IsExplained (cut_after there.at.return i h)
       not_once_returned last i there less behind explained = is.stuck (explained_to (last + 1) m (omega (arith, less))
           behind ((explained_up_to (last + 1)).0
-          ((returned_as_events h moments events i last there.at observed of there.here).0 explained)))
+          ((returned_as_events h observed moments events of i last there.at.return there.here).0 explained)))
 
       -- between the two places is one return alone
       pub judged_alone : (first last : ℕ) → first ≡ last → IsReturnPlace moments first → k ≤ first →

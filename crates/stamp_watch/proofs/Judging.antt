@@ -358,10 +358,8 @@ step_withdraws limits n past e ahead most lane old new progress same answer told
 
 -- what is never too many is so at returns alone
 pub never_many : (e : Event) (progress : Progress) → progress ≢ TooMany → IsManyAtReturn e progress
-never_many e Going never = tt
-never_many e Dead never = tt
 never_many e TooMany never = absurd (never refl)
-never_many e Refused never = tt
+never_many e _ never = tt
 
 -- a copy judges as well
 open_of_copied : (watch copy : Watch) → IsCopy watch copy → (lane : ℕ) → open_of copy lane ≡ open_of watch lane

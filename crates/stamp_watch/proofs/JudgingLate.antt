@@ -211,10 +211,7 @@ module _ (limits : Bounds) (run : List Event) (most ahead number : ℕ) (at : nu
 
   broken_stays : (v : Verdict) → v ≢ verdict.Explained → broken_off v number ≡ v
   broken_stays verdict.Explained other = absurd (other refl)
-  broken_stays (verdict.Stuck k) other = refl
-  broken_stays (verdict.StuckWithin k m) other = refl
-  broken_stays (verdict.Undecided k why) other = refl
-  broken_stays (verdict.Broken k) other = refl
+  broken_stays _ other = refl
 
   -- what isn't that it is explained stays
   stays_broken : (f : LateVerdict) → IsLateRest limits run most ahead f → f ≢ finding.Is verdict.Explained →
@@ -240,14 +237,7 @@ module _ (limits : Bounds) (run : List Event) (most ahead number : ℕ) (at : nu
   broken_by verdict.Explained rest f is = λ e not_there. subst (IsLateFound limits (run ++ e ∷ []) most ahead)
       (sym (told_broken first f is)) (broken_found limits run most None number e at not_there verdict.Explained
       (rest (finding.Is verdict.Explained) (told_explained first)))
-  broken_by (verdict.Stuck k) rest f is = stays_broken f (rest f is)
-      (not_explained first (verdict.Stuck k) f is (λ e. cc))
-  broken_by (verdict.StuckWithin k m) rest f is = stays_broken f (rest f is)
-      (not_explained first (verdict.StuckWithin k m) f is (λ e. cc))
-  broken_by (verdict.Undecided k why) rest f is = stays_broken f (rest f is)
-      (not_explained first (verdict.Undecided k why) f is (λ e. cc))
-  broken_by (verdict.Broken k) rest f is = stays_broken f (rest f is)
-      (not_explained first (verdict.Broken k) f is (λ e. cc))
+  broken_by which rest f is = stays_broken f (rest f is) (not_explained first which f is (λ e. cc))
 
 -- a judge of some run, given one event more, is one of that run and the event
 pub late_known_then : (old new : LateJudge) (e : Event) → IsLateJudgeOfSome old →

@@ -16,6 +16,7 @@ use Rattle.stamp_runs.specs.declared.event.Event.{Event}
 use Rattle.stamp_runs.specs.declared.event.Event.TheVariants.{Begins, Returns, Withdraws}
 use Rattle.stamp_runs.specs.Own.{MayCome, none_open, open_after, open_then}
 use Rattle.stamp_runs.specs.BothRun.{AreExplained, AreStuckAt, Both, start}
+use Rattle.stamp_runs.specs.Run.{lane_of}
 use Rattle.stamp_watch.specs.AsObserved.Ending.{StaysOpen}
 use Rattle.stamp_watch.specs.AsObserved.{ending_of}
 use Rattle.stamp_watch.specs.Course.{IsCourse, IsStanding, KeepsEnd, KeepsEndOf}
@@ -47,8 +48,7 @@ stays_begun lane call (Begins u c ∷ events) none = by (cases_eq u lane) (λ x.
     by (inr apart) later = later call (ap (λ (b : Bool). fold (begun_then lane) (if b then Some c else Some call)
         events)
         (sym (ne_eqb u lane apart)) ∙ none)
-stays_begun lane call (Returns u r ∷ events) none = stays_begun lane call events none
-stays_begun lane call (Withdraws u ∷ events) none = stays_begun lane call events none
+stays_begun lane call (_ ∷ events) none = stays_begun lane call events none
 
 -- a call that is open behind events, none of which begins one in its lane, was open before, and stays so along them
 none_begun : (lane : ℕ) (calls : Calls) (n : ℕ) (events : List Event) → IsSome (fold open_then calls events lane) →
@@ -67,14 +67,10 @@ none_begun lane calls n (Begins u c ∷ events) open_still none = by (cases_eq u
         events)
         (sym (ne_eqb u lane apart)) ∙ none) in
         (sym (ap is_some (open_other lane calls (Begins u c) apart)) ∙ past.0, past.1)
-none_begun lane calls n (Returns u r ∷ events) open_still none =
-    let past = none_begun lane (open_then calls (Returns u r)) (n + 1) events open_still none in
-    let before = past_end u lane (calls lane) past.0 in
-    (before.0, ending_spares lane n (Returns u r) events before.1 ∙ past.1)
-none_begun lane calls n (Withdraws u ∷ events) open_still none =
-    let past = none_begun lane (open_then calls (Withdraws u)) (n + 1) events open_still none in
-    let before = past_end u lane (calls lane) past.0 in
-    (before.0, ending_spares lane n (Withdraws u) events before.1 ∙ past.1)
+none_begun lane calls n (event ∷ events) open_still none =
+    let past = none_begun lane (open_then calls event) (n + 1) events open_still none in
+    let before = past_end (lane_of event) lane (calls lane) past.0 in
+    (before.0, ending_spares lane n event events before.1 ∙ past.1)
 
 module _ (limits : Bounds) (run : List Event) (course : Course) (is : IsCourse limits run course) (k : ℕ)
     (behind : course.first + course.seen ≤ k) (within : k < course.first + length course.events.items)
@@ -169,42 +165,32 @@ module _ (limits : Bounds) (run : List Event) (course : Course) (is : IsCourse l
 
 -- and among more events
 pub among_more : (from later to : ℕ) (v : Verdict) → from ≤ later → IsStuckAmong later to v → IsStuckAmong from to v
-among_more from later to verdict.Explained less is = tt
 among_more from later to (verdict.Stuck k) less is = let at : later ≤ k = is.0 in (omega (arith, less, at), is.1)
-among_more from later to (verdict.StuckWithin k m) less is = tt
 among_more from later to (verdict.Undecided k why) less is = is
 among_more from later to (verdict.Broken k) less is = is
+among_more from later to _ less is = tt
 
 -- so it keeps what tells of what is found behind those that were seen
 pub keeps_found : (limits : Bounds) (run : List Event) (course : Course) (most : ℕ) (ahead : Option ℕ) (v : Verdict) →
     IsCourse limits run course → IsFound limits run most ahead v →
     IsStuckAmong (course.first + course.seen) (course.first + length course.events.items) v → KeepsEndOf course v
-keeps_found limits run course most ahead verdict.Explained is found among = tt
 keeps_found limits run course most ahead (verdict.Stuck k) is found among =
     keeps_end limits run course is k among.0 among.1 (found_now limits run most ahead (verdict.Stuck k) found).1
-keeps_found limits run course most ahead (verdict.StuckWithin k m) is found among = tt
-keeps_found limits run course most ahead (verdict.Undecided k why) is found among = tt
-keeps_found limits run course most ahead (verdict.Broken k) is found among = tt
+keeps_found limits run course most ahead _ is found among = tt
 
 -- and so does a course with the same events
 pub keeps_same : (old new : Course) → new.first ≡ old.first → new.seen ≡ old.seen →
     new.events.items ≡ old.events.items → (v : Verdict) → KeepsEndOf old v → KeepsEndOf new v
-keeps_same old new first seen events verdict.Explained is = tt
 keeps_same old new first seen events (verdict.Stuck k) is = record {
   behind = let behind : old.first + old.seen ≤ k = is.behind in omega (arith, behind, first, seen);
   call = is.call;
   ends = ap (λ (n : ℕ). ended_from n new.events.items k) first ∙
       ap (λ (xs : List Event). ended_from old.first xs k) events ∙ is.ends;
 }
-keeps_same old new first seen events (verdict.StuckWithin k m) is = tt
-keeps_same old new first seen events (verdict.Undecided k why) is = tt
-keeps_same old new first seen events (verdict.Broken k) is = tt
+keeps_same old new first seen events _ is = tt
 
 -- what is found where a run breaks off is told of as before
 pub keeps_broken : (course : Course) (v : Verdict) (place : ℕ) → KeepsEndOf course v →
     KeepsEndOf course (broken_off v place)
-keeps_broken course verdict.Explained place is = tt
 keeps_broken course (verdict.Stuck k) place is = is
-keeps_broken course (verdict.StuckWithin k m) place is = tt
-keeps_broken course (verdict.Undecided k why) place is = tt
-keeps_broken course (verdict.Broken k) place is = tt
+keeps_broken course _ place is = tt

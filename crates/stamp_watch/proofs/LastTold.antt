@@ -16,7 +16,7 @@ use Rattle.stamp_runs.specs.Run.Phase.{Gets}
 use Rattle.stamp_runs.specs.declared.event.Event.{Event}
 use Rattle.stamp_runs.proofs.Lanes.{one_reply}
 use Rattle.stamp_watch.specs.inner.Candidates.{AreTelling, AreWriting, IsNewestTold}
-use Rattle.stamp_watch.proofs.TellingVersions.{same_stamp}
+use Rattle.stamp_watch.proofs.Giving.{same_stamp}
 use Rattle.stamp_watch.proofs.ToldAlong.{Holds, Stands}
 
 -- each version that was not told is held by an open call that may have acquired it, and each in a lane of its own

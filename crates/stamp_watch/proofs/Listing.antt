@@ -51,9 +51,6 @@ module _ (entries : List Observation) (k : ℕ) (moments : List Moment) (are : A
     one_entry : (f : Observation) (i : ℕ) → slice_get entries i ≡ Some f → i ≡ k → f ≡ e
     one_entry f i at_i same = same_Some f e (sym at_i ∙ ap (slice_get entries) same ∙ at)
 
-    begin : Moment
-    begin = beginning_of k e
-
     -- with the beginning of one more
     pub record AreBegun (more : List Moment) : Type 0 where
       pub each : All (λ (m : Moment). (event : Event) × IsEventAt entries m event) more

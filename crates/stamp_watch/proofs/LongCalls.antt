@@ -151,10 +151,8 @@ long_moves_before run window events given (Begins lane call ∷ aside) e more be
     })
     (All-head (λ (d : Event). IsLongCall run window (lane_of d) (count_of (lane_of d) given)) (Begins lane call) aside
     long)
-long_moves_before run window events given (Returns lane reply ∷ aside) e more begin spared apart long later =
-    absurd (All-head IsBeginning (Returns lane reply) aside begin)
-long_moves_before run window events given (Withdraws lane ∷ aside) e more begin spared apart long later =
-    absurd (All-head IsBeginning (Withdraws lane) aside begin)
+long_moves_before run window events given (which ∷ aside) e more begin spared apart long later = absurd (All-head
+    IsBeginning which aside begin)
 
 -- the event that comes next begins a call that is open for so many events
 pub long_here : (run past waiting given aside : List Event) (window passed : ℕ) (x : Event) → IsBeginning x →

@@ -7,7 +7,7 @@ use Rattle.std.proofs.lemmas.List.Elements.{All-nil}
 use Rattle.std.proofs.lemmas.List.{take_all, take-append-drop, take-append-le, drop-drop, length-append, length-drop}
 use Rattle.std.proofs.lemmas.List.{drop-append-le, length-take-le}
 use Rattle.stamp_runs.specs.declared.event.Event.{Event}
-use Rattle.stamp_runs.specs.declared.event.Event.TheVariants.{Begins, Returns, Withdraws}
+use Rattle.stamp_runs.specs.declared.event.Event.TheVariants.{Begins}
 use Rattle.stamp_runs.specs.Run.{IsEndOf, EndsNever}
 use Rattle.stamp_sets.specs.declared.ending.Ending.{Ending}
 use Rattle.stamp_sets.specs.declared.ending.Ending.TheVariants.{Never}
@@ -40,19 +40,16 @@ told_further (Begins lane call) n looked ahead ends is told = told ∙ sym throu
     through = ap (λ (xs : List Event). ending_of lane n xs) (sym (take-append-drop looked ahead)) ∙
         ending_past lane n (take looked ahead) (drop looked ahead) is.1 ∙
         ap (λ (k : ℕ). ending_of lane (n + k) (drop looked ahead)) (length-take-le looked ahead is.0)
-told_further (Returns lane reply) n looked ahead ends is told = tt
-told_further (Withdraws lane) n looked ahead ends is told = tt
+told_further _ n looked ahead ends is told = tt
 
 leaves_none : (e : Event) → LeavesOpen e []
 leaves_none (Begins lane call) = All-nil (λ (e : Event). ¬ IsEndOf lane e)
-leaves_none (Returns lane reply) = tt
-leaves_none (Withdraws lane) = tt
+leaves_none _ = tt
 
 leaves_all : (e : Event) (n : ℕ) (ahead : List Event) (ends : Ending) → IsUnknown e ends →
     IsEndTold e n ahead ends → LeavesOpen e ahead
 leaves_all (Begins lane call) n ahead ends never told = ends_so lane n ahead Never (sym (ap told_as never) ∙ told)
-leaves_all (Returns lane reply) n ahead ends never told = tt
-leaves_all (Withdraws lane) n ahead ends never told = tt
+leaves_all _ n ahead ends never told = tt
 
 -- nothing was looked at
 pub looked_none : (events : List Event) → IsLooked 0 events

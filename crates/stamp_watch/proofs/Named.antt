@@ -23,17 +23,17 @@ use Rattle.stamp_core.specs.declared.call.Call.{Call}
 use Rattle.stamp_core.specs.declared.call.Call.TheVariants as call
 use Rattle.stamp_core.specs.declared.reply.Reply.{Reply}
 use Rattle.stamp_core.specs.declared.reply.Reply.TheVariants as reply
-use Rattle.stamp_runs.specs.Names.{AreDifferent, EachOfCall, EachOfEvent, EachOfReply, Names, call_by, event_by}
+use Rattle.stamp_runs.specs.Names.{AreDifferent, EachOfCall, EachOfEvent, EachOfReply, call_by, event_by}
 use Rattle.stamp_runs.specs.Names.{reply_by}
 use Rattle.stamp_runs.specs.OneWord.{has_one_word}
 use Rattle.stamp_runs.specs.declared.event.Event.{Event}
-use Rattle.stamp_runs.specs.declared.event.Event.TheVariants.{Begins, Returns, Withdraws}
 use Rattle.stamp_sets.specs.declared.small_call.SmallCall.TheVariants as small
 use Rattle.stamp_sets.specs.declared.small_call.SmallReply.TheVariants as given
 use Rattle.stamp_watch.specs.Names.{AreContents, IsGrown, IsNamed, name_in}
 use Rattle.stamp_watch.specs.Names.{width_of, words_in}
 use Rattle.stamp_watch.specs.inner.Names.{IsCallBy, IsReplyBy}
 use Rattle.stamp_watch.specs.Names.{IsNumberOf, rows}
+use Rattle.stamp_watch.proofs.Renamed.{each_event, same_event}
 
 -- where a content stands, and what its name is then
 data Found (contents : List (List ℕ)) (words : List ℕ) : Type 0 where
@@ -149,10 +149,6 @@ named_at : (contents : List (List ℕ)) (words : List ℕ) (n : ℕ) → positio
 named_at contents words n some =
     ap (λ (o : Option ℕ). option_map_or (λ (i : ℕ). i ∷ []) o (0 ∷ 0 ∷ words)) some
 
-pub same_number : (contents : List (List ℕ)) (words : List ℕ) (n : ℕ) →
-    position (same_words words) contents ≡ Some n → IsNumberOf contents words n
-same_number = named_at
-
 -- it keeps its number
 pub number_stays : (old more : List (List ℕ)) (words : List ℕ) → IsNamed old words →
     name_in (old ++ more) words ≡ name_in old words
@@ -163,86 +159,6 @@ number_stays old more words named = by (found_in old words)
         named_at (old ++ more) words n (position_stays (same_words words) old more n [] at) ∙ sym name
     by (not_found none name) = absurd (let two : 0 ∷ 0 ∷ words ≡ named.0 ∷ [] = sym name ∙ named.1 in cc)
 
--- an event is told alike by two namings that agree on its contents
-module _ (f g : Names) where
-  abbrev Agree : List ℕ → Type 0
-  Agree words = f words ≡ g words
-
-  call_same : (c : Call) → EachOfCall Agree c → call_by f c ≡ call_by g c
-  call_same (call.Put words) same = ap call.Put same
-  call_same (call.PutIf expected words) same =
-      ap (λ (w : List ℕ). call.PutIf w (f words)) same.0 ∙ ap (λ (w : List ℕ). call.PutIf (g expected) w) same.1
-  call_same call.TryWrite same = refl
-  call_same call.TryRead same = refl
-  call_same call.WriteLock same = refl
-  call_same call.ReadLock same = refl
-  call_same call.Optimistic same = refl
-  call_same (call.Validate s) same = refl
-  call_same (call.UnlockWrite s) same = refl
-  call_same (call.UnlockRead s) same = refl
-  call_same (call.Unlock s) same = refl
-  call_same (call.ToWrite s) same = refl
-  call_same (call.ToRead s) same = refl
-  call_same (call.ToOptimistic s) same = refl
-  call_same call.TryUnlockWrite same = refl
-  call_same call.TryUnlockRead same = refl
-  call_same call.IsWriteLocked same = refl
-  call_same call.IsReadLocked same = refl
-  call_same call.ReadCount same = refl
-  call_same call.Get same = refl
-
-  reply_same : (r : Reply) → EachOfReply Agree r → reply_by f r ≡ reply_by g r
-  reply_same (reply.Content words) same = ap reply.Content same
-  reply_same (reply.Stamp s) same = refl
-  reply_same reply.Yes same = refl
-  reply_same reply.No same = refl
-  reply_same reply.Done same = refl
-  reply_same reply.Mismatch same = refl
-  reply_same (reply.Count n) same = refl
-
-  pub event_same : (e : Event) → EachOfEvent Agree e → event_by f e ≡ event_by g e
-  event_same (Begins lane c) same = ap (Begins lane) (call_same c same)
-  event_same (Returns lane r) same = ap (Returns lane) (reply_same r same)
-  event_same (Withdraws lane) same = refl
-
--- what follows of each of its contents
-module _ {P Q : List ℕ → Type 0} (follows : (words : List ℕ) → P words → Q words) where
-  pub call_each : (c : Call) → EachOfCall P c → EachOfCall Q c
-  call_each (call.Put words) is = follows words is
-  call_each (call.PutIf expected words) is = (follows expected is.0, follows words is.1)
-  call_each call.TryWrite is = tt
-  call_each call.TryRead is = tt
-  call_each call.WriteLock is = tt
-  call_each call.ReadLock is = tt
-  call_each call.Optimistic is = tt
-  call_each (call.Validate s) is = tt
-  call_each (call.UnlockWrite s) is = tt
-  call_each (call.UnlockRead s) is = tt
-  call_each (call.Unlock s) is = tt
-  call_each (call.ToWrite s) is = tt
-  call_each (call.ToRead s) is = tt
-  call_each (call.ToOptimistic s) is = tt
-  call_each call.TryUnlockWrite is = tt
-  call_each call.TryUnlockRead is = tt
-  call_each call.IsWriteLocked is = tt
-  call_each call.IsReadLocked is = tt
-  call_each call.ReadCount is = tt
-  call_each call.Get is = tt
-
-  pub reply_each : (r : Reply) → EachOfReply P r → EachOfReply Q r
-  reply_each (reply.Content words) is = follows words is
-  reply_each (reply.Stamp s) is = tt
-  reply_each reply.Yes is = tt
-  reply_each reply.No is = tt
-  reply_each reply.Done is = tt
-  reply_each reply.Mismatch is = tt
-  reply_each (reply.Count n) is = tt
-
-  pub event_each : (e : Event) → EachOfEvent P e → EachOfEvent Q e
-  event_each (Begins lane c) is = call_each c is
-  event_each (Returns lane r) is = reply_each r is
-  event_each (Withdraws lane) is = tt
-
 module _ {old new : List (List ℕ)} (grown : IsGrown old new) where
   pub stays : (words : List ℕ) → IsNamed old words → name_in new words ≡ name_in old words
   stays words named = ap (λ (cs : List (List ℕ)). name_in cs words) grown.are ∙ number_stays old grown.more words named
@@ -251,10 +167,10 @@ module _ {old new : List (List ℕ)} (grown : IsGrown old new) where
   named_still words named = (named.0, stays words named ∙ named.1)
 
   pub event_stays : (e : Event) → EachOfEvent (IsNamed old) e → event_by (name_in new) e ≡ event_by (name_in old) e
-  event_stays e named = event_same (name_in new) (name_in old) e (event_each stays e named)
+  event_stays e named = same_event (name_in new) (name_in old) e (each_event stays e named)
 
   pub event_named_still : (e : Event) → EachOfEvent (IsNamed old) e → EachOfEvent (IsNamed new) e
-  event_named_still e named = event_each named_still e named
+  event_named_still e named = each_event named_still e named
 
 -- zeros are the first
 pub zeros_named : (width : ℕ) (contents : List (List ℕ)) → AreContents width contents →
@@ -286,9 +202,6 @@ not_one_word width contents words are apart = by (found_in contents words)
 
 -- one content more
 module _ (old : List (List ℕ)) (words : List ℕ) where
-  pub one_more : IsGrown old (old ++ words ∷ [])
-  one_more = record { more = words ∷ []; are = refl }
-
   pub new_number : position (same_words words) old ≡ None → IsNumberOf (old ++ words ∷ []) words (length old)
   new_number none = named_at (old ++ words ∷ []) words (length old)
       (position_push (same_words words) old words none (same_again words))
@@ -405,25 +318,7 @@ module _ (contents : List (List ℕ)) where
   pub put_back : (told : Call) (name found : List ℕ) → EachOfCall (IsNamed contents) told →
       call_by (name_in contents) told ≡ call.Put name → IsBack name found → call.Put found ≡ told
   put_back (call.Put words) name found named same back = ap call.Put (back words named (put_same same))
-  put_back (call.PutIf a b) name found named same back = cc
-  put_back call.TryWrite name found named same back = cc
-  put_back call.TryRead name found named same back = cc
-  put_back call.WriteLock name found named same back = cc
-  put_back call.ReadLock name found named same back = cc
-  put_back call.Optimistic name found named same back = cc
-  put_back (call.Validate s) name found named same back = cc
-  put_back (call.UnlockWrite s) name found named same back = cc
-  put_back (call.UnlockRead s) name found named same back = cc
-  put_back (call.Unlock s) name found named same back = cc
-  put_back (call.ToWrite s) name found named same back = cc
-  put_back (call.ToRead s) name found named same back = cc
-  put_back (call.ToOptimistic s) name found named same back = cc
-  put_back call.TryUnlockWrite name found named same back = cc
-  put_back call.TryUnlockRead name found named same back = cc
-  put_back call.IsWriteLocked name found named same back = cc
-  put_back call.IsReadLocked name found named same back = cc
-  put_back call.ReadCount name found named same back = cc
-  put_back call.Get name found named same back = cc
+  put_back _ name found named same back = cc
 
   pub put_if_back : (told : Call) (first name one found : List ℕ) → EachOfCall (IsNamed contents) told →
       call_by (name_in contents) told ≡ call.PutIf first name → IsBack first one → IsBack name found →
@@ -431,47 +326,19 @@ module _ (contents : List (List ℕ)) where
   put_if_back (call.PutIf a b) first name one found named same back_one back =
       ap (λ (w : List ℕ). call.PutIf w found) (back_one a named.0 (put_if_same same).0) ∙
       ap (call.PutIf a) (back b named.1 (put_if_same same).1)
-  put_if_back (call.Put a) first name one found named same back_one back = cc
-  put_if_back call.TryWrite first name one found named same back_one back = cc
-  put_if_back call.TryRead first name one found named same back_one back = cc
-  put_if_back call.WriteLock first name one found named same back_one back = cc
-  put_if_back call.ReadLock first name one found named same back_one back = cc
-  put_if_back call.Optimistic first name one found named same back_one back = cc
-  put_if_back (call.Validate s) first name one found named same back_one back = cc
-  put_if_back (call.UnlockWrite s) first name one found named same back_one back = cc
-  put_if_back (call.UnlockRead s) first name one found named same back_one back = cc
-  put_if_back (call.Unlock s) first name one found named same back_one back = cc
-  put_if_back (call.ToWrite s) first name one found named same back_one back = cc
-  put_if_back (call.ToRead s) first name one found named same back_one back = cc
-  put_if_back (call.ToOptimistic s) first name one found named same back_one back = cc
-  put_if_back call.TryUnlockWrite first name one found named same back_one back = cc
-  put_if_back call.TryUnlockRead first name one found named same back_one back = cc
-  put_if_back call.IsWriteLocked first name one found named same back_one back = cc
-  put_if_back call.IsReadLocked first name one found named same back_one back = cc
-  put_if_back call.ReadCount first name one found named same back_one back = cc
-  put_if_back call.Get first name one found named same back_one back = cc
+  put_if_back _ first name one found named same back_one back = cc
 
   pub content_back : (told : Reply) (name found : List ℕ) → EachOfReply (IsNamed contents) told →
       reply_by (name_in contents) told ≡ reply.Content name → IsBack name found → reply.Content found ≡ told
   content_back (reply.Content words) name found named same back = ap reply.Content (back words named (content_same
       same))
-  content_back (reply.Stamp s) name found named same back = cc
-  content_back reply.Yes name found named same back = cc
-  content_back reply.No name found named same back = cc
-  content_back reply.Done name found named same back = cc
-  content_back reply.Mismatch name found named same back = cc
-  content_back (reply.Count n) name found named same back = cc
+  content_back _ name found named same back = cc
 
 -- a reply that has a number tells the content of this one
 pub content_told : (contents : List (List ℕ)) (told : Reply) (n : ℕ) → IsReplyBy contents told (given.Content n) →
     (words : List ℕ) × ((told ≡ reply.Content words) × (name_in contents words ≡ n ∷ []))
 content_told contents (reply.Content words) n is = (words, (refl, sym (content_same is.small_is)))
-content_told contents (reply.Stamp s) n is = absurd (let same = is.small_is in cc)
-content_told contents reply.Yes n is = absurd (let same = is.small_is in cc)
-content_told contents reply.No n is = absurd (let same = is.small_is in cc)
-content_told contents reply.Done n is = absurd (let same = is.small_is in cc)
-content_told contents reply.Mismatch n is = absurd (let same = is.small_is in cc)
-content_told contents (reply.Count c) n is = absurd (let same = is.small_is in cc)
+content_told contents _ n is = absurd (let same = is.small_is in cc)
 
 -- zeros alone
 pub one_content : (width : ℕ) → 1 ≤ width → width ≤ 16 → AreContents width (zeros width ∷ [])

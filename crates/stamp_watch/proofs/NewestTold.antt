@@ -1,5 +1,5 @@
 -- The newest version that events tell.
-use Rattle.std.proofs.Common.{◌≡◌, ◌⊎◌, ◌≤◌, ℕ, List, [], ◌∷◌, ◌++◌, sym, ◌∙◌, refl, subst, inl, inr, arith}
+use Rattle.std.proofs.Common.{◌≡◌, ◌⊎◌, ◌≤◌, ℕ, List, [], ◌∷◌, ◌++◌, sym, ◌∙◌, subst, inl, inr, arith}
 use Rattle.stamp_core.specs.Limits.{Bounds, units}
 use Rattle.stamp_core.specs.Stamp.{IsStamp}
 use Rattle.stamp_core.specs.declared.reply.Reply.TheVariants.{Stamp}
@@ -17,12 +17,6 @@ module _ (limits : Bounds) where
   tells_once : (j k : ℕ) (e : Event) → Tells limits j e → Tells limits k e → j ≡ k
   tells_once j k e one other = one_version limits.layout k other.stamp other.is_of j
       (subst (IsStamp (units limits) j) (same_told (sym one.returns ∙ other.returns)) one.is_of)
-
-  pub newest_none : IsNewestTold limits [] 0
-  newest_none = record {
-    told = inl refl;
-    most = λ k is. absurd (let few = is.among.1 in omega (arith, few));
-  }
 
   pub newest_stays : (past : List Event) (e : Event) (newest : ℕ) → ((k : ℕ) → ¬ Tells limits k e) →
       IsNewestTold limits past newest → IsNewestTold limits (past ++ e ∷ []) newest

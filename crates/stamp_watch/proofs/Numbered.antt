@@ -4,12 +4,13 @@ use Rattle.std.proofs.Common.{ap, subst, inl, inr, arith, eq-eqb, ne_eqb, Some, 
 use Rattle.std.specs.Prelude.{slice_get, if◌then◌else◌}
 use Rattle.std.specs.List.{Contains}
 use Rattle.std.proofs.lemmas.Bool.{cases_eq}
-use Rattle.std.proofs.lemmas.Option.{slice_get_within, get_or_from_slice_get, same_Some, none-some}
+use Rattle.std.proofs.lemmas.Option.{same_Some, none-some}
 use Rattle.stamp_core.specs.declared.call.Call.{Call}
 use Rattle.stamp_core.specs.declared.reply.Reply.{Reply}
 use Rattle.stamp_explain.specs.declared.observed.Observation.{Observation}
 use Rattle.stamp_explain.specs.declared.observed.Returned.{Returned}
 use Rattle.stamp_explain.specs.Observed.{AllowsReply}
+use Rattle.stamp_explain.proofs.Lists.{contains_at}
 use Rattle.stamp_explain.proofs.Lists.{none_in_empty, contains_cases, contains_first, contains_rest}
 use Rattle.stamp_runs.specs.declared.event.Event.{Event}
 use Rattle.stamp_runs.specs.declared.event.Event.TheVariants.{Begins, Returns, Withdraws}
@@ -123,17 +124,13 @@ pub record AreOfEntry (lane : ℕ) (call : Call) (first : ℕ) (e : Observation)
 
 pub entry_tells : (lane : ℕ) (call : Call) (first : ℕ) (ending : Ending) (e : Observation) →
     IsEntryOf lane call first ending e → AreOfEntry lane call first e
-entry_tells lane call first StaysOpen e is = record {
-  its_lane = ap (λ (o : Observation). o.thread) is;
-  its_call = ap (λ (o : Observation). o.call) is;
-  its_first = ap (λ (o : Observation). o.first) is;
-}
-entry_tells lane call first (EndsReturned r) e is = record {
-  its_lane = ap (λ (o : Observation). o.thread) is;
-  its_call = ap (λ (o : Observation). o.call) is;
-  its_first = ap (λ (o : Observation). o.first) is;
-}
 entry_tells lane call first EndsWithdrawn e is = absurd is
+entry_tells lane call first _ e is = record {
+  its_lane = ap (λ (o : Observation). o.thread) is;
+  its_call = ap (λ (o :
+      Observation). o.call) is;
+  its_first = ap (λ (o : Observation). o.first) is;
+}
 
 pub entry_returned : (lane : ℕ) (call : Call) (first : ℕ) (ending : Ending) (e : Observation) (r : Returned) →
     IsEntryOf lane call first ending e → e.returned ≡ Some r → ending ≡ EndsReturned r
@@ -145,9 +142,8 @@ entry_returned lane call first EndsWithdrawn e r is back = absurd is
 
 pub one_entry : (lane : ℕ) (call : Call) (first : ℕ) (ending : Ending) (e f : Observation) →
     IsEntryOf lane call first ending e → IsEntryOf lane call first ending f → e ≡ f
-one_entry lane call first StaysOpen e f is other = is ∙ sym other
-one_entry lane call first (EndsReturned r) e f is other = is ∙ sym other
 one_entry lane call first EndsWithdrawn e f is other = absurd is
+one_entry lane call first _ e f is other = is ∙ sym other
 
 -- the call may have this reply by how it ends
 abbrev pub IsReplyOf : Reply → Ending → Type 0
@@ -225,8 +221,7 @@ first_from n (Begins lane call ∷ events) e has = by (in_with_entry lane call n
         (Contains (entries_from (n + 1) events) e → n + 1 ≤ e.first) → n ≤ e.first
     by (inl is) _ = let at = (entry_tells lane call n (ending_of lane (n + 1) events) e is).its_first in omega arith
     by (inr has) later = let low = later has in omega arith
-first_from n (Returns lane reply ∷ events) e has = let low = first_from (n + 1) events e has in omega arith
-first_from n (Withdraws lane ∷ events) e has = let low = first_from (n + 1) events e has in omega arith
+first_from n (_ ∷ events) e has = let low = first_from (n + 1) events e has in omega arith
 
 -- a call returns behind its beginning
 pub last_from : (n : ℕ) (events : List Event) (e : Observation) (r : Returned) → Contains (entries_from n events) e →
@@ -240,12 +235,7 @@ last_from n (Begins lane call ∷ events) e r has back = by (in_with_entry lane 
     by (inl is) _ = let low = ending_last lane (n + 1) events r
         (entry_returned lane call n (ending_of lane (n + 1) events) e r is back) in omega arith
     by (inr has) later = let low = later has in omega arith
-last_from n (Returns lane reply ∷ events) e r has back = let low = last_from (n + 1) events e r has back in omega arith
-last_from n (Withdraws lane ∷ events) e r has back = let low = last_from (n + 1) events e r has back in omega arith
-
-pub contains_at : (entries : List Observation) (i : ℕ) (e : Observation) → slice_get entries i ≡ Some e →
-    Contains entries e
-contains_at entries i e at = (i, slice_get_within entries i e at, get_or_from_slice_get entries i e e at)
+last_from n (_ ∷ events) e r has back = let low = last_from (n + 1) events e r has back in omega arith
 
 -- no two entries begin at one position
 abbrev pub HaveOwnFirsts : List Observation → Type 0
@@ -277,5 +267,4 @@ own_firsts n [] = λ i j e f at_e at_f same. absurd (none-some e at_e)
 own_firsts n (Begins lane call ∷ events) = own_firsts_with lane call n (ending_of lane (n + 1) events)
     (entries_from (n + 1) events) (λ e has. let low = first_from (n + 1) events e has in omega arith)
     (own_firsts (n + 1) events)
-own_firsts n (Returns lane reply ∷ events) = own_firsts (n + 1) events
-own_firsts n (Withdraws lane ∷ events) = own_firsts (n + 1) events
+own_firsts n (_ ∷ events) = own_firsts (n + 1) events

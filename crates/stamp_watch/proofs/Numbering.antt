@@ -18,7 +18,8 @@ use Rattle.stamp_runs.specs.Run.{IsEndOf, lane_of}
 use Rattle.stamp_watch.specs.declared.moments.Moment.{Moment}
 use Rattle.stamp_watch.specs.AsEvents.{beginning_of, return_of, IsEventAt, AreEventsOf}
 use Rattle.stamp_watch.specs.AsObserved.{Ending, ending_of, entries_from}
-use Rattle.stamp_watch.proofs.Numbered.{IsEntryOf, contains_at, one_entry}
+use Rattle.stamp_explain.proofs.Lists.{contains_at}
+use Rattle.stamp_watch.proofs.Numbered.{IsEntryOf, one_entry}
 use Rattle.stamp_watch.proofs.Planning.{IsLate}
 use Rattle.stamp_watch.proofs.AsObserved.{AreOfRun}
 use Rattle.stamp_watch.proofs.Ranking.{three_ways, zip_at, zip_there, begun, returned, begins_first, one_number}

@@ -1,10 +1,10 @@
 -- An observed history with another reply of a call, and the run of its events.
-use Rattle.std.proofs.Common.{ℕ, ◌≡◌, ◌≢◌, ◌⊎◌, ◌+◌, ◌<◌, suc, zero, true, false, List}
-use Rattle.std.proofs.Common.{[], ◌∷◌, ◌++◌, length, Option, Some}
-use Rattle.std.proofs.Common.{None, refl, sym, ◌∙◌, ap, subst, inl, inr, arith, add-one}
+use Rattle.std.proofs.Common.{ℕ, ◌≡◌, ◌≢◌, ◌⊎◌, ◌+◌, ◌<◌, suc, zero, List}
+use Rattle.std.proofs.Common.{[], ◌∷◌, ◌++◌, length, Some}
+use Rattle.std.proofs.Common.{refl, sym, ◌∙◌, ap, subst, inl, inr, arith, add-one}
 use Rattle.std.specs.Prelude.{◌↔◌, drop, map, slice_get, slice_set, take}
-use Rattle.std.specs.List.{All, AllZip, Contains}
-use Rattle.std.proofs.lemmas.Bool.{cases_eq, false≢true}
+use Rattle.std.specs.List.{AllZip, Contains}
+use Rattle.std.proofs.lemmas.Bool.{cases_eq}
 use Rattle.std.proofs.lemmas.List.{get_or-set_other, get_or-set_same, length-set, map-append, take-map}
 use Rattle.std.proofs.lemmas.List.Elements.{All-weaker}
 use Rattle.std.proofs.lemmas.Option.{get_or_from_slice_get, none-some, same_Some, slice_get-get_or, slice_get_within}
@@ -17,7 +17,7 @@ use Rattle.stamp_explain.specs.Explained.{IsExplained}
 use Rattle.stamp_explain.specs.Observed.{ObservedHistory, IsObserved, IsReturnAt}
 use Rattle.stamp_explain.specs.Possible.{IsPossible, returned_with, with_reply}
 use Rattle.stamp_explain.proofs.Replying.{replied_is_observed}
-use Rattle.stamp_runs.specs.BothRun.{AreExplained, Both, State, start}
+use Rattle.stamp_runs.specs.BothRun.{AreExplained, Both, State}
 use Rattle.stamp_runs.specs.Names.{Names, event_by, reply_by}
 use Rattle.stamp_runs.specs.Run.{AreExplainedFrom}
 use Rattle.stamp_runs.specs.declared.event.Event.{Event}
@@ -28,7 +28,7 @@ use Rattle.stamp_watch.specs.AsEvents.{AreEventsOf, AreMomentsOf, AreNamesFor, I
 use Rattle.stamp_watch.specs.AsEvents.{return_of, state_at_first}
 use Rattle.stamp_watch.specs.History.{IsRunOf, ReturnsAt}
 use Rattle.stamp_watch.specs.ReplyLaws.{PossibleByNumbers}
-use Rattle.stamp_watch.proofs.AsEvents.{cut_with_return, first_named}
+use Rattle.stamp_watch.proofs.AsEvents.{first_named, returned_as_events}
 use Rattle.stamp_watch.proofs.Ranking.{one_number, zip_there}
 
 -- a list with another element at a place
@@ -80,6 +80,9 @@ module _ (h : ObservedHistory) (i : ℕ) (at : IsReturnAt h.entries i) (reply : 
   abbrev other : ObservedHistory
   other = with_reply i at.entry at.return reply h
 
+  pub other_observed : IsObserved h → IsObserved other
+  other_observed = replied_is_observed i at.entry at.return reply at.is_entry at.returned
+
   within : i < length h.entries
   within = slice_get_within h.entries i at.entry at.is_entry
 
@@ -123,7 +126,7 @@ module _ (h : ObservedHistory) (i : ℕ) (at : IsReturnAt h.entries i) (reply : 
       })
         where
           entry : begins.entry ≡ at.entry
-          entry = same_Some begins.entry at.entry (sym begins.is_entry ∙ ap (slice_get h.entries) same ∙ at.is_entry)
+          entry = cc
       by (inr apart) = inl (record {
         entry = begins.entry;
         is_entry = other_entry m.entry begins.entry apart begins.is_entry;
@@ -133,16 +136,7 @@ module _ (h : ObservedHistory) (i : ℕ) (at : IsReturnAt h.entries i) (reply : 
   event_elsewhere m e (inr returns) = by (cases_eq m.entry i)
     where
       by : (m.entry ≡ i) ⊎ (m.entry ≢ i) → (m ≡ return_of i at.return) ⊎ IsEventAt other.entries m e
-      by (inl same) = inl (returns.moment ∙ ap (λ (j : ℕ). return_of j returns.at.return) same ∙
-          ap (return_of i) back)
-        where
-          entry : returns.at.entry ≡ at.entry
-          entry = same_Some returns.at.entry at.entry
-              (sym returns.at.is_entry ∙ ap (slice_get h.entries) same ∙ at.is_entry)
-
-          back : returns.at.return ≡ at.return
-          back = same_Some returns.at.return at.return
-              (sym returns.at.returned ∙ ap (λ (o : Observation). o.returned) entry ∙ at.returned)
+      by (inl same) = inl cc
       by (inr apart) = inr (inr (record {
         at = record {
           entry = returns.at.entry;
@@ -197,12 +191,8 @@ module _ (h : ObservedHistory) (i : ℕ) (at : IsReturnAt h.entries i) (reply : 
           by (inl same) = subst (λ (q : Returned). Contains moments (return_of j q)) same_return
               (subst (λ (n : ℕ). Contains moments (return_of n at.return)) (sym same) (are.returned i at))
             where
-              entry : its ≡ back.entry
-              entry = same_Some its back.entry (sym its_entry ∙ ap (slice_get other.entries) (sym same) ∙ back.is_entry)
-
               same_return : told ≡ back.return
-              same_return = same_Some told back.return
-                  (ap (λ (o : Observation). o.returned) entry ∙ back.returned)
+              same_return = let there = its_entry in cc
           by (inr apart) = are.returned j (record {
             entry = back.entry;
             return = back.return;
@@ -214,10 +204,8 @@ module _ (h : ObservedHistory) (i : ℕ) (at : IsReturnAt h.entries i) (reply : 
   pub possible_as_cut : IsPossible h i reply ↔ IsExplained (cut at.return.last (i + 1) other)
   possible_as_cut = (
     (λ possible.
-        let entry : possible.at.entry ≡ at.entry = same_Some possible.at.entry at.entry
-        (sym possible.at.is_entry ∙ at.is_entry) in
-        let back : possible.at.return ≡ at.return = same_Some possible.at.return at.return
-        (sym possible.at.returned ∙ ap (λ (o : Observation). o.returned) entry ∙ at.returned) in
+        let entry : possible.at.entry ≡ at.entry = cc in
+        let back : possible.at.return ≡ at.return = cc in
         subst (λ (q : Returned). IsExplained (cut_after q i (with_reply i at.entry q reply h))) back
         (subst (λ (o : Observation). IsExplained (cut_after possible.at.return i
         (with_reply i o possible.at.return reply h))) entry possible.explained)),
@@ -229,9 +217,6 @@ module _ (h : ObservedHistory) (i : ℕ) (at : IsReturnAt h.entries i) (reply : 
     where
       abbrev pub changed : List Event
       changed = with_at k (Returns at.entry.thread reply) events
-
-      other_observed : IsObserved other
-      other_observed = replied_is_observed i at.entry at.return reply at.is_entry at.returned observed
 
       -- its events are those, with the other return
       pub other_events : AreEventsOf other moments changed
@@ -252,16 +237,14 @@ module _ (h : ObservedHistory) (i : ℕ) (at : IsReturnAt h.entries i) (reply : 
           (take k events ++ Returns at.entry.thread reply ∷ [])
       possible_as_events = (
         (λ possible. subst (AreExplainedFrom (Both h.limits) (state_at_first h)) up_to_return
-            (subst (λ (n : ℕ). AreExplainedFrom (Both h.limits) (state_at_first h) (take n changed)) (sym (add-one k))
-            (as_run.0 (possible_as_cut.0 possible)))),
-        (λ way. possible_as_cut.1 (as_run.1 (subst (λ (n : ℕ). AreExplainedFrom (Both h.limits) (state_at_first h)
-            (take n changed)) (add-one k) (subst (AreExplainedFrom (Both h.limits) (state_at_first h))
-            (sym up_to_return) way)))),
+            (as_run.0 (possible_as_cut.0 possible))),
+        (λ way. possible_as_cut.1 (as_run.1 (subst (AreExplainedFrom (Both h.limits) (state_at_first h))
+            (sym up_to_return) way))),
       )
         where
-          as_run : IsExplained (cut at.return.last (i + 1) other) ↔
-              AreExplainedFrom (Both h.limits) (state_at_first h) (take (suc k) changed)
-          as_run = cut_with_return other other_observed moments changed other_events i k told there
+          as_run : IsExplained (cut_after told i other) ↔
+              AreExplainedFrom (Both h.limits) (state_at_first h) (take (k + 1) changed)
+          as_run = returned_as_events other (other_observed observed) moments changed other_events i k told there
 
       module _ (name : Names) (are : AreNamesFor h name) where
         pub by_name : map (event_by name) (take k events ++ Returns at.entry.thread reply ∷ []) ≡

@@ -4,7 +4,7 @@ use Rattle.std.proofs.Common.{refl, sym, ◌∙◌, ap, subst, inl, inr, arith, 
 use Rattle.std.specs.Prelude.{◌↔◌, ◌&&◌, ◌<◌, ◌≤◌, IsSome, if◌then◌else◌, not}
 use Rattle.std.specs.Int.{bit_at}
 use Rattle.std.proofs.Math.Logic.{⊎_elim}
-use Rattle.std.proofs.lemmas.Bool.{cases_eq, cases_lt, false≢true}
+use Rattle.std.proofs.lemmas.Bool.{and_parts, cases_eq, cases_lt, false≢true}
 use Rattle.std.proofs.lemmas.List.Elements.{All-cons, All-head, All-nil, All-pop, All-push, All-tail}
 use Rattle.std.proofs.lemmas.Nat.Bits.{bit_at-lt, bit_at-zero, same_from_bits}
 use Rattle.stamp_core.specs.Call.{is_lock_call}
@@ -27,6 +27,8 @@ use Rattle.stamp_watch.specs.declared.overtaking.Overtaking.{Overtaking}
 use Rattle.stamp_watch.specs.declared.overtaking.Stage.{Stage}
 use Rattle.stamp_watch.specs.declared.overtaking.Stage.TheVariants as stage
 use Rattle.stamp_watch.specs.inner.Overtaking.{IsToldBy, may_tell_by}
+use Rattle.stamp_watch.proofs.Forming.{bit_of, some_bit}
+use Rattle.stamp_watch.proofs.Numbered.{end_or_not}
 use Rattle.stamp_watch.proofs.Form.{open_after_one}
 
 -- some events and one more, parted at an event
@@ -143,14 +145,6 @@ end_of u lane (Some r) is = is
 open_one : (past : List Event) (e : Event) (lane : ℕ) →
     open_after (past ++ e ∷ []) lane ≡ open_then (open_after past) e lane
 open_one past e lane = ap (λ (calls : Calls). calls lane) (open_after_one none_open past e)
-
-abbrev bit_of : Option Call → ℕ
-bit_of None = 0
-bit_of (Some call) = 1
-
-some_bit : (slot : Option Call) → IsSome slot ↔ (bit_of slot ≡ 1)
-some_bit None = ((λ is. absurd (false≢true is)), λ one. absurd (omega (arith, one)))
-some_bit (Some call) = ((λ is. refl), λ one. refl)
 
 open_set : (past : List Event) (e : Event) (lanes after u : ℕ) (slot : Option Call) → AreOpen past lanes →
     SetsBit lanes after u (bit_of slot) →
@@ -356,10 +350,6 @@ begun_ended events lanes after u r are sets lane =
 answer_tells : (r : Reply) → is_not_no r ≡ true → (c : Call) → is_lock_call c ≡ false → tells_content c r ≡ true
 answer_tells r may c own = subst (λ (b : Bool). (not b && is_not_no r) ≡ true) (sym own) may
 
-and_right : (a b : Bool) → (a && b) ≡ true → b ≡ true
-and_right true b is = is
-and_right false b is = absurd (false≢true is)
-
 told_now : (events : List Event) (lanes u : ℕ) (r : Option Reply) → HaveBegun events lanes → bit_at lanes u ≡ 1 →
     may_tell_by r ≡ true → IsTold (events ++ end_in u r ∷ [])
 told_now events lanes u None are one may = absurd (false≢true may)
@@ -412,7 +402,7 @@ told_back events e is = by (back_of e (Begins is.lane is.call) events is.before 
             of_record = not_of_lock is.call is.reply is.tells;
             unended = now.1;
           };
-          may = and_right (not (is_lock_call is.call)) (is_not_no is.reply) is.tells;
+          may = (and_parts (not (is_lock_call is.call)) (is_not_no is.reply) is.tells).1;
         }))
         (ends_split is.returns init e last)
 
@@ -540,10 +530,6 @@ open_none lane = (
   λ one. let zero = bit_at-zero lane in absurd (omega (arith, zero, one)),
 )
 
-pub is_so : (b : Bool) → not b ≡ false → b ≡ true
-is_so true is = refl
-is_so false is = absurd (false≢true (sym is))
-
 pub follows_none : Follows [] [] (record { stage = stage.Open; «open» = 0; older = 0; newer = 0 })
 follows_none = record {
   open_are = open_none;
@@ -563,12 +549,6 @@ tracks_from past since o tracks = record {
     sooner = λ front next rest same is. nil_not front _ _ same;
   };
 }
-
-pub settled_so : (older : ℕ) (s : Stage) → older ≢ 0 → IsSettled older s
-settled_so older stage.Open some = some
-settled_so older stage.Told some = some
-settled_so older stage.Untold some = tt
-settled_so older stage.Over some = tt
 
 -- a call begins, which is of the record or not
 pub tracks_begun : (past since : List Event) (o : Overtaking) (opened newer u : ℕ) (c : Call) →
@@ -623,11 +603,6 @@ fork (y ∷ a) b [] d same = is_short y a refl
 fork (y ∷ a) b (z ∷ c) d same = fork_more y z a b c d (first_same same) (fork a b c d (rest_same same))
 
 -- a call that is open ends among more events, or is open behind them
-end_cases : (lane : ℕ) (e : Event) → IsEndOf lane e ⊎ (¬ IsEndOf lane e)
-end_cases lane (Begins u c) = inr (λ is. is)
-end_cases lane (Returns u r) = cases_eq u lane
-end_cases lane (Withdraws u) = cases_eq u lane
-
 open_stays : (past : List Event) (lane : ℕ) (e : Event) → ¬ IsEndOf lane e → IsSome (open_after past lane) →
     IsSome (open_after (past ++ e ∷ []) lane)
 open_stays past lane e other some = subst IsSome (sym (open_one past e lane)) (by e other)
@@ -647,7 +622,7 @@ ended_across past (e ∷ more) later lane some ended = ⊎_elim (λ is. (e, is, 
     (λ other. let on = ended_across (past ++ e ∷ []) more later lane (open_stays past lane e other some)
     (subst (λ (xs : List Event). OpenHaveEnded xs later) (sym (append_assoc past (e ∷ []) more)) ended) in
     (on.0, on.1, ends_later e other on.2))
-    (end_cases lane e)
+    (end_or_not lane e)
 
 -- so the past is overtaken in the last stage alone
 module _ (past since : List Event) (over : IsOvertaken past since) where

@@ -253,10 +253,6 @@ module _ (h : ObservedHistory) (observed : IsObserved h) (moments : List Moment)
                       open_now.at (subst (λ (q : Returned). q.last < open_now.entry.first) same its.1.1),
                 )
 
-    -- a moment is of one entry, as its beginning or its return
-    no_return : (i j : ℕ) (e : Observation) (r : Returned) → beginning_of i e ≡ return_of j r → ⊥
-    no_return i j e r same = false≢true (ap (λ (m : Moment). m.is_return) same)
-
     -- events of other lanes leave it open or not
     open_on : (n lane : ℕ) (m : Moment) → IsAt n m → ((i : ℕ) (e : Observation) → IsEntry i e → e.thread ≡ lane →
         m.entry ≢ i) → IsOpenIn n lane → IsOpenIn (suc n) lane

@@ -1,8 +1,15 @@
 -- A run around one of its events, as a loop reads it.
-use Rattle.std.proofs.Common.{ℕ, ◌≡◌, ◌+◌, ◌<◌, List, [], ◌∷◌, ◌++◌, length, get_or, sym, ◌∙◌, ap}
-use Rattle.std.specs.Prelude.{take, drop}
+use Rattle.std.proofs.Common.{ℕ, ◌≡◌, ◌+◌, ◌<◌, List, [], ◌∷◌, ◌++◌, length, get_or, sym, ◌∙◌, ap, Some}
+use Rattle.std.specs.Prelude.{slice_get, take, drop}
+use Rattle.std.proofs.lemmas.Option.{get_or_from_slice_get, slice_get_within}
 use Rattle.std.proofs.lemmas.List.{take_more, drop_more, take-append-drop}
 use Rattle.stamp_runs.specs.declared.event.Event.{Event}
+
+-- those up to this place, and the one there
+pub up_to : {A : Type 0} (xs : List A) (at : ℕ) (x : A) → slice_get xs at ≡ Some x →
+    take (at + 1) xs ≡ take at xs ++ x ∷ []
+up_to {A} xs at x there = take_more xs at x (slice_get_within xs at x there) ∙
+    ap (λ (y : A). take at xs ++ y ∷ []) (get_or_from_slice_get xs at x x there)
 
 module _ (events : List Event) (k : ℕ) (e : Event) (less : k < length events) (read : e ≡ get_or events k e) where
   pub take_read : take (k + 1) events ≡ take k events ++ e ∷ []

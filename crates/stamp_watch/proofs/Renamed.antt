@@ -1,7 +1,8 @@
 -- Events whose contents go by other names.
 use Rattle.std.proofs.Common.{ℕ, ◌≡◌, ◌<◌, Bool, true, false, List, [], ◌∷◌, Option, Some, None, refl, ◌∙◌, ap}
-use Rattle.std.specs.Prelude.{◌&&◌, ◌==◌, if◌then◌else◌, is_some, map}
+use Rattle.std.specs.Prelude.{◌==◌, if◌then◌else◌, is_some, map}
 use Rattle.std.specs.List.{All, fold}
+use Rattle.std.proofs.lemmas.Bool.{and_from}
 use Rattle.std.proofs.lemmas.List.Elements.{All-cons, All-head, All-nil, All-tail}
 use Rattle.stamp_core.specs.declared.call.Call.{Call}
 use Rattle.stamp_core.specs.declared.call.Call.TheVariants as call
@@ -23,33 +24,11 @@ module _ {P Q : List ℕ → Type 0} (goes : (words : List ℕ) → P words → 
   each_call : (c : Call) → EachOfCall P c → EachOfCall Q c
   each_call (call.Put words) is = goes words is
   each_call (call.PutIf expected words) is = (goes expected is.0, goes words is.1)
-  each_call call.TryWrite is = tt
-  each_call call.TryRead is = tt
-  each_call call.WriteLock is = tt
-  each_call call.ReadLock is = tt
-  each_call call.Optimistic is = tt
-  each_call (call.Validate s) is = tt
-  each_call (call.UnlockWrite s) is = tt
-  each_call (call.UnlockRead s) is = tt
-  each_call (call.Unlock s) is = tt
-  each_call (call.ToWrite s) is = tt
-  each_call (call.ToRead s) is = tt
-  each_call (call.ToOptimistic s) is = tt
-  each_call call.TryUnlockWrite is = tt
-  each_call call.TryUnlockRead is = tt
-  each_call call.IsWriteLocked is = tt
-  each_call call.IsReadLocked is = tt
-  each_call call.ReadCount is = tt
-  each_call call.Get is = tt
+  each_call _ is = tt
 
   pub each_reply : (r : Reply) → EachOfReply P r → EachOfReply Q r
   each_reply (reply.Content words) is = goes words is
-  each_reply (reply.Stamp s) is = tt
-  each_reply reply.Yes is = tt
-  each_reply reply.No is = tt
-  each_reply reply.Done is = tt
-  each_reply reply.Mismatch is = tt
-  each_reply (reply.Count n) is = tt
+  each_reply _ is = tt
 
   pub each_event : (e : Event) → EachOfEvent P e → EachOfEvent Q e
   each_event (Begins lane c) is = each_call c is
@@ -63,34 +42,12 @@ module _ (name other : Names) where
   same_call (call.Put words) same = ap call.Put same
   same_call (call.PutIf expected words) same =
       ap (λ (w : List ℕ). call.PutIf w (name words)) same.0 ∙ ap (call.PutIf (other expected)) same.1
-  same_call call.TryWrite same = refl
-  same_call call.TryRead same = refl
-  same_call call.WriteLock same = refl
-  same_call call.ReadLock same = refl
-  same_call call.Optimistic same = refl
-  same_call (call.Validate s) same = refl
-  same_call (call.UnlockWrite s) same = refl
-  same_call (call.UnlockRead s) same = refl
-  same_call (call.Unlock s) same = refl
-  same_call (call.ToWrite s) same = refl
-  same_call (call.ToRead s) same = refl
-  same_call (call.ToOptimistic s) same = refl
-  same_call call.TryUnlockWrite same = refl
-  same_call call.TryUnlockRead same = refl
-  same_call call.IsWriteLocked same = refl
-  same_call call.IsReadLocked same = refl
-  same_call call.ReadCount same = refl
-  same_call call.Get same = refl
+  same_call _ same = refl
 
   pub same_reply : (r : Reply) → EachOfReply (λ (words : List ℕ). name words ≡ other words) r →
       reply_by name r ≡ reply_by other r
   same_reply (reply.Content words) same = ap reply.Content same
-  same_reply (reply.Stamp s) same = refl
-  same_reply reply.Yes same = refl
-  same_reply reply.No same = refl
-  same_reply reply.Done same = refl
-  same_reply reply.Mismatch same = refl
-  same_reply (reply.Count n) same = refl
+  same_reply _ same = refl
 
   pub same_event : (e : Event) → EachOfEvent (λ (words : List ℕ). name words ≡ other words) e →
       event_by name e ≡ event_by other e
@@ -112,40 +69,15 @@ module _ (name other : Names) where
 abbrev pub HasShortName : Names → List ℕ → Type 0
 HasShortName name words = has_one_word (name words) ≡ true
 
-both_true : {a b : Bool} → a ≡ true → b ≡ true → (a && b) ≡ true
-both_true one other = rw (one, other) refl
-
 module _ (name : Names) where
   small_call : (c : Call) → EachOfCall (HasShortName name) c → is_small_call (call_by name c) ≡ true
   small_call (call.Put words) short = short
-  small_call (call.PutIf expected words) short = both_true short.0 short.1
-  small_call call.TryWrite short = refl
-  small_call call.TryRead short = refl
-  small_call call.WriteLock short = refl
-  small_call call.ReadLock short = refl
-  small_call call.Optimistic short = refl
-  small_call (call.Validate s) short = refl
-  small_call (call.UnlockWrite s) short = refl
-  small_call (call.UnlockRead s) short = refl
-  small_call (call.Unlock s) short = refl
-  small_call (call.ToWrite s) short = refl
-  small_call (call.ToRead s) short = refl
-  small_call (call.ToOptimistic s) short = refl
-  small_call call.TryUnlockWrite short = refl
-  small_call call.TryUnlockRead short = refl
-  small_call call.IsWriteLocked short = refl
-  small_call call.IsReadLocked short = refl
-  small_call call.ReadCount short = refl
-  small_call call.Get short = refl
+  small_call (call.PutIf expected words) short = and_from _ _ short.0 short.1
+  small_call _ short = refl
 
   small_reply : (r : Reply) → EachOfReply (HasShortName name) r → is_small_reply (reply_by name r) ≡ true
   small_reply (reply.Content words) short = short
-  small_reply (reply.Stamp s) short = refl
-  small_reply reply.Yes short = refl
-  small_reply reply.No short = refl
-  small_reply reply.Done short = refl
-  small_reply reply.Mismatch short = refl
-  small_reply (reply.Count n) short = refl
+  small_reply _ short = refl
 
   pub of_lane_by : (e : Event) → lane_of e < 64 → EachOfEvent (HasShortName name) e → IsOfLane (event_by name e)
   of_lane_by (Begins lane c) low short = (low, small_call c short)

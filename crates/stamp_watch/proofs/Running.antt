@@ -425,11 +425,9 @@ pub rest_found : (limits : Bounds) (run : List Event) (most : ℕ) (ahead : Opti
     IsFound limits run most ahead v →
     IsRest limits run most ahead v
 rest_found limits run most ahead verdict.Explained found = found_now limits run most ahead verdict.Explained found
-rest_found limits run most ahead (verdict.Stuck k) found = found
-rest_found limits run most ahead (verdict.StuckWithin k m) found = found
 rest_found limits run most ahead (verdict.Undecided k cause.TooMany) found = λ later over. found later
 rest_found limits run most ahead (verdict.Undecided k cause.TooFar) found = found
-rest_found limits run most ahead (verdict.Broken k) found = found
+rest_found limits run most ahead _ found = found
 
 -- no event comes
 pub over_here : (run : List Event) → IsOver run []
@@ -440,15 +438,12 @@ pub rest_now : (limits : Bounds) (run : List Event) (most : ℕ) (ahead : Option
     IsRest limits run most ahead v →
     IsVerdict limits run most ahead v
 rest_now limits run most ahead verdict.Explained rest = rest
-rest_now limits run most ahead (verdict.Stuck k) rest = found_now limits run most ahead (verdict.Stuck k) rest
-rest_now limits run most ahead (verdict.StuckWithin k m) rest =
-    found_now limits run most ahead (verdict.StuckWithin k m) rest
 rest_now limits run most ahead (verdict.Undecided k cause.TooMany) rest =
     subst (λ (xs : List Event). IsVerdict limits xs most ahead (verdict.Undecided k cause.TooMany)) (append-nil run)
     (rest [] (over_here run))
 rest_now limits run most ahead (verdict.Undecided k cause.TooFar) rest =
     found_now limits run most ahead (verdict.Undecided k cause.TooFar) rest
-rest_now limits run most ahead (verdict.Broken k) rest = found_now limits run most ahead (verdict.Broken k) rest
+rest_now limits run most ahead which rest = found_now limits run most ahead which rest
 
 -- an event that may not come there
 module _ (limits : Bounds) (run : List Event) (most : ℕ) (ahead : Option ℕ) (place : ℕ) (e : Event)
@@ -480,12 +475,9 @@ module _ (limits : Bounds) (run : List Event) (most : ℕ) (ahead : Option ℕ) 
     },
     subst (AreExplained limits) (sym (cut_before more)) rest.1,
   )
-  broken_found (verdict.Stuck k) rest more = found_later limits run most ahead (verdict.Stuck k) e rest more
-  broken_found (verdict.StuckWithin k m) rest more = found_later limits run most ahead (verdict.StuckWithin k m) e
-      rest more
   broken_found (verdict.Undecided k cause.TooMany) rest more =
       subst (λ (xs : List Event). IsVerdict limits xs most ahead (verdict.Undecided k cause.TooMany))
       (sym (append_assoc run (e ∷ []) more)) (rest (e ∷ more) (over_broken more))
   broken_found (verdict.Undecided k cause.TooFar) rest more = found_later limits run most ahead
       (verdict.Undecided k cause.TooFar) e rest more
-  broken_found (verdict.Broken k) rest more = found_later limits run most ahead (verdict.Broken k) e rest more
+  broken_found which rest more = found_later limits run most ahead which e rest more

@@ -4,12 +4,12 @@ use Rattle.std.proofs.Common.{length, refl, sym, ◌∙◌, ap, subst, inl, inr,
 use Rattle.std.proofs.Common.{Option, Some, None, length-take}
 use Rattle.std.specs.Prelude.{slice_get, map, take, drop, nat_lt, if◌then◌else◌, is_some, IsSome}
 use Rattle.std.specs.List.{Contains, fold}
-use Rattle.std.specs.Option.{option_map}
-use Rattle.std.proofs.lemmas.Option.{none-some, same_Some, slice_get-map}
 use Rattle.stamp_core.specs.declared.call.Call.{Call}
 use Rattle.stamp_explain.specs.declared.observed.Observation.{Observation}
 use Rattle.stamp_explain.specs.declared.observed.Returned.{Returned}
-use Rattle.stamp_explain.proofs.Lists.{none_in_empty, contains_cases, contains_first, contains_rest}
+use Rattle.stamp_explain.proofs.Lists.{contains_map, from_map}
+use Rattle.stamp_explain.proofs.Lists.{contains_at}
+use Rattle.stamp_explain.proofs.Lists.{none_in_empty}
 use Rattle.stamp_runs.specs.declared.event.Event.{Event}
 use Rattle.stamp_runs.specs.declared.event.Event.TheVariants.{Begins, Returns, Withdraws}
 use Rattle.stamp_runs.specs.Own.{none_open, open_then}
@@ -19,7 +19,7 @@ use Rattle.stamp_runs.proofs.Owning.{Calls, in_lane}
 use Rattle.stamp_watch.specs.AsObserved.{Ending, ending_of, entries_from}
 use Rattle.stamp_watch.specs.AsObserved.Ending.{StaysOpen, EndsReturned, EndsWithdrawn}
 use Rattle.stamp_watch.proofs.Numbered.{IsEntryOf, entry_tells, entry_returned, in_with_entry, with_entry_has}
-use Rattle.stamp_watch.proofs.Numbered.{end_or_not, ending_last, ending_spares, first_from, contains_at, own_firsts}
+use Rattle.stamp_watch.proofs.Numbered.{end_or_not, ending_last, ending_spares, first_from, own_firsts}
 use Rattle.stamp_watch.proofs.Numbered.{return_ends, withdrawn_or_ended}
 use Rattle.stamp_watch.proofs.Form.{still_open}
 use Rattle.stamp_watch.proofs.Planning.{IsLate}
@@ -240,39 +240,18 @@ returns_behind n (Begins lane call ∷ events) e r has back = by (in_with_entry 
         let low = ending_last lane (n + 1) events r
         (entry_returned lane call n (ending_of lane (n + 1) events) e r is back) in omega arith
     by (inr later) more = more later
-returns_behind n (Returns lane reply ∷ events) e r has back = returns_behind (n + 1) events e r has back
-returns_behind n (Withdraws lane ∷ events) e r has back = returns_behind (n + 1) events e r has back
+returns_behind n (_ ∷ events) e r has back = returns_behind (n + 1) events e r has back
 
-contains_map : (f : Observation → Observation) (xs : List Observation) (x : Observation) → Contains xs x →
-    Contains (map f xs) (f x)
-contains_map f [] x has = absurd (none_in_empty x has)
-contains_map f (y ∷ xs) x has = by (contains_cases y xs x has) (λ later. contains_map f xs x later)
-  where
-    by : (y ≡ x) ⊎ Contains xs x → (Contains xs x → Contains (map f xs) (f x)) → Contains (f y ∷ map f xs) (f x)
-    by (inl same) _ = contains_first (f y) (map f xs) (f x) (ap f same)
-    by (inr later) more = contains_rest (f y) (map f xs) (f x) (more later)
-
--- what an element of a list's image is of
-record IsImage (f : Observation → Observation) (xs : List Observation) (i : ℕ) (y : Observation) : Type 0 where
-  of : Observation
-  at : slice_get xs i ≡ Some of
-  same : f of ≡ y
-
-image_of : (f : Observation → Observation) (xs : List Observation) (i : ℕ) (y : Observation) →
-    slice_get (map f xs) i ≡ Some y → IsImage f xs i y
-image_of f xs i y at = by (slice_get xs i) refl (sym (slice_get-map f xs i) ∙ at)
-  where
-    by : (o : Option Observation) → slice_get xs i ≡ o → option_map f o ≡ Some y → IsImage f xs i y
-    by None is none = absurd (none-some y none)
-    by (Some x) is some = record { of = x; at = is; same = same_Some (f x) y some }
+abbrev IsFrom : ℕ → List Observation → ℕ → Observation → Type 0
+IsFrom m entries i y = (x : Observation) × ((slice_get entries i ≡ Some x) × (shortened m x ≡ y))
 
 pub shortened_run : (m : ℕ) (events : List Event) → AreKept none_open m events →
     AreOfRun (map (shortened m) (entries_from 0 events)) (take m events)
 shortened_run m events kept = record {
   inside = λ e has. inside e (lengthened none_open 0 m m events e (omega arith) kept has);
-  each = λ i e at. each e (image_of (shortened m) (entries_from 0 events) i e at);
-  single = λ i j e at_i at_j. single i j e (image_of (shortened m) (entries_from 0 events) i e at_i)
-      (image_of (shortened m) (entries_from 0 events) j e at_j);
+  each = λ i e at. each i e (from_map (shortened m) (entries_from 0 events) i e at);
+  single = λ i j e at_i at_j. single i j e (from_map (shortened m) (entries_from 0 events) i e at_i)
+      (from_map (shortened m) (entries_from 0 events) j e at_j);
 }
   where
     inside : (e : Observation) → IsShortenedOf m e (Contains (entries_from 0 events)) →
@@ -280,25 +259,25 @@ shortened_run m events kept = record {
     inside e found = subst (λ (o : Observation). Contains (map (shortened m) (entries_from 0 events)) o) found.same
         (contains_map (shortened m) (entries_from 0 events) found.whole found.is)
 
-    each : {i : ℕ} (e : Observation) → IsImage (shortened m) (entries_from 0 events) i e →
+    each : (i : ℕ) (e : Observation) → IsFrom m (entries_from 0 events) i e →
         Contains (entries_from 0 (take m events)) e ⊎ IsLate (length (take m events)) e
-    each {i} e image = by (shortens none_open 0 m m events image.of (omega arith) kept
-        (contains_at (entries_from 0 events) i image.of image.at))
+    each i e image = by (shortens none_open 0 m m events image.0 (omega arith) kept
+        (contains_at (entries_from 0 events) i image.0 image.1.0))
       where
-        by : Contains (entries_from 0 (take m events)) (shortened m image.of) ⊎ (m ≤ image.of.first) →
+        by : Contains (entries_from 0 (take m events)) (shortened m image.0) ⊎ (m ≤ image.0.first) →
             Contains (entries_from 0 (take m events)) e ⊎ IsLate (length (take m events)) e
-        by (inl has) = inl (subst (λ (o : Observation). Contains (entries_from 0 (take m events)) o) image.same has)
+        by (inl has) = inl (subst (λ (o : Observation). Contains (entries_from 0 (take m events)) o) image.1.1 has)
         by (inr late) =
-            let first : image.of.first ≡ e.first =
-            sym (same_first m image.of) ∙ ap (λ (o : Observation). o.first) image.same in
+            let first : image.0.first ≡ e.first =
+            sym (same_first m image.0) ∙ ap (λ (o : Observation). o.first) image.1.1 in
             inr (record {
               begins = omega (arith, length-take m events);
-              open_still = sym (ap (λ (o : Observation). o.returned) image.same) ∙ shortened_open m image.of
-                  (λ r back. let behind = returns_behind 0 events image.of r
-                  (contains_at (entries_from 0 events) i image.of image.at) back in omega arith);
+              open_still = sym (ap (λ (o : Observation). o.returned) image.1.1) ∙ shortened_open m image.0
+                  (λ r back. let behind = returns_behind 0 events image.0 r
+                  (contains_at (entries_from 0 events) i image.0 image.1.0) back in omega arith);
             })
 
-    single : (i j : ℕ) (e : Observation) → IsImage (shortened m) (entries_from 0 events) i e →
-        IsImage (shortened m) (entries_from 0 events) j e → i ≡ j
-    single i j e a b = own_firsts 0 events i j a.of b.of a.at b.at (sym (same_first m a.of) ∙
-        ap (λ (o : Observation). o.first) (a.same ∙ sym b.same) ∙ same_first m b.of)
+    single : (i j : ℕ) (e : Observation) → IsFrom m (entries_from 0 events) i e →
+        IsFrom m (entries_from 0 events) j e → i ≡ j
+    single i j e a b = own_firsts 0 events i j a.0 b.0 a.1.0 b.1.0 (sym (same_first m a.0) ∙
+        ap (λ (o : Observation). o.first) (a.1.1 ∙ sym b.1.1) ∙ same_first m b.0)

@@ -14,6 +14,7 @@ use Rattle.stamp_explain.specs.declared.observed.Returned.{Returned}
 use Rattle.stamp_explain.specs.Observed.{observed_as, IsReturnAt}
 use Rattle.stamp_explain.specs.Explained.{IsExplained}
 use Rattle.stamp_explain.specs.Cut.{returned_by, cut_entries}
+use Rattle.stamp_explain.proofs.Lists.{contains_at}
 use Rattle.stamp_explain.proofs.Lists.{none_in_empty}
 use Rattle.stamp_runs.specs.declared.event.Event.{Event}
 use Rattle.stamp_runs.specs.declared.event.Event.TheVariants.{Begins, Returns, Withdraws}
@@ -26,9 +27,10 @@ use Rattle.stamp_watch.specs.AsObserved.{Ending, ending_of, with_entry, entries_
 use Rattle.stamp_watch.specs.AsObserved.{NoneIsWithdrawnLater}
 use Rattle.stamp_watch.specs.AsObserved.Ending.{StaysOpen, EndsReturned, EndsWithdrawn}
 use Rattle.stamp_watch.specs.WatchLaws.{StuckAsObserved, StuckAsSeen}
+use Rattle.stamp_watch.proofs.Reading.{up_to}
 use Rattle.stamp_watch.proofs.Numbered.{IsEntryOf, entry_returned, in_with_entry, with_entry_has, ended_by}
 use Rattle.stamp_watch.proofs.Numbered.{ending_last}
-use Rattle.stamp_watch.proofs.Numbered.{last_from, open_or_ended, return_ends, ending_spares, contains_at}
+use Rattle.stamp_watch.proofs.Numbered.{last_from, open_or_ended, return_ends, ending_spares}
 use Rattle.stamp_watch.proofs.Form.{begins_next, form_up_to, may_come_at, open_other, past_end}
 use Rattle.stamp_watch.proofs.AsObserved.{AreOfRun, run_explained, explained_run}
 use Rattle.stamp_watch.proofs.Shortening.{returned_below, shortened, AreKept, shortened_run}
@@ -70,24 +72,13 @@ ends_none_later calls lane n (Begins other call ∷ events) e q r form is ends h
     by (inl its) _ = apart (sym (ends_apart lane other (n + 1) events q r ends
         (entry_returned other call n (ending_of other (n + 1) events) e r its back) same))
     by (inr later) more = more later
-ends_none_later calls lane n (Returns other reply ∷ events) e q r form is ends has back same =
-    by (ended_by lane n (Returns other reply) events q ends) (λ apart more. ends_none_later
-    (open_then calls (Returns other reply)) lane (n + 1) events e q r form.1
-    (ap is_some (open_other lane calls (Returns other reply) apart) ∙ is) more has back same)
+ends_none_later calls lane n (event ∷ events) e q r form is ends has back same =
+    by (ended_by lane n event events q ends) (λ apart more. ends_none_later (open_then calls event) lane (n + 1) events
+    e q r form.1 (ap is_some (open_other lane calls event apart) ∙ is) more has back same)
   where
-    by : ((Returns other reply ≡ Returns lane q.reply) × (q.last ≡ n)) ⊎
-        ((other ≢ lane) × (ending_of lane (n + 1) events ≡ EndsReturned q)) →
-        (other ≢ lane → ending_of lane (n + 1) events ≡ EndsReturned q → ⊥) → ⊥
-    by (inl here) _ = omega (arith, here.1, same, last_from (n + 1) events e r has back)
-    by (inr past) more = more past.0 past.1
-ends_none_later calls lane n (Withdraws other ∷ events) e q r form is ends has back same =
-    by (ended_by lane n (Withdraws other) events q ends) (λ apart more. ends_none_later
-    (open_then calls (Withdraws other)) lane (n + 1) events e q r form.1
-    (ap is_some (open_other lane calls (Withdraws other) apart) ∙ is) more has back same)
-  where
-    by : ((Withdraws other ≡ Returns lane q.reply) × (q.last ≡ n)) ⊎
-        ((other ≢ lane) × (ending_of lane (n + 1) events ≡ EndsReturned q)) →
-        (other ≢ lane → ending_of lane (n + 1) events ≡ EndsReturned q → ⊥) → ⊥
+    by : ((event ≡ Returns lane q.reply) × (q.last ≡ n)) ⊎
+        ((¬ IsEndOf lane event) × (ending_of lane (n + 1) events ≡ EndsReturned q)) →
+        (¬ IsEndOf lane event → ending_of lane (n + 1) events ≡ EndsReturned q → ⊥) → ⊥
     by (inl here) _ = omega (arith, here.1, same, last_from (n + 1) events e r has back)
     by (inr past) more = more past.0 past.1
 
@@ -130,10 +121,7 @@ own_lasts calls n (Begins lane call ∷ events) form = own_lasts_with lane call 
     (λ e q r has ends back same. ends_none_later (open_then calls (Begins lane call)) lane (n + 1)
     events e q r form.1 (ap is_some (in_lane (Some call) (calls lane) refl)) ends has back same)
     (own_lasts (open_then calls (Begins lane call)) (n + 1) events form.1)
-own_lasts calls n (Returns lane reply ∷ events) form =
-    own_lasts (open_then calls (Returns lane reply)) (n + 1) events form.1
-own_lasts calls n (Withdraws lane ∷ events) form =
-    own_lasts (open_then calls (Withdraws lane)) (n + 1) events form.1
+own_lasts calls n (which ∷ events) form = own_lasts (open_then calls which) (n + 1) events form.1
 
 -- so a cut at a return is the run up to there
 cut_is_short : (last bound i end : ℕ) (entries : List Observation) →
@@ -191,10 +179,7 @@ take_none (suc k) (x ∷ events) none = ap (λ (es : List Event). x ∷ es) (tak
 
 pub take_one : (k : ℕ) (events : List Event) (event : Event) → slice_get events k ≡ Some event →
     take (suc k) events ≡ take k events ++ event ∷ []
-take_one zero [] event is = absurd (none-some event is)
-take_one (suc k) [] event is = absurd (none-some event is)
-take_one zero (x ∷ events) event is = ap (λ (e : Event). e ∷ []) (same_Some x event is)
-take_one (suc k) (x ∷ events) event is = ap (λ (es : List Event). x ∷ es) (take_one k events event is)
+take_one k events event is = ap (λ (n : ℕ). take n events) (sym (add-one k)) ∙ up_to events k event is
 
 withdrawn_at : (k lane : ℕ) (events : List Event) → slice_get events k ≡ Some (Withdraws lane) →
     EndsBy lane (Withdraws lane) (drop k events)
@@ -283,16 +268,10 @@ call_of_return calls n (suc k) (Begins other call ∷ events) lane r at form is 
     call_past_beginning (calls lane) other lane n call events r
     (call_of_return (open_then calls (Begins other call)) (n + 1) k events lane r (omega arith)
     form.1 is)
-call_of_return calls n (suc k) (Returns other reply ∷ events) lane r at form is = call_past_end (calls lane) other lane
-    (ending_of lane n (Returns other reply ∷ events)) (ending_of lane (n + 1) events) (entries_from (n + 1) events) r
-    (ending_spares lane n (Returns other reply) events)
-    (call_of_return (open_then calls (Returns other reply)) (n + 1) k events lane r (omega arith)
-    form.1 is)
-call_of_return calls n (suc k) (Withdraws other ∷ events) lane r at form is = call_past_end (calls lane) other lane
-    (ending_of lane n (Withdraws other ∷ events)) (ending_of lane (n + 1) events) (entries_from (n + 1) events) r
-    (ending_spares lane n (Withdraws other) events)
-    (call_of_return (open_then calls (Withdraws other)) (n + 1) k events lane r (omega arith)
-    form.1 is)
+call_of_return calls n (suc k) (event ∷ events) lane r at form is = call_past_end (calls lane) (lane_of event) lane
+    (ending_of lane n (event ∷ events)) (ending_of lane (n + 1) events) (entries_from (n + 1) events) r
+    (ending_spares lane n event events)
+    (call_of_return (open_then calls event) (n + 1) k events lane r (omega arith) form.1 is)
 
 -- and an entry that returned has its return among the events
 abbrev IsReturnThere : ℕ → List Event → Type 0

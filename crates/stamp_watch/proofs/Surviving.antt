@@ -44,10 +44,9 @@ due_apart {after = after} then (Withdraws lane) due asks sets happens e =
 
 due_still : {lanes after : Lanes} {u : ℕ} {call : Call} {reply : Reply} (event : Event) → IsDue event lanes →
     lanes u ≡ Asks call → Sets lanes after u (Gets reply) → IsDue event after
-due_still (Begins lane call) due asks sets = tt
 due_still (Returns lane reply) due asks sets =
     (due.0, takes_beside asks sets (λ c is. asks_or_gets is refl) due.1)
-due_still (Withdraws lane) due asks sets = tt
+due_still _ due asks sets = tt
 
 module _ {S : Type 0} {O : Object S} where
   pub comes_first : {events : List Event} {s t : S} {a b : Lanes} (event : Event) → IsDue event a →

@@ -7,7 +7,7 @@ use Rattle.std.proofs.lemmas.List.Elements.{All-take}
 use Rattle.std.proofs.lemmas.List.{take-append-le, drop-append-le, length-append, length-drop}
 use Rattle.stamp_core.specs.Limits.{Bounds}
 use Rattle.stamp_runs.specs.declared.event.Event.{Event}
-use Rattle.stamp_runs.specs.declared.event.Event.TheVariants.{Begins, Returns, Withdraws}
+use Rattle.stamp_runs.specs.declared.event.Event.TheVariants.{Begins}
 use Rattle.stamp_runs.specs.Run.{IsEndOf, EndsNever}
 use Rattle.stamp_runs.specs.BothRun.{AreExplained}
 use Rattle.stamp_sets.specs.declared.ending.Ending.{Ending}
@@ -30,8 +30,7 @@ use Rattle.stamp_watch.proofs.Running.{cut_run, front_of_run, next_of_run}
 unended : (e : Event) (n : ℕ) (ends : Ending) (behind : List Event) → IsUnknown e ends → IsEndTold e n behind ends →
     IsUnended e behind
 unended (Begins lane call) n ends behind never told = ends_so lane n behind Never (sym (ap told_as never) ∙ told)
-unended (Returns lane reply) n ends behind never told = absurd never
-unended (Withdraws lane) n ends behind never told = absurd never
+unended _ n ends behind never told = absurd never
 
 -- what was not seen begins with a call of which it isn't known how it ends
 pub front_waits : (events : List Event) (seen : ℕ) (e : Event) → seen < length events → e ≡ get_or events seen e →
@@ -53,8 +52,7 @@ open_for (Begins lane call) n k ahead ends run behind more never told there many
       (All-take (λ (e : Event). ¬ IsEndOf lane e) ahead behind
       (ends_so lane n behind Never (sym (ap told_as never) ∙ told)));
 }
-open_for (Returns lane reply) n k ahead ends run behind more never told there many = absurd never
-open_for (Withdraws lane) n k ahead ends run behind more never told there many = absurd never
+open_for _ n k ahead ends run behind more never told there many = absurd never
 
 module _ (limits : Bounds) (run : List Event) (first seen : ℕ) (events : List Event) (base watch : Watch)
     (is : IsRunOn limits run first seen events base watch) (e : Event) (less : seen < length events)

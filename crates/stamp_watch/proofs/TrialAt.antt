@@ -1,16 +1,14 @@
 -- The run up to the return of a call, at which replies are tried.
-use Rattle.std.proofs.Common.{ℕ, ◌≡◌, ◌+◌, ◌<◌, ◌≤◌, Bool, true, false, List, ◌∷◌}
-use Rattle.std.proofs.Common.{[], ◌++◌, length, Option, Some, None}
+use Rattle.std.proofs.Common.{ℕ, ◌≡◌, ◌<◌, ◌≤◌, Bool, true, false, List}
+use Rattle.std.proofs.Common.{length, Some}
 use Rattle.std.proofs.Common.{get_or, refl, sym, ◌∙◌, ap, subst, inl, inr, arith}
-use Rattle.std.specs.Prelude.{Vec, slice_get, take}
-use Rattle.std.specs.declared.alloc.Global.{Global}
-use Rattle.std.specs.List.{All, Contains}
-use Rattle.std.proofs.lemmas.Bool.{false≢true}
+use Rattle.std.specs.Prelude.{slice_get, take}
+use Rattle.std.specs.List.{All}
+use Rattle.std.proofs.lemmas.List.{length-take-le}
 use Rattle.std.proofs.lemmas.List.Elements.{All-take}
-use Rattle.std.proofs.lemmas.Option.{get_or_from_slice_get, same_Some, slice_get_within}
+use Rattle.std.proofs.lemmas.Option.{get_or_from_slice_get, slice_get_within}
 use Rattle.stamp_core.specs.declared.reply.Reply.{Reply}
 use Rattle.stamp_explain.specs.declared.observed.Observation.{Observation}
-use Rattle.stamp_explain.specs.declared.observed.Returned.{Returned}
 use Rattle.stamp_explain.specs.Observed.{ObservedHistory, IsObserved, IsReturnAt}
 use Rattle.stamp_explain.specs.Possible.{IsPossible}
 use Rattle.stamp_explain.proofs.Lists.{at_index}
@@ -32,6 +30,12 @@ pub lane_read : (h : ObservedHistory) (i : ℕ) (at : IsReturnAt h.entries i) (e
     (d : Observation) → entries ≡ h.entries → (get_or entries i d).thread ≡ at.entry.thread
 lane_read h i at entries d same = ap (λ (es : List Observation). (get_or es i d).thread) same ∙
     ap (λ (e : Observation). e.thread) (get_or_from_slice_get h.entries i at.entry d at.is_entry)
+
+-- there are so many moments before one
+pub up_to_place : (moments : List Moment) (i : ℕ) (is_return : Bool) (k : ℕ) → IsPlaceOf moments i is_return k →
+    length (take k moments) ≡ k
+up_to_place moments i is_return k place = length-take-le k moments
+    (let less = slice_get_within moments k place.moment place.there in omega (arith, less))
 
 module _ (h : ObservedHistory) (i : ℕ) (at : IsReturnAt h.entries i) (moments : List Moment)
     (are : AreMomentsOf h.entries moments)
@@ -56,23 +60,16 @@ module _ (h : ObservedHistory) (i : ℕ) (at : IsReturnAt h.entries i) (moments 
       where
         by : IsEventAt h.entries place.moment (moment_at k place.moment place.there).0 →
             place.moment ≡ beginning_of i at.entry
-        by (inl begins) = begins.moment ∙ ap (λ (j : ℕ). beginning_of j begins.entry) place.its_entry ∙
-            ap (beginning_of i) (same_Some begins.entry at.entry (sym begins.is_entry ∙
-            ap (slice_get h.entries) place.its_entry ∙ at.is_entry))
-        by (inr returns) =
-            absurd (false≢true (sym place.its_kind ∙ ap (λ (m : Moment). m.is_return) returns.moment))
+        by (inl begins) = cc
+        by (inr returns) = cc
 
     pub return_there : (k : ℕ) → IsPlaceOf moments i true k → slice_get moments k ≡ Some (return_of i at.return)
     return_there k place = place.there ∙ ap Some (by (moment_at k place.moment place.there).1)
       where
         by : IsEventAt h.entries place.moment (moment_at k place.moment place.there).0 →
             place.moment ≡ return_of i at.return
-        by (inl begins) =
-            absurd (false≢true (sym (ap (λ (m : Moment). m.is_return) begins.moment) ∙ place.its_kind))
-        by (inr returns) = returns.moment ∙ ap (λ (j : ℕ). return_of j returns.at.return) place.its_entry ∙
-            ap (return_of i) (same_Some returns.at.return at.return (sym returns.at.returned ∙
-            ap (λ (o : Observation). o.returned) (same_Some returns.at.entry at.entry (sym returns.at.is_entry ∙
-            ap (slice_get h.entries) place.its_entry ∙ at.is_entry)) ∙ at.returned))
+        by (inl begins) = cc
+        by (inr returns) = cc
 
     pub moments_before : (k : ℕ) → All (IsMomentOf h.entries) (take k moments)
     moments_before k = All-take (IsMomentOf h.entries) k moments are.each

@@ -1,8 +1,8 @@
 -- A run that is judged with any return at its end.
-use Rattle.std.proofs.Common.{ℕ, ◌≡◌, ◌≢◌, ◌⊎◌, ◌+◌, ◌<◌, ◌≤◌, true, false, List, [], ◌∷◌, ◌++◌, length, Some}
-use Rattle.std.proofs.Common.{refl, sym, ◌∙◌, ap, subst, inl, inr, arith, zero-add}
+use Rattle.std.proofs.Common.{ℕ, ◌≡◌, ◌≢◌, ◌⊎◌, ◌+◌, true, false, List, [], ◌∷◌, ◌++◌, length, Some}
+use Rattle.std.proofs.Common.{sym, ◌∙◌, ap, subst, inl, inr, arith}
 use Rattle.std.specs.Prelude.{drop, is_some, take}
-use Rattle.std.proofs.lemmas.Bool.{cases_eq, false≢true}
+use Rattle.std.proofs.lemmas.Bool.{false≢true}
 use Rattle.std.proofs.lemmas.List.{drop-append-le, length-take-le, take-append-drop, take-append-le, take_all}
 use Rattle.std.proofs.lemmas.List.Elements.{All-push}
 use Rattle.stamp_core.specs.Limits.{Bounds}
@@ -79,9 +79,6 @@ module _ (limits : Bounds) (trial : Trial) (is : IsTrial limits trial) (reply : 
   abbrev tried : List Event
   tried = with_return trial reply
 
-  seen : List Event
-  seen = take trial.first events
-
   whole : AreOfLanes tried
   whole = may_return_so events trial.lane (reply_of reply) is.may (small_reply_is reply)
 
@@ -99,10 +96,6 @@ module _ (limits : Bounds) (trial : Trial) (is : IsTrial limits trial) (reply : 
       (drop trial.first events) trial.base is.free
       (subst AreOfLanes (sym parts ∙ ap (λ (es : List Event). take trial.first events ++ es) rest_is) whole)
       is.judging)
-
-  pub tried_explained : AreExplained limits (take trial.first events ++ drop trial.first tried) →
-      AreExplained limits tried
-  tried_explained explained = subst (AreExplained limits) parts explained
 
   pub explained_tried : AreExplained limits tried →
       AreExplained limits (take trial.first events ++ drop trial.first tried)

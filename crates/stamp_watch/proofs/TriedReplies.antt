@@ -1,9 +1,8 @@
 -- A reply that was tried, by its number.
-use Rattle.std.proofs.Common.{ℕ, ◌≡◌, ◌+◌, ◌≤◌, suc, zero, Bool, true, false, List, []}
-use Rattle.std.proofs.Common.{◌∷◌, ◌++◌, length, Some, refl, sym}
-use Rattle.std.proofs.Common.{◌∙◌, ap, subst, arith, None}
-use Rattle.std.specs.Prelude.{◌↔◌, IsTrue, if◌then◌else◌}
-use Rattle.std.proofs.lemmas.Bool.{false≢true}
+use Rattle.std.proofs.Common.{ℕ, ◌≡◌, Bool, List, []}
+use Rattle.std.proofs.Common.{◌∷◌, ◌++◌, Some, sym}
+use Rattle.std.proofs.Common.{◌∙◌, ap, subst, None}
+use Rattle.std.specs.Prelude.{◌↔◌, IsTrue}
 use Rattle.stamp_core.specs.LockDecision.{reply_as}
 use Rattle.stamp_core.specs.declared.lock_decision.LockReply.{LockReply}
 use Rattle.stamp_core.specs.declared.lock_decision.LockReply.TheVariants as own
@@ -12,43 +11,35 @@ use Rattle.stamp_core.specs.declared.reply.Reply.TheVariants as reply
 use Rattle.stamp_explain.specs.Observed.{ObservedHistory}
 use Rattle.stamp_explain.specs.Possible.{IsPossible}
 use Rattle.stamp_runs.specs.BothRun.{AreExplained}
-use Rattle.stamp_runs.specs.Names.{EachOfReply, reply_by}
+use Rattle.stamp_runs.specs.Names.{EachOfReply}
 use Rattle.stamp_runs.specs.declared.event.Event.{Event}
 use Rattle.stamp_runs.specs.declared.event.Event.TheVariants.{Returns}
 use Rattle.stamp_sets.specs.SmallCall.{reply_of}
 use Rattle.stamp_sets.specs.declared.small_call.SmallReply.{SmallReply}
 use Rattle.stamp_sets.specs.declared.small_call.SmallReply.TheVariants as given
-use Rattle.stamp_watch.specs.Names.{AreContents, IsNamed, IsWide, name_in, width_of}
+use Rattle.stamp_watch.specs.Names.{AreContents, IsWide, name_in, width_of}
 use Rattle.stamp_watch.specs.ReplyLaws.{IsContentOf}
 use Rattle.stamp_watch.specs.Replies.{IsUndecidedAtReply}
 use Rattle.stamp_watch.specs.Verdict.{IsTooManyAt}
 use Rattle.stamp_watch.specs.declared.trial.Trial.{Trial}
 use Rattle.stamp_watch.specs.inner.Names.{IsReplyBy}
-use Rattle.stamp_watch.specs.inner.Trial.{IsReplyIn, IsTold, IsTrialAt, IsTried, with_return, words_beside}
-use Rattle.stamp_watch.proofs.Named.{content_told, names_differ, width_is}
+use Rattle.stamp_watch.specs.inner.Trial.{IsReplyIn, IsTrialAt, IsTried, with_return, words_beside}
+use Rattle.stamp_watch.proofs.Named.{content_told, names_differ}
 use Rattle.stamp_watch.proofs.NeverPossible.{possible_is_known}
 use Rattle.stamp_watch.proofs.Renamed.{each_reply}
-use Rattle.stamp_watch.proofs.Trying.{not_zero, possible_there, undecided_there}
+use Rattle.stamp_watch.proofs.Trying.{content_wide, told_event}
+use Rattle.stamp_watch.proofs.Trying.{possible_there, undecided_there}
 
 -- a content of the record is as wide as those with names
 pub known_wide : (h : ObservedHistory) (contents : List (List ℕ)) (told : Reply) →
     AreContents (words_beside h.width) contents → EachOfReply (IsContentOf h.width) told →
     EachOfReply (IsWide (width_of contents)) told
-known_wide h contents told are = each_reply (λ words content. content.wide ∙
-    sym (width_is (words_beside h.width) contents are ∙
-    ap (λ (b : Bool). if b then 1 else h.width) (not_zero h.width content.some))) told
-
-told_reply : (width : ℕ) (contents : List (List ℕ)) (told : Reply) → EachOfReply (IsContentOf width) told →
-    EachOfReply (IsNamed contents) told → EachOfReply (IsTold width contents) told
-told_reply zero contents told none named =
-    each_reply (λ words content. absurd (let some : 1 ≤ 0 = content.some in omega (arith, some))) told none
-told_reply (suc n) contents told known named =
-    each_reply (λ words its. record { some = omega arith; named = its }) told named
+known_wide h contents told are = each_reply (content_wide h.width contents are) told
 
 pub reply_in : (h : ObservedHistory) (contents : List (List ℕ)) (told : Reply) (small : SmallReply) →
     EachOfReply (IsContentOf h.width) told → IsReplyBy contents told small → IsReplyIn h contents told small
 reply_in h contents told small known is =
-    record { told = told_reply h.width contents told known is.named; small_is = is.small_is }
+    record { told = told_event h.width contents (Returns 0 told) known is.named; small_is = is.small_is }
 
 pub reply_by_number : {h : ObservedHistory} {contents : List (List ℕ)} {told : Reply} {small : SmallReply} →
     IsReplyIn h contents told small → IsReplyBy contents told small
@@ -64,26 +55,27 @@ no_content own.Done words same = cc
 no_content own.Mismatch words same = cc
 no_content (own.Count n) words same = cc
 
-plain_told : (P : List ℕ → Type 0) (contents : List (List ℕ)) (answer : LockReply) (told : Reply) →
-    IsReplyBy contents told (given.OfLock answer) → EachOfReply P told
-plain_told P contents answer (reply.Content words) is =
-    absurd (no_content answer (name_in contents words) is.small_is)
-plain_told P contents answer (reply.Stamp s) is = tt
-plain_told P contents answer reply.Yes is = tt
-plain_told P contents answer reply.No is = tt
-plain_told P contents answer reply.Done is = tt
-plain_told P contents answer reply.Mismatch is = tt
-plain_told P contents answer (reply.Count n) is = tt
+-- a reply without a content is told by itself
+plain_is : (contents : List (List ℕ)) (answer : LockReply) (told : Reply) →
+    IsReplyBy contents told (given.OfLock answer) → told ≡ reply_as answer
+plain_is contents answer (reply.Content words) is = absurd (no_content answer (name_in contents words) is.small_is)
+plain_is contents answer _ is = sym is.small_is
+
+-- one number tells one reply
+pub one_told : (contents : List (List ℕ)) (told other : Reply) (small : SmallReply) → IsReplyBy contents told small →
+    IsReplyBy contents other small → told ≡ other
+one_told contents told other (given.OfLock answer) is its =
+    plain_is contents answer told is ∙ sym (plain_is contents answer other its)
+one_told contents told other (given.Content n) is its =
+    let one = content_told contents told n is in
+    let two = content_told contents other n its in
+    one.1.0 ∙ ap reply.Content (names_differ contents one.0 two.0 (one.1.1 ∙ sym two.1.1)) ∙ sym two.1.0
 
 -- replies with one number tell contents of the record, or neither does
 pub as_known : (P : List ℕ → Type 0) (contents : List (List ℕ)) (told other : Reply) (small : SmallReply) →
     IsReplyBy contents told small → IsReplyBy contents other small → EachOfReply P other → EachOfReply P told
-as_known P contents told other (given.OfLock answer) is its known = plain_told P contents answer told is
-as_known P contents told other (given.Content n) is its known =
-    let one = content_told contents told n is in
-    let two = content_told contents other n its in
-    subst (EachOfReply P) (two.1.0 ∙ ap reply.Content (names_differ contents two.0 one.0 (two.1.1 ∙ sym one.1.1)) ∙
-    sym one.1.0) known
+as_known P contents told other small is its known =
+    subst (EachOfReply P) (sym (one_told contents told other small is its)) known
 
 module _ {h : ObservedHistory} {i most : ℕ} {contents : List (List ℕ)} {trial : Trial}
     (is : IsTrialAt h i most contents trial)

@@ -1,19 +1,18 @@
 -- Replies that are tried at a return of an observed history.
-use Rattle.std.proofs.Common.{ℕ, ◌≡◌, ◌≢◌, ◌⊎◌, ◌+◌, ◌<◌, ◌≤◌, ◌==◌, suc, zero, Bool}
+use Rattle.std.proofs.Common.{ℕ, ◌≡◌, ◌<◌, ◌≤◌, ◌==◌, suc, zero, Bool}
 use Rattle.std.proofs.Common.{true, false, List, [], ◌∷◌, ◌++◌}
-use Rattle.std.proofs.Common.{length, Option, Some, None, refl, sym, ◌∙◌, ap, subst, inl, inr, arith, add-one}
-use Rattle.std.specs.Prelude.{◌↔◌, drop, is_some, map, slice_get, take, if◌then◌else◌}
-use Rattle.std.specs.List.{All, AllZip, Contains}
+use Rattle.std.proofs.Common.{length, Some, refl, sym, ◌∙◌, ap, subst, inl, inr, arith}
+use Rattle.std.specs.Prelude.{◌↔◌, is_some, map, slice_get, take, if◌then◌else◌}
+use Rattle.std.specs.List.{All, AllZip}
 use Rattle.std.proofs.lemmas.Bool.{false≢true}
 use Rattle.std.proofs.lemmas.Bool.Decides.{nat_tests}
 use Rattle.std.proofs.lemmas.List.{length-map, length-take-le, take-map, take-take}
 use Rattle.std.proofs.lemmas.List.Elements.{All-cons, All-head, All-nil, All-tail, All-weaker}
-use Rattle.std.proofs.lemmas.Option.{none-some, same_Some, slice_get_within}
+use Rattle.std.proofs.lemmas.Option.{slice_get_within}
 use Rattle.std.proofs.lemmas.Slice.Zip.{AllZip-long}
 use Rattle.stamp_core.specs.Content.{zeros}
 use Rattle.stamp_core.specs.declared.reply.Reply.{Reply}
 use Rattle.stamp_explain.specs.declared.observed.Observation.{Observation}
-use Rattle.stamp_explain.specs.declared.observed.Returned.{Returned}
 use Rattle.stamp_explain.specs.Observed.{ObservedHistory, IsObserved, IsReturnAt}
 use Rattle.stamp_explain.specs.Possible.{IsPossible}
 use Rattle.stamp_explain.proofs.Lists.{at_index}
@@ -28,17 +27,19 @@ use Rattle.stamp_sets.specs.declared.small_call.SmallReply.{SmallReply}
 use Rattle.stamp_watch.specs.AsEvents.{AreEventsOf, AreMomentsOf, AreNamesFor, IsEventAt, IsMomentOf, beginning_of}
 use Rattle.stamp_watch.specs.AsEvents.{return_of}
 use Rattle.stamp_watch.specs.Form.{is_busy_after}
+use Rattle.stamp_watch.specs.Names.{IsNamed, IsWide, width_of}
 use Rattle.stamp_watch.specs.Names.{AreContents, IsGrown, StaysWide, name_in}
 use Rattle.stamp_watch.specs.Replies.{IsUndecidedAtReply}
+use Rattle.stamp_watch.specs.ReplyLaws.{IsContentOf}
 use Rattle.stamp_watch.specs.Verdict.{AreOfLanes, IsTooManyAt}
 use Rattle.stamp_watch.specs.declared.moments.Moment.{Moment}
 use Rattle.stamp_watch.specs.declared.trial.Trial.{Trial}
 use Rattle.stamp_watch.specs.inner.Trial.{AreNumbered, IsReplyIn, IsTold, IsTrialAt}
-use Rattle.stamp_watch.specs.inner.Trial.{MayReturn, words_beside, with_return}
+use Rattle.stamp_watch.specs.inner.Trial.{MayReturn, words_beside}
 use Rattle.stamp_watch.proofs.Form.{form_up_to, may_come_at}
+use Rattle.stamp_watch.proofs.Named.{width_is}
 use Rattle.stamp_watch.proofs.Named.{named_still, names_differ, stays, zeros_named}
 use Rattle.stamp_watch.proofs.OtherReply.{changed, possible_named, returns_there, run_of_other, run_up_to_return}
-use Rattle.stamp_watch.proofs.OtherReply.{same_moments}
 use Rattle.stamp_watch.proofs.Ranking.{begins_first, in_form, zip_there}
 use Rattle.stamp_watch.proofs.Renamed.{HasShortName, busy_by, each_event, each_reply, of_lanes_by, same_events}
 use Rattle.stamp_watch.proofs.Renamed.{same_reply}
@@ -50,7 +51,7 @@ name_for width contents words = if width == 0 then 0 ∷ words else name_in cont
 tail_same : {a b : List ℕ} → 0 ∷ a ≡ 0 ∷ b → a ≡ b
 tail_same same = cc
 
-is_zero : (n : ℕ) → (n == 0) ≡ true → n ≡ 0
+pub is_zero : (n : ℕ) → (n == 0) ≡ true → n ≡ 0
 is_zero n is = grind (arith, nat_tests)
 
 pub not_zero : (n : ℕ) → 1 ≤ n → (n == 0) ≡ false
@@ -85,7 +86,7 @@ module _ (width : ℕ) (contents : List (List ℕ)) where
   short_name : (words : List ℕ) → IsTold width contents words → HasShortName (name_in contents) words
   short_name words told = ap (λ (name : List ℕ). length name == 1) told.named.1
 
-  told_events : (events : List Event) → All (EachOfEvent (IsTold width contents)) events →
+  pub told_events : (events : List Event) → All (EachOfEvent (IsTold width contents)) events →
       map (event_by (name_in contents)) events ≡ map (event_by (name_for width contents)) events
   told_events events told = same_events (name_in contents) (name_for width contents) events
       (All-weaker (EachOfEvent (IsTold width contents)) (EachOfEvent (λ (words : List ℕ). name_in contents words ≡
@@ -94,6 +95,19 @@ module _ (width : ℕ) (contents : List (List ℕ)) where
   told_reply : (told : Reply) → EachOfReply (IsTold width contents) told →
       reply_by (name_in contents) told ≡ reply_by (name_for width contents) told
   told_reply told is = same_reply (name_in contents) (name_for width contents) told (each_reply told_name told is)
+
+-- a content of the record is as wide as those with names; and it is told where it has one
+pub content_wide : (width : ℕ) (contents : List (List ℕ)) → AreContents (words_beside width) contents →
+    (words : List ℕ) → IsContentOf width words → IsWide (width_of contents) words
+content_wide width contents are words content = content.wide ∙ sym (width_is (words_beside width) contents are ∙
+    ap (λ (b : Bool). if b then 1 else width) (not_zero width content.some))
+
+pub told_event : (width : ℕ) (contents : List (List ℕ)) (e : Event) → EachOfEvent (IsContentOf width) e →
+    EachOfEvent (IsNamed contents) e → EachOfEvent (IsTold width contents) e
+told_event zero contents e none named =
+    each_event (λ words content. absurd (let some : 1 ≤ 0 = content.some in omega (arith, some))) e none
+told_event (suc n) contents e some named =
+    each_event (λ words its. record { some = omega arith; named = its }) e named
 
 -- events at all moments, as far as they are not known
 module _ (entries : List Observation) where
@@ -132,29 +146,49 @@ module _ (entries : List Observation) where
   low_lanes low (m ∷ moments) (e ∷ events) zip = All-cons (λ (e : Event). lane_of e < 64) e events
       (low_lane low m e zip.0) (low_lanes low moments events zip.1)
 
--- a moment has one event
-event_of_return : {entries : List Observation} (i : ℕ) (at : IsReturnAt entries i) (e : Event) →
-    IsEventAt entries (return_of i at.return) e → e ≡ Returns at.entry.thread at.return.reply
-event_of_return {entries} i at e (inl begins) =
-    absurd (false≢true (sym (ap (λ (m : Moment). m.is_return) begins.moment)))
-event_of_return {entries} i at e (inr returns) =
-    returns.event_is ∙ ap (λ (o : Observation). Returns o.thread returns.at.return.reply) entry ∙
-    ap (λ (q : Returned). Returns at.entry.thread q.reply) back
+-- one event is at a moment
+pub one_event : (entries : List Observation) (m : Moment) (a b : Event) → IsEventAt entries m a →
+    IsEventAt entries m b → a ≡ b
+one_event entries m a b (inl x) (inl y) = cc
+one_event entries m a b (inl x) (inr y) = absurd (false≢true (sym (ap (λ (n : Moment). n.is_return) x.moment) ∙
+    ap (λ (n : Moment). n.is_return) y.moment))
+one_event entries m a b (inr x) (inl y) = absurd (false≢true (sym (ap (λ (n : Moment). n.is_return) y.moment) ∙
+    ap (λ (n : Moment). n.is_return) x.moment))
+one_event entries m a b (inr x) (inr y) = cc
+
+-- the events at the first moments
+pub first_events : (entries : List Observation) (k : ℕ) (moments : List Moment) (events past : List Event) →
+    AllZip (IsEventAt entries) moments events → AllZip (IsEventAt entries) (take k moments) past →
+    take k events ≡ past
+first_events entries zero moments events [] all first = refl
+first_events entries zero moments events (e ∷ past) all first = absurd first
+first_events entries (suc k) [] [] [] all first = refl
+first_events entries (suc k) [] [] (e ∷ past) all first = absurd first
+first_events entries (suc k) [] (a ∷ events) past all first = absurd all
+first_events entries (suc k) (m ∷ moments) [] past all first = absurd all
+first_events entries (suc k) (m ∷ moments) (a ∷ events) [] all first = absurd first
+first_events entries (suc k) (m ∷ moments) (a ∷ events) (e ∷ past) all first =
+    ap (λ (x : Event). x ∷ take k events) (one_event entries m a e all.0 first.0) ∙
+    ap (λ (es : List Event). e ∷ es) (first_events entries k moments events past all.1 first.1)
+
+module _ (h : ObservedHistory) (moments : List Moment) (k : ℕ) (contents : List (List ℕ)) (run : List Event)
+    (numbered : AreNumbered h (take k moments) contents run)
   where
-    entry : returns.at.entry ≡ at.entry
-    entry = same_Some returns.at.entry at.entry (sym returns.at.is_entry ∙ at.is_entry)
+    pub numbered_long : k ≤ length moments → length run ≡ k
+    numbered_long within = ap length numbered.run_is ∙
+        length-map numbered.events (event_by (name_in contents)) ∙
+        AllZip-long (IsEventAt h.entries) (take k moments) numbered.events numbered.are ∙
+        length-take-le k moments within
 
-    back : returns.at.return ≡ at.return
-    back = same_Some returns.at.return at.return
-        (sym returns.at.returned ∙ ap (λ (o : Observation). o.returned) entry ∙ at.returned)
-
-event_of_beginning : {entries : List Observation} (i : ℕ) (entry : Observation) → slice_get entries i ≡ Some entry →
-    (e : Event) → IsEventAt entries (beginning_of i entry) e → e ≡ Begins entry.thread entry.call
-event_of_beginning {entries} i entry is e (inl begins) =
-    begins.event_is ∙ ap (λ (o : Observation). Begins o.thread o.call)
-    (same_Some begins.entry entry (sym begins.is_entry ∙ is))
-event_of_beginning {entries} i entry is e (inr returns) =
-    absurd (false≢true (ap (λ (m : Moment). m.is_return) returns.moment))
+    -- they are in form
+    pub numbered_lanes : IsObserved h → (events : List Event) → AreEventsOf h moments events → AreOfLanes run
+    numbered_lanes observed events of = subst AreOfLanes (sym numbered.run_is) (of_lanes_by (name_in contents)
+        numbered.events (subst (λ (es : List Event). AreInFormFrom none_open es)
+        (first_events h.entries k moments events numbered.events of.events_are numbered.are)
+        (form_up_to k none_open events (in_form h observed moments events of)))
+        (low_lanes h.entries observed.threads (take k moments) numbered.events numbered.are)
+        (All-weaker (EachOfEvent (IsTold h.width contents)) (EachOfEvent (HasShortName (name_in contents)))
+        (λ e. each_event (short_name h.width contents) e) numbered.events numbered.told))
 
 -- the run up to the return of a call
 module _ (h : ObservedHistory) (observed : IsObserved h) (moments : List Moment) (are : AreMomentsOf h.entries moments)
@@ -185,12 +219,7 @@ module _ (h : ObservedHistory) (observed : IsObserved h) (moments : List Moment)
 
     pub may_return : MayReturn run at.entry.thread
     may_return = record {
-      whole = subst AreOfLanes (sym numbered.run_is) (of_lanes_by (name_in contents) numbered.events
-          (subst (λ (es : List Event). AreInFormFrom none_open es) going_on.1.1
-          (form_up_to k none_open whole (in_form h observed moments whole of)))
-          (low_lanes h.entries observed.threads (take k moments) numbered.events numbered.are)
-          (All-weaker (EachOfEvent (IsTold h.width contents)) (EachOfEvent (HasShortName (name_in contents)))
-          (λ e. each_event (short_name h.width contents) e) numbered.events numbered.told));
+      whole = numbered_lanes h moments k contents run numbered observed whole of;
       taken = ap (λ (es : List Event). is_busy_after es lane) run_is ∙
           busy_by (name_in contents) (take k whole) lane ∙
           may_come_at k none_open whole (Returns lane at.return.reply) (in_form h observed moments whole of) returned;
@@ -200,7 +229,8 @@ module _ (h : ObservedHistory) (observed : IsObserved h) (moments : List Moment)
         returned : slice_get whole k ≡ Some (Returns lane at.return.reply)
         returned =
             let found = zip_there (IsEventAt h.entries) k moments whole (return_of i at.return) of.events_are there in
-            found.1.0 ∙ ap Some (event_of_return i at found.0 found.1.1)
+            found.1.0 ∙ ap Some (one_event h.entries (return_of i at.return) found.0 (Returns lane at.return.reply)
+            found.1.1 (inr (record { at = at; moment = refl; event_is = refl })))
 
     pub begins_within : (b : ℕ) → slice_get moments b ≡ Some (beginning_of i at.entry) → b < k
     begins_within b begun =
@@ -215,13 +245,12 @@ module _ (h : ObservedHistory) (observed : IsObserved h) (moments : List Moment)
         begins : slice_get whole b ≡ Some (Begins lane at.entry.call)
         begins =
             let found = zip_there (IsEventAt h.entries) b moments whole (beginning_of i at.entry) of.events_are begun in
-            found.1.0 ∙ ap Some (event_of_beginning i at.entry at.is_entry found.0 found.1.1)
+            found.1.0 ∙ ap Some (one_event h.entries (beginning_of i at.entry) found.0 (Begins lane at.entry.call)
+            found.1.1 (inl (record { entry = at.entry; is_entry = at.is_entry; moment = refl; event_is = refl })))
 
     pub run_long : length run ≡ k
-    run_long = ap length numbered.run_is ∙ length-map numbered.events (event_by (name_in contents)) ∙
-        AllZip-long (IsEventAt h.entries) (take k moments) numbered.events numbered.are ∙
-        length-take-le k moments (let less = slice_get_within moments k (return_of i at.return) there in
-        omega (arith, less))
+    run_long = numbered_long h moments k contents run numbered
+        (let less = slice_get_within moments k (return_of i at.return) there in omega (arith, less))
 
     abbrev name : Names
     name = name_for h.width contents

@@ -1,11 +1,11 @@
 -- Other replies that are tried.
-use Rattle.std.proofs.Common.{ℕ, ◌≡◌, ◌+◌, ◌-◌, ◌^◌, ◌<◌, ◌≤◌, true, List, [], ◌∷◌, ◌++◌, length, Some, refl}
+use Rattle.std.proofs.Common.{ℕ, ◌≡◌, ◌+◌, ◌-◌, ◌<◌, ◌≤◌, true, List, [], ◌∷◌, ◌++◌, length, Some, refl}
 use Rattle.std.proofs.Common.{sym}
 use Rattle.std.proofs.Common.{◌∙◌, ap, subst, arith, append_assoc, get_or}
 use Rattle.std.specs.Prelude.{drop, nat_lt, slice_get, take}
-use Rattle.std.proofs.lemmas.List.{get_or_append_left, get_or-append-add, length-append, length-take-le}
+use Rattle.std.proofs.lemmas.List.{get_or_append_left, get_or-append-add, length-append}
 use Rattle.std.proofs.lemmas.List.{take-append-le}
-use Rattle.std.proofs.lemmas.List.{take-append-drop, take_more}
+use Rattle.std.proofs.lemmas.List.{take-append-drop}
 use Rattle.std.proofs.lemmas.List.Elements.{All-push}
 use Rattle.std.proofs.lemmas.Option.{get_or_from_slice_get, slice_get-get_or, slice_get_read, slice_get_within}
 use Rattle.std.proofs.lemmas.Bool.Decides.{nat_tests}
@@ -25,17 +25,12 @@ use Rattle.stamp_watch.specs.Possible.{AreTooManyFor, IsKept, IsPossibleReply, K
 use Rattle.stamp_watch.specs.Verdict.{AreOfLanes, AreTooMany, IsOfLane}
 use Rattle.stamp_watch.specs.inner.Possible.{IsReturnFor, IsReturnHere}
 use Rattle.stamp_watch.specs.Judging.{IsJudging}
+use Rattle.stamp_watch.proofs.Reading.{up_to}
 use Rattle.stamp_watch.proofs.Form.{form_goes_on}
 use Rattle.stamp_watch.proofs.Forming.{next_comes, next_of_lane, of_lanes_up_to}
 use Rattle.stamp_watch.proofs.Judged.{cut_behind}
 use Rattle.stamp_watch.proofs.Running.{standing_more}
 use Rattle.stamp_watch.proofs.Small.{small_reply_is}
-
--- those up to this place, and the one there
-pub up_to : {A : Type 0} (xs : List A) (at : ℕ) (x : A) → slice_get xs at ≡ Some x →
-    take (at + 1) xs ≡ take at xs ++ x ∷ []
-up_to {A} xs at x there = take_more xs at x (slice_get_within xs at x there) ∙
-    ap (λ (y : A). take at xs ++ y ∷ []) (get_or_from_slice_get xs at x x there)
 
 returns_same : (lane other : ℕ) (reply answer : Reply) → Returns lane reply ≡ Returns other answer → lane ≡ other
 returns_same lane other reply answer same = cc
@@ -122,14 +117,6 @@ module _ (limits : Bounds) (run : List Event) (course : Course) (is : IsKept lim
     judging_with = subst (λ (xs : List Event). IsJudging limits course.first is.past xs course.base) (sym parts)
         (standing_more limits course.first is.past (take course.seen events) (behind ++ e ∷ []) course.base
         (subst (λ (xs : List Event). AreOfLanes (is.past ++ xs)) parts of_lanes) is.from_base).judging
-
-    pub trial_long : length trial ≡ at + 1
-    trial_long = let all = length-append (take at events) (e ∷ []) in
-        let front = length-take-le at events (omega (arith, less)) in omega (arith, all, front)
-
-    pub trial_room : course.first + length trial < 2 ^ 64
-    trial_room = let long : length trial ≡ at + 1 = trial_long in
-        let room : course.first + length events < 2 ^ 64 = is.room in omega (arith, long, room, less)
 
 -- what was found of the run up to a return, with another reply
 module _ (limits : Bounds) (run : List Event) (judge : Judge) (is : KeepsBase limits run judge) (number at lane : ℕ)

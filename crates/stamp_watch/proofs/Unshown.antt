@@ -11,7 +11,7 @@ use Rattle.std.proofs.lemmas.List.Elements.{All-append, All-drop, All-head, All-
 use Rattle.std.proofs.Math.Seq.{drop-append_seam, get_or-append_seam}
 use Rattle.stamp_core.specs.Limits.{Bounds}
 use Rattle.stamp_runs.specs.declared.event.Event.{Event}
-use Rattle.stamp_runs.specs.declared.event.Event.TheVariants.{Begins, Returns, Withdraws}
+use Rattle.stamp_runs.specs.declared.event.Event.TheVariants.{Begins}
 use Rattle.stamp_runs.specs.Run.{lane_of, EndsNever}
 use Rattle.stamp_watch.specs.Ahead.{IsSpared}
 use Rattle.stamp_watch.specs.Delay.{AreLate, HasEndedBy, HasEndedLate, HasEndedSo, HasEndedUnshown, IsBeginning}
@@ -105,8 +105,7 @@ open_so run late window (Begins lane call) later there begins spared_to rest par
       (subst (EndsNever lane) (sym (take-append-le window spared_to rest long))
       (never_of_spared lane window spared_to spared));
 }
-open_so run late window (Returns lane reply) later there begins spared_to rest parts spared long = absurd begins
-open_so run late window (Withdraws lane) later there begins spared_to rest parts spared long = absurd begins
+open_so run late window _ later there begins spared_to rest parts spared long = absurd begins
 
 ended_open : (run : List Event) (window : ℕ) (is : HasEndedLate run window) → IsOpenFor run is.late window
 ended_open run window is = open_so run is.late window is.begun (is.between ++ is.end ∷ is.ends.rest) is.ends.there

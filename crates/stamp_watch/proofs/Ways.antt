@@ -71,8 +71,7 @@ never_later lane event events never = All-tail (λ (e : Event). ¬ IsEndOf lane 
 -- what ends a call is of its lane
 pub ends_own : (lane : ℕ) (event : Event) → lane_of event ≢ lane → ¬ IsEndOf lane event
 ends_own lane (Begins u call) apart ends = ends
-ends_own lane (Returns u reply) apart ends = apart ends
-ends_own lane (Withdraws u) apart ends = apart ends
+ends_own lane _ apart ends = apart ends
 
 pub never_among : (lane : ℕ) (events : List Event) → IsSpared events lane → EndsNever lane events
 never_among lane events spared =

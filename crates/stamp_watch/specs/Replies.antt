@@ -1,5 +1,5 @@
 -- Where it is undecided which replies a call of an observed history could have had.
-use Rattle.std.specs.Prelude.{ℕ, ◌≡◌, ◌+◌, List, take, codes}
+use Rattle.std.specs.Prelude.{ℕ, ◌+◌, List, take, codes}
 use Rattle.std.specs.List.{Contains}
 use Rattle.stamp_core.specs.declared.reply.Reply.{Reply}
 use Rattle.stamp_explain.specs.Observed.{ObservedHistory, IsReturnAt}

@@ -1,22 +1,21 @@
 //! Judging observed histories, as the runs of their events.
-ghost use Rattle.std.specs.Prelude.{◌≡◌, ◌<◌, ◌≤◌, [], IfOk, IsFalse, IsTrue, OnOk, Some, length, slice_get};
+ghost use Rattle.std.specs.Prelude.{◌≡◌, ◌<◌, ◌≤◌, [], IfOk, OnOk, Some, length, slice_get};
 ghost use Rattle.stamp_explain.specs.Observed.{IsObserved};
 ghost use Rattle.stamp_sets.specs.Watch.{IsUntold, IsWatching};
 ghost use Rattle.stamp_watch.specs.AsEvents.{AreMomentsOf};
 ghost use Rattle.stamp_watch.specs.History.{IsAnswer, IsJudged};
-ghost use Rattle.stamp_watch.specs.inner.History.{IsFirstReturn, IsForeign, IsLastReturn, IsToldRun, ReturnsOwn, named_width};
+ghost use Rattle.stamp_watch.specs.inner.History.{IsFirstReturn, IsLastReturn, IsToldRun};
 ghost use Rattle.stamp_watch.specs.inner.Judging.{HasSeenAll};
 ghost use Rattle.stamp_watch.specs.declared.moments.Moment.{Moment};
 
 use crate::judge::judge_by;
-use crate::moments::{Moment, event_at, moments_of};
-use crate::names::Names;
+use crate::moments::{Moment, moments_of};
+use crate::named_run::{names_for, numbered_run};
 use crate::ordering::entries_in_order;
 use crate::stream_event::StreamEvent;
 use crate::verdict::Verdict;
-use stamp_core::{Record, Reply};
+use stamp_core::Record;
 use stamp_explain::{Observed, recorded_in_order};
-use stamp_runs::Event;
 use stamp_sets::Watch;
 use std::alloc::{AllocError, Global};
 use std::error::Error;
@@ -76,26 +75,6 @@ impl From<AllocError> for ExplainError {
     }
 }
 
-/// Whether the event is a return with a content of another width than the record's.
-fn is_foreign(width: u64, event: &Event) -> bool
-    ensures foreign { IsTrue result → IsForeign width event.now }
-    ensures own { IsFalse result → ReturnsOwn width event.now }
-{
-    match event {
-        Event::Returns(_, Reply::Content(words)) => words.len() as u64 != width,
-        _ => false,
-    }
-}
-
-/// How many words the contents have that are numbered: those of the record, or one where there is no record.
-fn width_of_names(width: u64) -> u64
-    ensures width { result ≡ named_width width }
-    ensures some { 1 ≤ result }
-    ensures few { width ≤ 16 → result ≤ 16 }
-{
-    if width == 0 { 1 } else { width }
-}
-
 /// The events at these moments with their contents by number, up to a return that tells a content of another width
 /// than the record's: no order explains that.
 fn told_at(
@@ -107,20 +86,8 @@ fn told_at(
     requires moments { AreMomentsOf observed.now.entries moments.now }
     ensures { IfOk result (λ told. IsToldRun observed.now moments.now told.items) }
 {
-    let width = observed.width();
-    let mut names = Names::new(alloc, width_of_names(width) as usize)?;
-    let mut told = Vec::new(alloc);
-    for moment in moments {
-        let event = event_at(observed, moment);
-        if is_foreign(width, &event) {
-            return Ok(told);
-        }
-        let Some(small) = names.event(&event)? else {
-            unreachable!()
-        };
-        told.push(small)?;
-    }
-    Ok(told)
+    let mut names = names_for(alloc, observed)?;
+    numbered_run(alloc, &mut names, observed, moments)
 }
 
 /// The place of the first return among these moments from this one on.

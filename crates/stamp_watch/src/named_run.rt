@@ -1,12 +1,13 @@
 //! The events of an observed history, with their contents by number.
-ghost use Rattle.std.specs.Prelude.{◌≡◌, ◌<◌, ◌↔◌, IfOk, IsTrue, Some, length, slice_get};
+ghost use Rattle.std.specs.Prelude.{◌≡◌, ◌<◌, ◌↔◌, IfOk, IsFalse, IsTrue, Some, length, slice_get};
 ghost use Rattle.std.specs.List.{All};
 ghost use Rattle.stamp_explain.specs.Observed.{IsObserved};
 ghost use Rattle.stamp_watch.specs.AsEvents.{IsMomentOf};
 ghost use Rattle.stamp_runs.specs.Names.{EachOfReply};
-ghost use Rattle.stamp_watch.specs.Names.{AreContents, IsGrown, StaysWide};
+ghost use Rattle.stamp_watch.specs.Names.{AreContents, IsGrown, IsWide, StaysWide};
 ghost use Rattle.stamp_watch.specs.ReplyLaws.{IsContentOf};
-ghost use Rattle.stamp_watch.specs.inner.Trial.{AreNumberedOrForeign, HasPlaceOf, IsPlaceOf, TellsKnown, words_beside};
+ghost use Rattle.stamp_watch.specs.inner.Trial.{AreNumberedSoFar, HasPlaceOf, IsForeign, IsPlaceOf};
+ghost use Rattle.stamp_watch.specs.inner.Trial.{TellsKnown, words_beside};
 
 use crate::moments::{Moment, event_at};
 use crate::names::Names;
@@ -26,19 +27,22 @@ pub(crate) fn names_for(alloc: Global, observed: &Observed) -> Result<Names, All
     Names::new(alloc, words)
 }
 
-/// Whether a record of this width may hold the content that the reply tells. Other replies tell none.
+/// Whether a record of this width may hold the content that the reply tells. Other replies tell none. A content has a
+/// word at least, so where there is no record none is told.
 pub(crate) fn is_known_reply(width: u64, reply: &Reply) -> bool
-    ensures { IsTrue result ↔ EachOfReply (IsContentOf width) reply.now }
+    ensures known { IsTrue result ↔ EachOfReply (IsContentOf width) reply.now }
+    ensures foreign { IsFalse result → ¬ EachOfReply (IsWide width) reply.now }
 {
     match reply {
-        Reply::Content(words) => width != 0 && words.len() as u64 == width,
+        Reply::Content(words) => words.len() as u64 == width,
         _ => true,
     }
 }
 
 /// Whether a record of this width may hold the content that a return tells. Other events tell no reply.
 fn tells_known(width: u64, event: &Event) -> bool
-    ensures { IsTrue result ↔ TellsKnown width event.now }
+    ensures known { IsTrue result ↔ TellsKnown width event.now }
+    ensures foreign { IsFalse result → IsForeign width event.now }
 {
     match event {
         Event::Returns(_, reply) => is_known_reply(width, reply),
@@ -53,18 +57,18 @@ fn moment_at(moments: &[Moment], place: usize) -> Moment
     moments[place]
 }
 
-/// The events at these moments, with their contents by number. Nothing where a call returns there with a content that
-/// the record can't hold.
+/// The events at these moments, with their contents by number, up to a return with a content that the record can't
+/// hold.
 pub(crate) fn numbered_run(
     alloc: Global,
     names: &mut Names,
     observed: &Observed,
     moments: &[Moment],
-) -> Result<Option<Vec<StreamEvent>>, AllocError>
+) -> Result<Vec<StreamEvent>, AllocError>
     requires observed { IsObserved observed.now }
     requires moments { All (IsMomentOf observed.now.entries) moments.now }
     requires contents { AreContents (words_beside observed.now.width) names.old }
-    ensures run { IfOk result (λ run. AreNumberedOrForeign observed.now moments.now names.new run) }
+    ensures run { IfOk result (λ run. AreNumberedSoFar observed.now moments.now names.new run.items) }
     ensures grows { IsGrown names.old names.new }
     ensures wide { StaysWide names.old names.new }
 {
@@ -73,14 +77,14 @@ pub(crate) fn numbered_run(
         let moment = moment_at(moments, k);
         let event = event_at(observed, &moment);
         if !tells_known(observed.width(), &event) {
-            return Ok(None);
+            return Ok(run);
         }
         match names.event(&event)? {
             Some(small) => run.push(small)?,
             None => unreachable!(),
         }
     }
-    Ok(Some(run))
+    Ok(run)
 }
 
 /// The place at which the call of this entry returns, or at which it begins.

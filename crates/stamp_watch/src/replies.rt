@@ -73,13 +73,12 @@ fn trial_at(
     let begins = place_of(moments, entry, false);
     let place = place_of(moments, entry, true);
     let lane = observed.entries()[entry].thread as u8;
-    match numbered_run(alloc, names, observed, &moments[..place])? {
-        Some(run) => {
-            let trial = Trial::new(alloc, observed.limits(), run, lane, begins, most)?;
-            Ok(Some(trial))
-        }
-        None => Ok(None),
+    let run = numbered_run(alloc, names, observed, &moments[..place])?;
+    if run.len() < place {
+        return Ok(None);
     }
+    let trial = Trial::new(alloc, observed.limits(), run, lane, begins, most)?;
+    Ok(Some(trial))
 }
 
 /// Whether the call could have had this reply, which is added to the names.

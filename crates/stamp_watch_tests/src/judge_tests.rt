@@ -1,31 +1,45 @@
-use crate::fixtures::limits;
-use stamp_core::{Call, Layout, Limits, Reply, Words};
+use crate::fixtures::{calls, content, limits, says, stamps, words};
+use stamp_core::{Call, Layout, Limits, Reply};
 use stamp_watch::{Event, Verdict, Why, judge_run};
 use std::test::Fail;
 
-/// A call that begins in the lane.
-fn calls(lane: u64, call: Call) -> Event {
-    Event::Begins(lane, call)
+/// Whether this is the verdict on a run of a lock with these limits; so many positions are kept.
+fn judges(
+    rt: &impl AllocGlobal,
+    limits: Limits,
+    most: u64,
+    events: &[Event],
+    expected: Verdict,
+) -> Result<bool, Fail> {
+    Ok(judge_run(rt.alloc(), limits, events, most)? == expected)
 }
 
-/// A stamp that is returned in the lane.
-fn stamps(lane: u64, stamp: u64) -> Event {
-    Event::Returns(lane, Reply::Stamp(stamp))
+/// The same of a lock for up to 127 readers and 1,000 write acquisitions.
+fn gives(
+    rt: &impl AllocGlobal,
+    most: u64,
+    events: &[Event],
+    expected: Verdict,
+) -> Result<bool, Fail> {
+    judges(rt, limits(127, 1000)?, most, events, expected)
 }
 
-/// Another reply that is returned in the lane.
-fn says(lane: u64, reply: Reply) -> Event {
-    Event::Returns(lane, reply)
+/// Whether such a run is explained, and whether it is stuck or broken at the event with this number.
+fn explains(rt: &impl AllocGlobal, events: &[Event]) -> Result<bool, Fail> {
+    gives(rt, 100, events, Verdict::Explained)
 }
 
-/// The verdict on a run of a lock for up to 127 readers and 1,000 write acquisitions.
-fn verdict(rt: &impl AllocGlobal, most: u64, events: &[Event]) -> Result<Verdict, Fail> {
-    Ok(judge_run(rt.alloc(), limits(127, 1000)?, events, most)?)
+fn is_stuck(rt: &impl AllocGlobal, events: &[Event], number: u64) -> Result<bool, Fail> {
+    gives(rt, 100, events, Verdict::Stuck(number))
+}
+
+fn is_broken(rt: &impl AllocGlobal, events: &[Event], number: u64) -> Result<bool, Fail> {
+    gives(rt, 100, events, Verdict::Broken(number))
 }
 
 #[test]
 fn a_run_with_no_events_is_explained(rt: HostRuntime) -> Result<(), Fail> {
-    assert!(rt; verdict(&rt, 100, &[])? == Verdict::Explained);
+    assert!(rt; explains(&rt, &[])?);
     Ok(())
 }
 
@@ -54,7 +68,7 @@ fn the_reading_calls_of_one_thread_are_explained(rt: HostRuntime) -> Result<(), 
         calls(0, Call::TryUnlockRead),
         says(0, Reply::No),
     ];
-    assert!(rt; verdict(&rt, 100, &reading)? == Verdict::Explained);
+    assert!(rt; explains(&rt, &reading)?);
     Ok(())
 }
 
@@ -82,7 +96,7 @@ fn the_writing_calls_of_one_thread_are_explained(rt: HostRuntime) -> Result<(), 
         calls(5, Call::TryUnlockWrite),
         says(5, Reply::No),
     ];
-    assert!(rt; verdict(&rt, 100, &writing)? == Verdict::Explained);
+    assert!(rt; explains(&rt, &writing)?);
     Ok(())
 }
 
@@ -106,7 +120,7 @@ fn the_conversions_of_one_thread_are_explained(rt: HostRuntime) -> Result<(), Fa
         calls(63, Call::ToWrite(512)),
         stamps(63, 0),
     ];
-    assert!(rt; verdict(&rt, 100, &converting)? == Verdict::Explained);
+    assert!(rt; explains(&rt, &converting)?);
     Ok(())
 }
 
@@ -118,7 +132,7 @@ fn calls_that_overlap_may_have_either_order(rt: HostRuntime) -> Result<(), Fail>
         stamps(1, 256),
         stamps(0, 384),
     ];
-    assert!(rt; verdict(&rt, 100, &seen_before_the_write)? == Verdict::Explained);
+    assert!(rt; explains(&rt, &seen_before_the_write)?);
     let readers_in_the_other_order = [
         calls(0, Call::TryRead),
         calls(1, Call::TryRead),
@@ -127,7 +141,7 @@ fn calls_that_overlap_may_have_either_order(rt: HostRuntime) -> Result<(), Fail>
         stamps(1, 258),
         stamps(2, 257),
     ];
-    assert!(rt; verdict(&rt, 100, &readers_in_the_other_order)? == Verdict::Explained);
+    assert!(rt; explains(&rt, &readers_in_the_other_order)?);
     let a_waiter_behind_a_release = [
         calls(0, Call::TryWrite),
         stamps(0, 384),
@@ -136,7 +150,7 @@ fn calls_that_overlap_may_have_either_order(rt: HostRuntime) -> Result<(), Fail>
         stamps(1, 640),
         says(0, Reply::Done),
     ];
-    assert!(rt; verdict(&rt, 100, &a_waiter_behind_a_release)? == Verdict::Explained);
+    assert!(rt; explains(&rt, &a_waiter_behind_a_release)?);
     Ok(())
 }
 
@@ -148,14 +162,14 @@ fn a_run_is_stuck_at_the_first_event_that_nothing_explains(rt: HostRuntime) -> R
         stamps(0, 384),
         stamps(1, 640),
     ];
-    assert!(rt; verdict(&rt, 100, &two_writers)? == Verdict::Stuck(3));
+    assert!(rt; is_stuck(&rt, &two_writers, 3)?);
     let seen_after_the_write = [
         calls(0, Call::TryWrite),
         stamps(0, 384),
         calls(1, Call::Optimistic),
         stamps(1, 256),
     ];
-    assert!(rt; verdict(&rt, 100, &seen_after_the_write)? == Verdict::Stuck(3));
+    assert!(rt; is_stuck(&rt, &seen_after_the_write, 3)?);
     let valid_after_a_write = [
         calls(1, Call::Optimistic),
         stamps(1, 256),
@@ -168,7 +182,7 @@ fn a_run_is_stuck_at_the_first_event_that_nothing_explains(rt: HostRuntime) -> R
         calls(1, Call::Optimistic),
         stamps(1, 512),
     ];
-    assert!(rt; verdict(&rt, 100, &valid_after_a_write)? == Verdict::Stuck(7));
+    assert!(rt; is_stuck(&rt, &valid_after_a_write, 7)?);
     let a_stamp_that_was_given_already = [
         calls(0, Call::TryRead),
         calls(1, Call::TryRead),
@@ -179,7 +193,7 @@ fn a_run_is_stuck_at_the_first_event_that_nothing_explains(rt: HostRuntime) -> R
         stamps(1, 257),
         stamps(2, 258),
     ];
-    assert!(rt; verdict(&rt, 100, &a_stamp_that_was_given_already)? == Verdict::Stuck(6));
+    assert!(rt; is_stuck(&rt, &a_stamp_that_was_given_already, 6)?);
     Ok(())
 }
 
@@ -192,7 +206,7 @@ fn a_call_that_never_ends_may_be_in_effect_or_not(rt: HostRuntime) -> Result<(),
         calls(1, Call::TryRead),
         stamps(1, 0),
     ];
-    assert!(rt; verdict(&rt, 100, &in_effect)? == Verdict::Explained);
+    assert!(rt; explains(&rt, &in_effect)?);
     let not_in_effect = [
         calls(0, Call::WriteLock),
         calls(1, Call::IsWriteLocked),
@@ -200,7 +214,7 @@ fn a_call_that_never_ends_may_be_in_effect_or_not(rt: HostRuntime) -> Result<(),
         calls(1, Call::TryWrite),
         stamps(1, 384),
     ];
-    assert!(rt; verdict(&rt, 100, &not_in_effect)? == Verdict::Explained);
+    assert!(rt; explains(&rt, &not_in_effect)?);
     let in_effect_and_not = [
         calls(0, Call::WriteLock),
         calls(1, Call::IsWriteLocked),
@@ -208,13 +222,13 @@ fn a_call_that_never_ends_may_be_in_effect_or_not(rt: HostRuntime) -> Result<(),
         calls(1, Call::TryRead),
         stamps(1, 257),
     ];
-    assert!(rt; verdict(&rt, 100, &in_effect_and_not)? == Verdict::Stuck(4));
+    assert!(rt; is_stuck(&rt, &in_effect_and_not, 4)?);
     let more_readers_than_began = [
         calls(0, Call::ReadLock),
         calls(1, Call::ReadCount),
         says(1, Reply::Count(2)),
     ];
-    assert!(rt; verdict(&rt, 100, &more_readers_than_began)? == Verdict::Stuck(2));
+    assert!(rt; is_stuck(&rt, &more_readers_than_began, 2)?);
     Ok(())
 }
 
@@ -232,71 +246,73 @@ fn a_withdrawn_call_took_no_effect(rt: HostRuntime) -> Result<(), Fail> {
         calls(1, Call::TryWrite),
         stamps(1, 640),
     ];
-    assert!(rt; verdict(&rt, 100, &left_out)? == Verdict::Explained);
+    assert!(rt; explains(&rt, &left_out)?);
     let needed = [
         calls(0, Call::WriteLock),
         calls(1, Call::IsWriteLocked),
         says(1, Reply::Yes),
         Event::Withdraws(0),
     ];
-    assert!(rt; verdict(&rt, 100, &needed)? == Verdict::Stuck(3));
+    assert!(rt; is_stuck(&rt, &needed, 3)?);
     Ok(())
+}
+
+fn put_of_two_words() -> Result<Call, Fail> {
+    Ok(Call::Put(words(&[7, 8])?))
 }
 
 #[test]
 fn events_out_of_form_break_a_run(rt: HostRuntime) -> Result<(), Fail> {
     let begun_twice = [calls(0, Call::TryRead), calls(0, Call::TryRead)];
-    assert!(rt; verdict(&rt, 100, &begun_twice)? == Verdict::Broken(1));
+    assert!(rt; is_broken(&rt, &begun_twice, 1)?);
     let never_begun = [calls(0, Call::TryRead), stamps(1, 257)];
-    assert!(rt; verdict(&rt, 100, &never_begun)? == Verdict::Broken(1));
+    assert!(rt; is_broken(&rt, &never_begun, 1)?);
     let returned_twice = [calls(0, Call::TryRead), stamps(0, 257), stamps(0, 257)];
-    assert!(rt; verdict(&rt, 100, &returned_twice)? == Verdict::Broken(2));
+    assert!(rt; is_broken(&rt, &returned_twice, 2)?);
     let nothing_to_withdraw = [Event::Withdraws(0)];
-    assert!(rt; verdict(&rt, 100, &nothing_to_withdraw)? == Verdict::Broken(0));
+    assert!(rt; is_broken(&rt, &nothing_to_withdraw, 0)?);
     let no_such_lane = [calls(64, Call::TryRead), stamps(64, 257)];
-    assert!(rt; verdict(&rt, 100, &no_such_lane)? == Verdict::Broken(0));
-    let Some(words) = Words::new(&[7, 8]) else {
-        return Err(Fail::from("words"));
-    };
-    let put_of_two_words = [calls(0, Call::Put(words))];
-    assert!(rt; verdict(&rt, 100, &put_of_two_words)? == Verdict::Broken(0));
-    let got_two_words = [calls(0, Call::Get), says(0, Reply::Content(words))];
-    assert!(rt; verdict(&rt, 100, &got_two_words)? == Verdict::Broken(1));
+    assert!(rt; is_broken(&rt, &no_such_lane, 0)?);
+    assert!(rt; is_broken(&rt, &[calls(0, put_of_two_words()?)], 0)?);
+    assert!(rt; is_broken(&rt, &[calls(0, Call::Get), says(0, content(&[7, 8])?)], 1)?);
     Ok(())
 }
 
 #[test]
 fn of_two_faults_the_first_is_told(rt: HostRuntime) -> Result<(), Fail> {
     let stuck_and_broken = [calls(0, Call::TryRead), stamps(0, 258), stamps(0, 258)];
-    assert!(rt; verdict(&rt, 100, &stuck_and_broken)? == Verdict::Stuck(1));
+    assert!(rt; is_stuck(&rt, &stuck_and_broken, 1)?);
     let broken_and_stuck = [
         calls(0, Call::TryRead),
         calls(0, Call::TryRead),
         stamps(0, 258),
     ];
-    assert!(rt; verdict(&rt, 100, &broken_and_stuck)? == Verdict::Broken(1));
+    assert!(rt; is_broken(&rt, &broken_and_stuck, 1)?);
     Ok(())
 }
 
-// Either reader may be the one that counts, and one of them is as it was told later: the run is stuck at its last
-// event. That takes two configurations.
-const EITHER: [Event; 6] = [
-    Event::Begins(0, Call::TryRead),
-    Event::Begins(1, Call::ReadLock),
-    Event::Begins(2, Call::ReadCount),
-    Event::Returns(2, Reply::Count(1)),
-    Event::Returns(0, Reply::Stamp(258)),
-    Event::Returns(1, Reply::Stamp(258)),
-];
+/// Either reader may be the one that counts, and one of them is as it was told later: the run is stuck at its last
+/// event. That takes two configurations.
+fn either() -> [Event; 6] {
+    [
+        calls(0, Call::TryRead),
+        calls(1, Call::ReadLock),
+        calls(2, Call::ReadCount),
+        says(2, Reply::Count(1)),
+        stamps(0, 258),
+        stamps(1, 258),
+    ]
+}
 
 #[test]
 fn a_run_is_undecided_where_too_many_configurations_are_possible(
     rt: HostRuntime,
 ) -> Result<(), Fail> {
-    assert!(rt; verdict(&rt, 2, &EITHER)? == Verdict::Stuck(5));
-    assert!(rt; verdict(&rt, 1, &EITHER)? == Verdict::StuckWithin(3, 6));
-    assert!(rt; verdict(&rt, 1, &EITHER[..4])? == Verdict::Undecided(3, Why::TooMany));
-    assert!(rt; verdict(&rt, 1, &EITHER[..3])? == Verdict::Explained);
+    let either = either();
+    assert!(rt; gives(&rt, 2, &either, Verdict::Stuck(5))?);
+    assert!(rt; gives(&rt, 1, &either, Verdict::StuckWithin(3, 6))?);
+    assert!(rt; gives(&rt, 1, &either[..4], Verdict::Undecided(3, Why::TooMany))?);
+    assert!(rt; gives(&rt, 1, &either[..3], Verdict::Explained)?);
     Ok(())
 }
 
@@ -317,13 +333,13 @@ fn limits_and_layout_are_those_of_the_lock(rt: HostRuntime) -> Result<(), Fail> 
         calls(0, Call::WriteLock),
         stamps(0, 0),
     ];
-    assert!(rt; judge_run(rt.alloc(), limits, &at_the_limits, 100)? == Verdict::Explained);
+    assert!(rt; judges(&rt, limits, 100, &at_the_limits, Verdict::Explained)?);
     let beyond = [
         calls(0, Call::TryRead),
         stamps(0, 131_073),
         calls(1, Call::TryRead),
         stamps(1, 131_074),
     ];
-    assert!(rt; judge_run(rt.alloc(), limits, &beyond, 100)? == Verdict::Stuck(3));
+    assert!(rt; judges(&rt, limits, 100, &beyond, Verdict::Stuck(3))?);
     Ok(())
 }

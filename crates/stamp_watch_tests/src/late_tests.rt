@@ -1,7 +1,8 @@
 ghost use Rattle.std.specs.Prelude.{IfOk, OnOk};
-ghost use Rattle.stamp_watch.specs.LateJudge.{IsLateJudgeOfSome};
+ghost use Rattle.stamp_watch.specs.LateJudge.{HasFoundNothingLater, IsLateJudgeOfSome};
+ghost use Rattle.stamp_watch.specs.PossibleLate.{KeepsSomeLater};
 
-use crate::fixtures::{done, gets, got, limits, not_full, puts, small};
+use crate::fixtures::{calls, done, gets, got, limits, must, not_full, puts, says, small, stamps};
 use stamp_core::{Call, LockCall, Reply};
 use stamp_watch::{EndedCall, Event, LateJudge, LateVerdict, SmallCall, StreamEvent, Verdict};
 use std::test::Fail;
@@ -19,195 +20,287 @@ fn pushed(judge: &mut LateJudge, events: &[Event]) -> Result<Option<LateVerdict>
     Ok(found)
 }
 
-/// What is found while the events of a run come, and what is found at its end. A call may be open for four events
-/// before it is put aside.
-fn found(
-    rt: &impl AllocGlobal,
-    events: &[Event],
-) -> Result<(Option<LateVerdict>, LateVerdict), Fail> {
-    let mut judge = LateJudge::new(rt.alloc(), limits(127, 1000)?, 100, 68)?;
-    let found = pushed(&mut judge, events)?;
-    Ok((found, judge.finish()?))
+/// The judge of a lock for up to 127 readers and 1,000 write acquisitions.
+fn judge(rt: &impl AllocGlobal, ahead: usize) -> Result<LateJudge, Fail>
+    ensures known { IfOk result (λ judge. IsLateJudgeOfSome judge) }
+    ensures none { IfOk result HasFoundNothingLater }
+{
+    Ok(LateJudge::new(rt.alloc(), limits(127, 1000)?, 100, ahead)?)
 }
 
-/// The same of these events and others behind them.
-fn found_of_both(
+/// Whether this is found while the events come, and that at their end.
+fn goes(
+    judge: &mut LateJudge,
+    events: &[Event],
+    meanwhile: Option<LateVerdict>,
+    at_end: LateVerdict,
+) -> Result<bool, Fail>
+    requires { IsLateJudgeOfSome judge.old }
+{
+    let found = pushed(judge, events)?;
+    Ok(found == meanwhile && judge.finish()? == at_end)
+}
+
+/// So it is where a call may be open for four events before it is put aside.
+fn finds(
+    rt: &impl AllocGlobal,
+    events: &[Event],
+    meanwhile: Option<LateVerdict>,
+    at_end: LateVerdict,
+) -> Result<bool, Fail> {
+    let mut judge = judge(rt, 68)?;
+    goes(&mut judge, events, meanwhile, at_end)
+}
+
+/// Whether nothing is found while they come, and they are explained.
+fn explains(rt: &impl AllocGlobal, events: &[Event]) -> Result<bool, Fail> {
+    finds(rt, events, None, LateVerdict::Is(Verdict::Explained))
+}
+
+/// Whether this is found while the first of these events come and then the others, and at their end.
+fn finds_of_both(
     rt: &impl AllocGlobal,
     first: &[Event],
     then: &[Event],
-) -> Result<(Option<LateVerdict>, LateVerdict), Fail> {
+    found: LateVerdict,
+) -> Result<bool, Fail> {
     let mut events = Vec::new(rt.alloc());
     events.extend_from_slice(first)?;
     events.extend_from_slice(then)?;
-    found(rt, events.as_slice())
+    finds(rt, events.as_slice(), Some(found), found)
 }
 
 /// A writer waits while another comes first, and until some have looked at the lock.
-const WAITS: [Event; 12] = [
-    Event::Begins(0, Call::WriteLock),
-    Event::Begins(1, Call::TryWrite),
-    Event::Returns(1, Reply::Stamp(384)),
-    Event::Begins(1, Call::UnlockWrite(384)),
-    Event::Returns(1, Reply::Done),
-    Event::Begins(1, Call::Optimistic),
-    Event::Returns(1, Reply::Stamp(512)),
-    Event::Begins(1, Call::Optimistic),
-    Event::Returns(1, Reply::Stamp(512)),
-    Event::Begins(1, Call::Optimistic),
-    Event::Returns(1, Reply::Stamp(512)),
-    Event::Returns(0, Reply::Stamp(640)),
-];
+fn waits() -> [Event; 12] {
+    [
+        calls(0, Call::WriteLock),
+        calls(1, Call::TryWrite),
+        stamps(1, 384),
+        calls(1, Call::UnlockWrite(384)),
+        says(1, Reply::Done),
+        calls(1, Call::Optimistic),
+        stamps(1, 512),
+        calls(1, Call::Optimistic),
+        stamps(1, 512),
+        calls(1, Call::Optimistic),
+        stamps(1, 512),
+        stamps(0, 640),
+    ]
+}
 
 #[test]
 fn a_run_is_explained_whose_calls_wait_for_long(rt: HostRuntime) -> Result<(), Fail> {
-    let explained = LateVerdict::Is(Verdict::Explained);
-    assert!(rt; found(&rt, &[])? == (None, explained));
-    assert!(rt; found(&rt, &WAITS)? == (None, explained));
-    assert!(rt; found(&rt, &WAITS[..11])? == (None, explained));
+    assert!(rt; explains(&rt, &[])?);
+    assert!(rt; explains(&rt, &waits())?);
+    assert!(rt; explains(&rt, &waits()[..11])?);
     Ok(())
 }
 
 #[test]
 fn a_run_that_is_stuck_before_its_late_calls_is_found(rt: HostRuntime) -> Result<(), Fail> {
-    let stuck_first = [
-        Event::Begins(2, Call::IsWriteLocked),
-        Event::Returns(2, Reply::Yes),
-    ];
+    let stuck_first = [calls(2, Call::IsWriteLocked), says(2, Reply::Yes)];
     let stuck = LateVerdict::Is(Verdict::Stuck(1));
-    assert!(rt; found_of_both(&rt, &stuck_first, &WAITS)? == (Some(stuck), stuck));
+    assert!(rt; finds_of_both(&rt, &stuck_first, &waits(), stuck)?);
     Ok(())
 }
 
-/// The lock is held for writing once `WAITS` has come.
-const NOT_HELD: [Event; 2] = [
-    Event::Begins(1, Call::IsWriteLocked),
-    Event::Returns(1, Reply::No),
-];
+/// The lock is held for writing once `waits` has come.
+fn not_held() -> [Event; 2] {
+    [calls(1, Call::IsWriteLocked), says(1, Reply::No)]
+}
 
 #[test]
 fn older_stamps_show_that_a_late_writer_loses_nothing(rt: HostRuntime) -> Result<(), Fail> {
     let stuck = LateVerdict::Is(Verdict::Stuck(13));
-    assert!(rt; found_of_both(&rt, &WAITS, &NOT_HELD)? == (Some(stuck), stuck));
+    assert!(rt; finds_of_both(&rt, &waits(), &not_held(), stuck)?);
     Ok(())
 }
 
-/// As `WAITS`, but the last calls before the writer returns answer no stamps.
-const ASKS: [Event; 12] = [
-    Event::Begins(0, Call::WriteLock),
-    Event::Begins(1, Call::TryWrite),
-    Event::Returns(1, Reply::Stamp(384)),
-    Event::Begins(1, Call::UnlockWrite(384)),
-    Event::Returns(1, Reply::Done),
-    Event::Begins(1, Call::Optimistic),
-    Event::Returns(1, Reply::Stamp(512)),
-    Event::Begins(1, Call::ReadCount),
-    Event::Returns(1, Reply::Count(0)),
-    Event::Begins(1, Call::ReadCount),
-    Event::Returns(1, Reply::Count(0)),
-    Event::Returns(0, Reply::Stamp(640)),
-];
+/// As `waits`, but the last calls before the writer returns answer no stamps.
+fn asks() -> [Event; 12] {
+    [
+        calls(0, Call::WriteLock),
+        calls(1, Call::TryWrite),
+        stamps(1, 384),
+        calls(1, Call::UnlockWrite(384)),
+        says(1, Reply::Done),
+        calls(1, Call::Optimistic),
+        stamps(1, 512),
+        calls(1, Call::ReadCount),
+        says(1, Reply::Count(0)),
+        calls(1, Call::ReadCount),
+        says(1, Reply::Count(0)),
+        stamps(0, 640),
+    ]
+}
 
 #[test]
 fn a_run_is_late_where_nothing_shows_that_none_is_lost(rt: HostRuntime) -> Result<(), Fail> {
-    assert!(rt; found(&rt, &ASKS)? == (None, LateVerdict::Is(Verdict::Explained)));
+    assert!(rt; explains(&rt, &asks())?);
     let late = LateVerdict::Late(13);
-    assert!(rt; found_of_both(&rt, &ASKS, &NOT_HELD)? == (Some(late), late));
+    assert!(rt; finds_of_both(&rt, &asks(), &not_held(), late)?);
     Ok(())
 }
 
 /// A writer waits on, and another thread sees that it holds the lock.
-const WAITS_ON: [Event; 9] = [
-    Event::Begins(0, Call::WriteLock),
-    Event::Begins(1, Call::IsWriteLocked),
-    Event::Returns(1, Reply::Yes),
-    Event::Begins(1, Call::ReadCount),
-    Event::Returns(1, Reply::Count(0)),
-    Event::Begins(1, Call::ReadCount),
-    Event::Returns(1, Reply::Count(0)),
-    Event::Begins(1, Call::ReadCount),
-    Event::Returns(1, Reply::Count(0)),
-];
+fn waits_on() -> [Event; 9] {
+    [
+        calls(0, Call::WriteLock),
+        calls(1, Call::IsWriteLocked),
+        says(1, Reply::Yes),
+        calls(1, Call::ReadCount),
+        says(1, Reply::Count(0)),
+        calls(1, Call::ReadCount),
+        says(1, Reply::Count(0)),
+        calls(1, Call::ReadCount),
+        says(1, Reply::Count(0)),
+    ]
+}
 
 #[test]
 fn a_run_is_late_while_a_call_waits_on(rt: HostRuntime) -> Result<(), Fail> {
     let late = LateVerdict::Late(1);
-    assert!(rt; found(&rt, &WAITS_ON)? == (Some(late), late));
-    assert!(rt; found(&rt, &WAITS_ON[..4])? == (None, LateVerdict::Is(Verdict::Explained)));
+    assert!(rt; finds(&rt, &waits_on(), Some(late), late)?);
+    assert!(rt; explains(&rt, &waits_on()[..4])?);
     Ok(())
 }
 
 #[test]
 fn an_event_that_may_not_come_breaks_a_run_with_late_calls(rt: HostRuntime) -> Result<(), Fail> {
-    let again = [Event::Returns(0, Reply::Stamp(640))];
+    let again = [stamps(0, 640)];
     let broken = LateVerdict::Is(Verdict::Broken(12));
-    assert!(rt; found_of_both(&rt, &WAITS, &again)? == (Some(broken), broken));
+    assert!(rt; finds_of_both(&rt, &waits(), &again, broken)?);
     Ok(())
 }
 
 #[test]
 fn a_run_is_broken_while_a_call_waits_on(rt: HostRuntime) -> Result<(), Fail> {
     let never = [
-        Event::Begins(0, Call::ReadCount),
-        Event::Begins(64, Call::ReadCount),
-        Event::Returns(1, Reply::Done),
+        calls(0, Call::ReadCount),
+        calls(64, Call::ReadCount),
+        says(1, Reply::Done),
         Event::Withdraws(2),
     ];
     let broken = LateVerdict::Is(Verdict::Broken(11));
     for event in never {
-        assert!(rt; found_of_both(&rt, &WAITS[..11], &[event])? == (Some(broken), broken));
+        assert!(rt; finds_of_both(&rt, &waits()[..11], &[event], broken)?);
     }
     Ok(())
 }
 
-#[test]
-fn events_wait_only_while_a_call_is_open(rt: HostRuntime) -> Result<(), Fail> {
-    let held = [
-        Event::Begins(1, Call::IsWriteLocked),
-        Event::Returns(1, Reply::Yes),
-    ];
+/// Another thread is told that it holds the lock, which nobody does.
+fn held() -> [Event; 2] {
+    [calls(1, Call::IsWriteLocked), says(1, Reply::Yes)]
+}
+
+/// Whether it keeps so many events.
+fn keeps(judge: &LateJudge, many: usize) -> bool
+    requires { IsLateJudgeOfSome judge.now }
+{
+    judge.kept() == many
+}
+
+/// Whether the event with this number ends this call.
+fn ends(judge: &LateJudge, number: u64, ended: EndedCall) -> bool {
+    judge.ended_at(number) == Some(ended)
+}
+
+fn waits_no_longer(judge: &mut LateJudge) -> Result<(), Fail>
+    requires { IsLateJudgeOfSome judge.old }
+{
     let stuck = LateVerdict::Is(Verdict::Stuck(1));
-    let mut judge = LateJudge::new(rt.alloc(), limits(127, 1000)?, 100, 1_000_000)?;
-    assert!(rt; pushed(&mut judge, &held)? == Some(stuck));
-    assert!(rt; judge.kept() == 2);
+    must(pushed(judge, &held())? == Some(stuck), "stuck")?;
+    must(keeps(judge, 2), "both are kept")?;
     let ended = EndedCall {
         lane: 1,
         call: Call::IsWriteLocked,
         reply: Some(Reply::Yes),
     };
-    assert!(rt; judge.ended_at(1) == Some(ended));
-    Ok(())
+    must(ends(judge, 1, ended), "the call that ends")
+}
+
+#[test]
+fn events_wait_only_while_a_call_is_open(rt: HostRuntime) -> Result<(), Fail> {
+    let mut judge = judge(&rt, 1_000_000)?;
+    waits_no_longer(&mut judge)
+}
+
+/// Gives this event to the judge, which finds nothing then.
+fn going(judge: &mut LateJudge, event: &StreamEvent) -> Result<(), Fail>
+    requires { IsLateJudgeOfSome judge.old }
+    ensures known { OnOk result (IsLateJudgeOfSome judge.new) }
+    ensures none { OnOk result (HasFoundNothingLater judge.new) }
+{
+    not_full(judge.is_full())?;
+    match judge.push(event)? {
+        None => Ok(()),
+        Some(_) => Err(Fail::from("found")),
+    }
+}
+
+/// Whether it was given so many events.
+fn counts(judge: &LateJudge, events: u64) -> bool
+    requires known { IsLateJudgeOfSome judge.now }
+    requires none { HasFoundNothingLater judge.now }
+{
+    judge.count() == events
+}
+
+/// Whether so many of them are explained, and so many calls are open.
+fn is_at(judge: &LateJudge, explained: u64, open: u64) -> bool
+    requires known { IsLateJudgeOfSome judge.now }
+    requires none { HasFoundNothingLater judge.now }
+{
+    judge.explained() == explained && judge.open_calls() == open
+}
+
+fn tells_how_far(judge: &mut LateJudge) -> Result<(), Fail>
+    requires known { IsLateJudgeOfSome judge.old }
+    requires none { HasFoundNothingLater judge.old }
+{
+    must(counts(judge, 0), "none at first")?;
+    let asked = StreamEvent::begins(1, SmallCall::OfLock(LockCall::IsWriteLocked));
+    going(judge, &asked)?;
+    must(counts(judge, 1), "one")?;
+    must(is_at(judge, 0, 1), "one is open")
 }
 
 #[test]
 fn a_judge_of_late_calls_tells_how_far_it_is(rt: HostRuntime) -> Result<(), Fail> {
-    let mut judge = LateJudge::new(rt.alloc(), limits(127, 1000)?, 100, 1_000)?;
-    assert!(rt; judge.count() == 0);
-    not_full(judge.is_full())?;
-    let None = judge.push(&StreamEvent::begins(1, SmallCall::OfLock(LockCall::IsWriteLocked)))?
-    else {
-        return Err(Fail::from("found"));
+    let mut judge = judge(&rt, 1_000)?;
+    tells_how_far(&mut judge)
+}
+
+/// Whether a question that returns at the event with this number could have had these replies alone.
+fn could(judge: &LateJudge, number: u64, expected: &[Reply]) -> Result<bool, Fail>
+    requires { KeepsSomeLater judge.now }
+{
+    let Some(told) = judge.possible_at(number, &Call::IsWriteLocked)? else {
+        return Err(Fail::from("not told"));
     };
-    assert!(rt; judge.count() == 1);
-    assert!(rt; judge.explained() == 0);
-    assert!(rt; judge.open_calls() == 1);
-    Ok(())
+    Ok(told.as_slice() == expected)
+}
+
+/// Whether it isn't told which replies it could have had.
+fn is_untold(judge: &LateJudge, number: u64) -> Result<bool, Fail>
+    requires { KeepsSomeLater judge.now }
+{
+    Ok(judge.possible_at(number, &Call::IsWriteLocked)?.is_none())
+}
+
+fn tells_in_time(judge: &mut LateJudge) -> Result<(), Fail>
+    requires { IsLateJudgeOfSome judge.old }
+{
+    pushed(judge, &held())?;
+    must(could(judge, 1, &[Reply::No])?, "no")?;
+    pushed(judge, &waits_on())?;
+    must(is_untold(judge, 4)?, "none behind a late call")
 }
 
 #[test]
 fn possible_replies_are_told_of_calls_that_begin_in_time(rt: HostRuntime) -> Result<(), Fail> {
-    let held = [
-        Event::Begins(1, Call::IsWriteLocked),
-        Event::Returns(1, Reply::Yes),
-    ];
-    let mut judge = LateJudge::new(rt.alloc(), limits(127, 1000)?, 100, 68)?;
-    pushed(&mut judge, &held)?;
-    let Some(told) = judge.possible_at(1, &Call::IsWriteLocked)? else {
-        return Err(Fail::from("not told"));
-    };
-    assert!(rt; told.as_slice() == [Reply::No].as_slice());
-    pushed(&mut judge, &WAITS_ON)?;
-    assert!(rt; judge.possible_at(4, &Call::IsWriteLocked)?.is_none());
-    Ok(())
+    let mut judge = judge(&rt, 68)?;
+    tells_in_time(&mut judge)
 }
 
 #[test]
@@ -226,10 +319,9 @@ fn a_put_that_is_open_for_long_begins_late(rt: HostRuntime) -> Result<(), Fail> 
         gets(1),
         got(1, 7),
     ];
-    let explained = LateVerdict::Is(Verdict::Explained);
-    assert!(rt; found(&rt, &events)? == (None, explained));
+    assert!(rt; explains(&rt, &events)?);
     events[2] = got(1, 7);
     let late = LateVerdict::Late(1);
-    assert!(rt; found(&rt, &events)? == (Some(late), late));
+    assert!(rt; finds(&rt, &events, Some(late), late)?);
     Ok(())
 }

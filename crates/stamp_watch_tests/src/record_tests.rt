@@ -3,9 +3,17 @@ use stamp_core::{Call, Reply};
 use stamp_watch::{Event, Verdict, judge_run};
 use std::test::Fail;
 
-/// The verdict on a run of a lock and its record.
-fn verdict(rt: &impl AllocGlobal, events: &[Event]) -> Result<Verdict, Fail> {
-    Ok(judge_run(rt.alloc(), limits(127, 1000)?, events, 100)?)
+/// Whether this is the verdict on a run of a lock and its record.
+fn gives(rt: &impl AllocGlobal, events: &[Event], expected: Verdict) -> Result<bool, Fail> {
+    Ok(judge_run(rt.alloc(), limits(127, 1000)?, events, 100)? == expected)
+}
+
+fn explains(rt: &impl AllocGlobal, events: &[Event]) -> Result<bool, Fail> {
+    gives(rt, events, Verdict::Explained)
+}
+
+fn is_stuck(rt: &impl AllocGlobal, events: &[Event], number: u64) -> Result<bool, Fail> {
+    gives(rt, events, Verdict::Stuck(number))
 }
 
 #[test]
@@ -24,24 +32,24 @@ fn what_was_put_is_got(rt: HostRuntime) -> Result<(), Fail> {
         Event::Begins(1, Call::Validate(512)),
         Event::Returns(1, Reply::Yes),
     ];
-    assert!(rt; verdict(&rt, &under_the_lock)? == Verdict::Explained);
-    assert!(rt; verdict(&rt, &[gets(0), got(0, 0)])? == Verdict::Explained);
-    assert!(rt; verdict(&rt, &[gets(0), got(0, 7)])? == Verdict::Stuck(1));
+    assert!(rt; explains(&rt, &under_the_lock)?);
+    assert!(rt; explains(&rt, &[gets(0), got(0, 0)])?);
+    assert!(rt; is_stuck(&rt, &[gets(0), got(0, 7)], 1)?);
     Ok(())
 }
 
 #[test]
 fn a_content_is_got_that_was_there_meanwhile(rt: HostRuntime) -> Result<(), Fail> {
     let before = [gets(1), puts(0, 7), done(0), got(1, 0)];
-    assert!(rt; verdict(&rt, &before)? == Verdict::Explained);
+    assert!(rt; explains(&rt, &before)?);
     let behind = [gets(1), puts(0, 7), done(0), got(1, 7)];
-    assert!(rt; verdict(&rt, &behind)? == Verdict::Explained);
+    assert!(rt; explains(&rt, &behind)?);
     let never = [gets(1), puts(0, 7), done(0), got(1, 8)];
-    assert!(rt; verdict(&rt, &never)? == Verdict::Stuck(3));
+    assert!(rt; is_stuck(&rt, &never, 3)?);
     let too_late = [puts(0, 7), done(0), gets(1), got(1, 0), gets(1), got(1, 7)];
-    assert!(rt; verdict(&rt, &too_late)? == Verdict::Stuck(3));
+    assert!(rt; is_stuck(&rt, &too_late, 3)?);
     let forth_and_back = [puts(0, 7), gets(1), got(1, 7), gets(1), got(1, 0), done(0)];
-    assert!(rt; verdict(&rt, &forth_and_back)? == Verdict::Stuck(4));
+    assert!(rt; is_stuck(&rt, &forth_and_back, 4)?);
     Ok(())
 }
 
@@ -60,9 +68,9 @@ fn a_stamp_that_stays_valid_while_contents_are_put_is_found(rt: HostRuntime) -> 
         Event::Begins(1, Call::Validate(256)),
         Event::Returns(1, Reply::Yes),
     ];
-    assert!(rt; verdict(&rt, &events)? == Verdict::Stuck(9));
+    assert!(rt; is_stuck(&rt, &events, 9)?);
     events[9] = Event::Returns(1, Reply::No);
-    assert!(rt; verdict(&rt, &events)? == Verdict::Explained);
+    assert!(rt; explains(&rt, &events)?);
     Ok(())
 }
 
@@ -76,11 +84,11 @@ fn a_content_is_put_if_the_expected_one_is_there(rt: HostRuntime) -> Result<(), 
         gets(2),
         got(2, 6),
     ];
-    assert!(rt; verdict(&rt, &events)? == Verdict::Explained);
+    assert!(rt; explains(&rt, &events)?);
     events[3] = Event::Returns(0, Reply::Yes);
-    assert!(rt; verdict(&rt, &events)? == Verdict::Stuck(3));
+    assert!(rt; is_stuck(&rt, &events, 3)?);
     events[3] = Event::Returns(0, Reply::No);
     events[5] = got(2, 5);
-    assert!(rt; verdict(&rt, &events)? == Verdict::Stuck(5));
+    assert!(rt; is_stuck(&rt, &events, 5)?);
     Ok(())
 }

@@ -1,5 +1,5 @@
 -- The bytes of a header, taken in one or two pieces.
-use Rattle.std.proofs.Common.{ℕ, ◌≡◌, ◌≢◌, ◌+◌, ◌<◌, ◌≤◌, Bool, true, false, List, [], ◌++◌, length, Option, Some, None}
+use Rattle.std.proofs.Common.{ℕ, ◌≡◌, ◌<◌, ◌≤◌, Bool, true, false, List, [], ◌++◌, length, Option, Some, None}
 use Rattle.std.proofs.Common.{refl, sym, ◌∙◌, ap, subst, inl, inr, arith, append-nil, append_assoc}
 use Rattle.std.specs.Prelude.{◌⊎◌, drop, take}
 use Rattle.std.proofs.lemmas.List.{length-append}
@@ -12,7 +12,6 @@ use Rattle.stamped_watch.specs.declared.header.Header.{Header}
 use Rattle.stamped_watch.specs.declared.run_judge.RunJudge.{RunJudge}
 use Rattle.stamped_watch.specs.declared.stream_judge.StreamJudge.{StreamJudge}
 use Rattle.stamped_watch.specs.Header.{BeginsWithData, HasWidth, IsFront, IsHeader, IsNoFront, IsNoHeader}
-use Rattle.stamped_watch.specs.Header.{IsShortHeader}
 use Rattle.stamped_watch.specs.StreamJudge.{HasTaken, IsPart}
 use Rattle.stamped_watch.specs.inner.StreamJudge.{HasTakenNone, HasTakenOne, HasTakenWidth, IsOneMore, IsOpened}
 use Rattle.stamped_watch.proofs.Streaming.{first_of}

@@ -1,5 +1,5 @@
 -- A stream that ends, or goes on with bytes that are no event's.
-use Rattle.std.proofs.Common.{ℕ, ◌≡◌, ◌≢◌, ◌⊎◌, ◌+◌, ◌*◌, ◌<◌, ◌≤◌, List, [], ◌++◌, length, Option, Some, None}
+use Rattle.std.proofs.Common.{ℕ, ◌≡◌, ◌≢◌, ◌⊎◌, ◌+◌, ◌*◌, ◌≤◌, List, [], ◌++◌, length, Option, Some, None}
 use Rattle.std.proofs.Common.{refl, sym, ◌∙◌, ap, subst, inl, inr, arith, append-nil, append_assoc}
 use Rattle.std.specs.Prelude.{◌-◌, MatchOption, take}
 use Rattle.std.proofs.lemmas.List.{length-append, length-take, take-take}
@@ -19,7 +19,7 @@ use Rattle.stamped_watch.specs.declared.header.Header.{Header}
 use Rattle.stamped_watch.specs.declared.run_judge.RunJudge.{RunJudge}
 use Rattle.stamped_watch.specs.declared.so_far.SoFar.{SoFar}
 use Rattle.stamped_watch.specs.declared.stream_judge.StreamJudge.{StreamJudge}
-use Rattle.stamped_watch.specs.EventBytes.{HasBytes, HasFront, IsNoEvent, size_of}
+use Rattle.stamped_watch.specs.EventBytes.{HasFront, IsNoEvent, size_of}
 use Rattle.stamped_watch.specs.Finding.{AreExplainedBefore, IsFindingOf, IsFoundOf, IsInForm, IsSoFar, calls_in}
 use Rattle.stamped_watch.specs.Header.{IsShortHeader}
 use Rattle.stamped_watch.specs.Progress.{IsSoFarOf}

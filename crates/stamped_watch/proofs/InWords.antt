@@ -1,7 +1,7 @@
 -- What is found of a run by names, told of the events in words.
-use Rattle.std.proofs.Common.{ℕ, ◌≡◌, ◌≢◌, ◌⊎◌, ◌+◌, ◌-◌, ◌<◌, ◌≤◌, ◌==◌, Bool, true, false, List, [], ◌∷◌, ◌++◌}
+use Rattle.std.proofs.Common.{ℕ, ◌≡◌, ◌≢◌, ◌+◌, ◌-◌, ◌<◌, ◌≤◌, ◌==◌, Bool, true, false, List, [], ◌∷◌, ◌++◌}
 use Rattle.std.proofs.Common.{length, Option}
-use Rattle.std.proofs.Common.{Some, None, refl, sym, ◌∙◌, ap, subst, inl, inr, arith}
+use Rattle.std.proofs.Common.{Some, None, refl, sym, ◌∙◌, ap, subst, arith}
 use Rattle.std.specs.Prelude.{◌&&◌, cond, drop, IfSome, is_some, map, option_map, if◌then◌else◌}
 use Rattle.std.specs.List.{All, Contains, count_by, fold}
 use Rattle.std.proofs.Math.Seq.{get_or-append_seam}
@@ -16,7 +16,7 @@ use Rattle.stamp_core.specs.declared.reply.Reply.TheVariants as reply
 use Rattle.stamp_runs.specs.BothRun.{AreExplained, AreExplainedAt, AreStuckAt, AreStuckIn, Both}
 use Rattle.stamp_runs.specs.Names.{EachOfCall, EachOfEvent, EachOfReply, Names, call_by, event_by, reply_by}
 use Rattle.stamp_runs.specs.OneWord.{has_one_word, is_small_call, is_small_reply}
-use Rattle.stamp_runs.specs.Own.{none_open, open_after, open_then}
+use Rattle.stamp_runs.specs.Own.{none_open, open_then}
 use Rattle.stamp_runs.specs.Run.{AreExplainedFrom, AreStuckFrom, lane_of}
 use Rattle.stamp_runs.specs.declared.event.Event.{Event}
 use Rattle.stamp_runs.specs.declared.event.Event.TheVariants.{Begins, Returns, Withdraws}
@@ -31,7 +31,7 @@ use Rattle.stamped_watch.specs.declared.header.Header.{Header}
 use Rattle.stamped_watch.specs.declared.misplaced.Misplaced.{Misplaced}
 use Rattle.stamped_watch.specs.declared.misplaced.Misplaced.TheVariants.{Lane, Open, Idle}
 use Rattle.stamped_watch.specs.Finding.{AreExplainedBefore, IsMisplaced, calls_in, is_beginning, is_withdrawal}
-use Rattle.stamped_watch.specs.Stream.{IsByNames, IsRunBy, IsRunIn, IsStream, words_of_record}
+use Rattle.stamped_watch.specs.Stream.{IsByNames, IsRunIn, words_of_record}
 use Rattle.stamped_watch.specs.StreamJudge.{IsEndBy, IsSmallEvent}
 
 -- explained and stuck in words

@@ -1,12 +1,10 @@
 -- A judge that takes the bytes of a header or an event more.
-use Rattle.std.proofs.Common.{ℕ, ◌≡◌, ◌≢◌, ◌+◌, ◌-◌, ◌^◌, ◌<◌, ◌≤◌, Bool, true, false, List, [], ◌++◌, length, Option}
-use Rattle.std.proofs.Common.{◌∷◌, inl, inr, Some, None, refl, sym, ◌∙◌, ap, subst, append-nil, append_assoc, arith}
+use Rattle.std.proofs.Common.{ℕ, ◌≡◌, ◌≢◌, ◌+◌, ◌^◌, ◌<◌, true, false, List, [], ◌++◌, length, Option}
+use Rattle.std.proofs.Common.{◌∷◌, inl, inr, Some, None, refl, sym, ◌∙◌, ap, subst, append-nil, append_assoc}
 use Rattle.std.proofs.Common.{lit<}
-use Rattle.std.specs.Prelude.{◌⊎◌, MatchOption, Vec, is_some, take, drop, ⊤}
+use Rattle.std.specs.Prelude.{◌⊎◌, MatchOption, Vec, is_some, ⊤}
 use Rattle.std.specs.declared.alloc.Global.{Global}
 use Rattle.std.proofs.lemmas.Bool.{false≢true}
-use Rattle.std.proofs.lemmas.List.{length-append}
-use Rattle.std.proofs.Math.Seq.{drop-append_seam}
 use Rattle.stamp_core.specs.Limits.{Bounds}
 use Rattle.stamp_runs.specs.declared.event.Event.{Event}
 use Rattle.stamp_runs.specs.declared.event.Event.TheVariants.{Begins, Returns, Withdraws}
@@ -18,7 +16,6 @@ use Rattle.stamped_watch.specs.declared.finding.Finding.{Finding}
 use Rattle.stamped_watch.specs.declared.finding.Finding.TheVariants as found
 use Rattle.stamped_watch.specs.declared.finding.Finding.TheVariants.{Stuck}
 use Rattle.stamped_watch.specs.declared.header.BadHeader.{BadHeader}
-use Rattle.stamped_watch.specs.declared.header.BadHeader.TheVariants.{Width}
 use Rattle.stamped_watch.specs.declared.header.Header.{Header}
 use Rattle.stamped_watch.specs.declared.run_judge.RunJudge.{RunJudge}
 use Rattle.stamped_watch.specs.declared.stream_judge.StreamJudge.{StreamJudge}
@@ -31,7 +28,6 @@ use Rattle.stamped_watch.specs.StreamJudge.{EndsInStream, HasTaken, IsFed, IsFre
 use Rattle.stamped_watch.specs.StreamJudge.{KeepsCallOf, KeepsFed}
 use Rattle.stamped_watch.specs.inner.StreamJudge.{AreCounted, HasTakenFront, HasTakenOne}
 use Rattle.stamped_watch.specs.StreamJudge.{EndsInRunOf, IsFoundUnless}
-use Rattle.stamped_watch.specs.inner.StreamJudge.{IsOneMore}
 use Rattle.stamped_watch.specs.StreamJudge.{IsGivenOne, IsNewRunJudge, IsSameButNames, KeepsRun}
 use Rattle.stamped_watch.specs.StreamJudge.{KeepsSoFar, KeepsStill}
 use Rattle.stamped_watch.proofs.Counting.{count_room, under_way_first, under_way_then}

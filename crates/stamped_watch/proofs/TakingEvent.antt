@@ -1,7 +1,7 @@
 -- The bytes of an event, taken in one or two pieces.
-use Rattle.std.proofs.Common.{ℕ, ◌≡◌, ◌+◌, ◌*◌, ◌<◌, ◌≤◌, List, [], ◌++◌, length, Option, Some, None}
+use Rattle.std.proofs.Common.{ℕ, ◌≡◌, ◌<◌, List, [], ◌++◌, length, Option, Some, None}
 use Rattle.std.proofs.Common.{refl, sym, ◌∙◌, ap, subst, inl, inr, arith, append_assoc}
-use Rattle.std.specs.Prelude.{drop, take}
+use Rattle.std.specs.Prelude.{drop}
 use Rattle.std.proofs.lemmas.List.{length-append, take_all}
 use Rattle.stamp_runs.specs.declared.event.Event.{Event}
 use Rattle.stamp_watch.specs.Names.{IsEventBy, name_in}
@@ -9,8 +9,8 @@ use Rattle.stamped_watch.specs.declared.event_bytes.BadEvent.{BadEvent}
 use Rattle.stamped_watch.specs.declared.event_bytes.Front.TheVariants.{Longer, Whole}
 use Rattle.stamped_watch.specs.declared.run_judge.RunJudge.{RunJudge}
 use Rattle.stamped_watch.specs.declared.stream_judge.StreamJudge.{StreamJudge}
-use Rattle.stamped_watch.specs.EventBytes.{HasBytes, HasFront, IsNoEvent, words_in, words_of}
-use Rattle.stamped_watch.specs.StreamJudge.{HasTaken, IsPart}
+use Rattle.stamped_watch.specs.EventBytes.{HasBytes, HasFront, IsNoEvent, words_in}
+use Rattle.stamped_watch.specs.StreamJudge.{IsPart}
 use Rattle.stamped_watch.specs.EventBytes.{IsLongerIn, IsPlain}
 use Rattle.stamped_watch.specs.inner.StreamJudge.{HasTakenNone, HasTakenOne, HasTakenSome, IsFrontFor}
 use Rattle.stamped_watch.specs.StreamJudge.{IsSmallEvent}

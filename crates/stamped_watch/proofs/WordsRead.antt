@@ -11,8 +11,7 @@ use Rattle.stamp_core.specs.declared.call.Call.TheVariants as call
 use Rattle.stamp_core.specs.declared.reply.Reply.TheVariants as reply
 use Rattle.stamp_runs.specs.declared.event.Event.{Event}
 use Rattle.stamp_runs.specs.declared.event.Event.TheVariants.{Begins, Returns, Withdraws}
-use Rattle.stamped_watch.specs.EventBytes.{HasBytes, HasFront, IsOfWidth, kind_in, kind_of, lane_in, number_in}
-use Rattle.stamped_watch.specs.EventBytes.{number_of}
+use Rattle.stamped_watch.specs.EventBytes.{HasBytes, HasFront, IsOfWidth, kind_in, kind_of, lane_in}
 use Rattle.stamped_watch.specs.EventBytes.{size_of, words_in}
 use Rattle.stamped_watch.specs.EventBytes.{IsLongerIn}
 use Rattle.stamped_watch.proofs.Plain.{longer_content_each, longer_put_each, longer_put_if_each}

@@ -6,6 +6,7 @@ use Rattle.stamp_core.specs.declared.call.Call.{Call}
 use Rattle.stamp_core.specs.declared.reply.Reply.{Reply}
 use Rattle.stamp_explain.specs.declared.observed.Observation.{Observation}
 use Rattle.stamp_explain.specs.declared.observed.Returned.{Returned}
+use Rattle.stamp_runs.specs.Names.{Names, call_by, reply_by}
 use Rattle.stamp_runs.specs.declared.event.Event.{Event}
 use Rattle.stamp_runs.specs.declared.event.Event.TheVariants.{Begins, Returns, Withdraws}
 use Rattle.stamp_watch.specs.declared.ended_call.EndedCall.{EndedCall}
@@ -90,3 +91,15 @@ told_end ended reply told = ended_call ended (first_in ended.lane told) (return 
 pub record IsTold (calls : Calls) (told : Told) : Type 0 where
   pub lanes_are : calls.lanes.items ≡ told.lanes
   pub returned_are : calls.returned.items ≡ told.returned
+
+-- an observed call whose contents go by these names
+abbrev pub return_by : Names → Returned → Returned
+return_by names end = record { last = end.last; reply = reply_by names end.reply }
+
+abbrev pub observation_by : Names → Observation → Observation
+observation_by names e = record {
+  thread = e.thread;
+  call = call_by names e.call;
+  first = e.first;
+  returned = option_map (return_by names) e.returned;
+}

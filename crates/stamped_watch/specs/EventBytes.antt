@@ -19,12 +19,8 @@ use Rattle.stamp_watch.specs.Names.{IsWide}
 use Rattle.stamped_watch.specs.declared.event_bytes.BadEvent.{BadEvent}
 use Rattle.stamped_watch.specs.declared.event_bytes.BadEvent.TheVariants as bad
 use Rattle.std.specs.Prelude.{ℕ, ◌≡◌, ◌≢◌, ◌+◌, ◌≤◌, List, [], Option, Some, None, MatchOption, true, ⊤}
-use Rattle.stamp_core.specs.LockDecision.{reply_as}
-use Rattle.stamp_core.specs.declared.lock_decision.LockReply.{LockReply}
 use Rattle.stamp_core.specs.declared.reply.Reply.TheVariants.{Content}
 use Rattle.stamp_runs.specs.Names.{EachOfEvent, Names, event_by}
-use Rattle.stamp_core.specs.declared.lock_call.LockCall.{LockCall}
-use Rattle.stamp_core.specs.LockCall.{call_as}
 use Rattle.stamp_watch.specs.Names.{IsNamed}
 use Rattle.stamped_watch.specs.declared.event_bytes.Front.{Front}
 use Rattle.stamped_watch.specs.declared.event_bytes.Front.TheVariants.{Whole, Longer}

@@ -1,6 +1,6 @@
 -- The bytes of a header: the letters `stmp`, its form, the layout, the most readers and the most versions; and of a
 -- stream with data how many words its record has, and seven zeros. Numbers begin with their lowest byte.
-use Rattle.std.specs.Prelude.{ℕ, ◌≡◌, ◌≢◌, ◌+◌, ◌<◌, ◌≤◌, ◌⊎◌, Bool, true, false, List, [], Option, Some, None, length}
+use Rattle.std.specs.Prelude.{ℕ, ◌≡◌, ◌≢◌, ◌<◌, ◌≤◌, ◌⊎◌, Bool, true, false, List, [], Option, Some, None, length}
 use Rattle.std.specs.Prelude.{take, drop}
 use Rattle.std.specs.Prelude.{slice_index, codes, is_some}
 use Rattle.std.specs.Int.{from_le_bytes, w16}

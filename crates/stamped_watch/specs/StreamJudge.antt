@@ -30,16 +30,11 @@ use Rattle.stamp_watch.specs.Late.{IsLateFound, IsLateVerdict}
 use Rattle.stamp_watch.specs.Names.{IsEventBy, IsGrown, IsNamed, StaysWide, name_in}
 use Rattle.stamp_watch.specs.PossibleLate.{KeepsLater}
 use Rattle.stamp_watch.specs.Verdict.{AreOfLanes}
-use Rattle.stamped_watch.specs.declared.event_bytes.BadEvent.{BadEvent}
-use Rattle.stamped_watch.specs.declared.event_bytes.Front.{Front}
 use Rattle.stamped_watch.specs.declared.finding.Finding.TheVariants as found
-use Rattle.stamped_watch.specs.declared.header.BadHeader.TheVariants.{Width}
 use Rattle.stamped_watch.specs.declared.misplaced.Misplaced.{Misplaced}
-use Rattle.stamped_watch.specs.EventBytes.{HasBytes, IsNoEvent}
+use Rattle.stamped_watch.specs.EventBytes.{HasBytes}
 use Rattle.stamped_watch.specs.Finding.{IsMisplaced, verdict_of}
-use Rattle.stamped_watch.specs.Header.{HasWidth}
 use Rattle.stamped_watch.specs.Stream.{words_of_record}
-use Rattle.stamped_watch.specs.EventBytes.{IsFrontIn}
 
 -- the contents of an event have one word each
 abbrev pub IsSmallEvent : Event → Type 0

@@ -1,9 +1,8 @@
 -- Witnesses: small histories that are stuck where a run is.
-use Rattle.std.specs.Prelude.{ℕ, ◌≡◌, ◌+◌, ◌-◌, ◌++◌, ◌∷◌, [], List, length, take, min, Option, Some, None, Bool, true}
-use Rattle.std.specs.Prelude.{IsSome}
+use Rattle.std.specs.Prelude.{ℕ, ◌≡◌, ◌+◌, ◌-◌, ◌++◌, ◌∷◌, [], List, length, map, take, min, slice_get, unwrap_or}
+use Rattle.std.specs.Prelude.{Bool, true, Option, Some, None, option_and_then}
 use Rattle.std.specs.Prelude.{Result, Ok, Err, Vec}
 use Rattle.std.specs.declared.alloc.Global.{Global}
-use Rattle.stamp_runs.specs.declared.event.Event.{Event}
 use Rattle.stamp_cli.specs.Shell.{SinkView}
 use Rattle.stamp_cli.specs.declared.shell.Lack.{Lack}
 use Rattle.stamp_cli.specs.declared.shell.Lack.TheVariants as told
@@ -15,15 +14,15 @@ use Rattle.stamp_explain.specs.declared.observed.Returned.{Returned}
 use Rattle.stamp_explain.specs.Observed.{ObservedHistory}
 use Rattle.stamp_observed.specs.Behind.{IsSought, IsStuckWith}
 use Rattle.stamp_observed.specs.declared.behind.Sought.{Sought}
+use Rattle.stamp_observed.specs.declared.opening.State.{State}
 use Rattle.stamp_observed.specs.ObservedText.{observed_text}
 use Rattle.stamp_watch.specs.declared.ended_call.EndedCall.{EndedCall}
 use Rattle.stamp_watch.specs.declared.online.Judge.{Judge}
-use Rattle.stamp_watch.specs.EndedCall.{ended_at, ended_from}
-use Rattle.stamp_watch.specs.Start.{starts_of, waiting_of, word_of}
-use Rattle.stamped_watch.specs.Calls.{Told, told_along, told_beside, told_end}
+use Rattle.stamp_watch.specs.Names.{words_in}
+use Rattle.stamp_watch.specs.Start.{content_of, starts_of, waiting_of, word_of}
+use Rattle.stamped_watch.specs.Calls.{Told, observation_by, told_along, told_beside, told_end}
 use Rattle.stamped_watch.specs.declared.finding.Finding.{Finding}
 use Rattle.stamped_watch.specs.declared.finding.Finding.TheVariants.{Stuck}
-use Rattle.stamped_watch.specs.declared.header.Header.{Header}
 use Rattle.stamped_watch.specs.declared.orders.Watching.{Watching}
 use Rattle.stamped_watch.specs.declared.run_judge.RunJudge.{RunJudge}
 use Rattle.stamped_watch.specs.declared.witness.NoWitness.{NoWitness}
@@ -33,8 +32,7 @@ use Rattle.stamped_watch.specs.declared.witness.Shown.TheVariants.{NotDue, Given
 use Rattle.stamped_watch.specs.Note.{EndsThere}
 use Rattle.stamped_watch.specs.Possible.{BeganLate, KeepsOf}
 use Rattle.stamped_watch.specs.Progress.{IsWritten}
-use Rattle.stamped_watch.specs.Stream.{IsStream}
-use Rattle.stamped_watch.specs.StreamJudge.{ended_of}
+use Rattle.stamped_watch.specs.StreamJudge.{IsEndBy, ended_of}
 
 -- so many starts are tried at most
 abbrev pub most_starts : ℕ
@@ -53,89 +51,91 @@ pub record IsCallOf (ended : EndedCall) (e : Observation) : Type 0 where
   pub reply : ended.reply ≡ Some return.reply
 
 -- the history is stuck at the return of the call that ended, with stamps renumbered
-pub record IsWitnessOf (limits : Bounds) (ended : EndedCall) (small : ObservedHistory) : Type 0 where
+pub record IsWitnessOf (limits : Bounds) (width : ℕ) (ended : EndedCall) (small : ObservedHistory) : Type 0 where
   pub call : Observation
   pub call_is : IsCallOf ended call
-  pub stuck : IsStuckWith limits call small
-
--- the call is the one that the event with this number ends, among those that the judge keeps
-pub record IsWitnessAt (judge : Judge) (number : ℕ) (small : ObservedHistory) : Type 0 where
-  pub ended : EndedCall
-  pub ended_is : ended_from judge.course.first judge.course.events.items number ≡ Some ended
-  pub witness : IsWitnessOf judge.course.base.limits ended small
+  pub stuck : IsStuckWith limits width call small
 
 -- the text of such a one, with a line feed
-pub record IsWitnessText (judge : Judge) (number : ℕ) (text : List ℕ) : Type 0 where
+pub record IsWitnessText (limits : Bounds) (width : ℕ) (ended : EndedCall) (text : List ℕ) : Type 0 where
   pub small : ObservedHistory
-  pub witness : IsWitnessAt judge number small
+  pub witness : IsWitnessOf limits width ended small
   pub text_is : text ≡ observed_text small ++ 10 ∷ []
+
+-- how many words the record has that an observed history tells of; with none it tells of no record
+abbrev pub width_told : Option ℕ → ℕ
+width_told width = unwrap_or width 0
 
 -- what is told of the calls up to the event of this number, from a start on
 abbrev pub told_before : Judge → ℕ → ℕ → Told
 told_before judge number start =
     told_along (waiting_of judge.course.base start) (take (number - judge.course.first) judge.course.events.items)
 
--- a small history was sought that is stuck at the call that ended there, behind the word of this start, of all other
--- calls that are told from there on, where no more than so many positions are kept
-pub record IsSoughtFrom (judge : Judge) (number : ℕ) (ended : EndedCall) (most start : ℕ) (sought : Sought) : Type 0
-  where
-    pub word : ℕ
-    pub of_start : word_of judge.course.base start ≡ Some word
-    pub reply : Reply
-    pub reply_is : ended.reply ≡ Some reply
-    pub so : IsSought judge.course.base.limits (word_at judge.course.base.limits word)
-        (told_beside ended.lane (told_before judge number start))
-        (told_end ended reply (told_before judge number start)) most sought
+-- what the record holds at a start, in words; of a stream without data that isn't told
+abbrev pub content_at : RunJudge → Judge → ℕ → Option (List ℕ)
+content_at run judge start = option_and_then (λ (width : ℕ).
+    option_and_then (λ (number : ℕ). slice_get run.names number) (content_of judge.course.base start)) run.width
+
+abbrev pub state_at : RunJudge → Judge → ℕ → ℕ → State
+state_at run judge start word =
+    record { word = word_at judge.course.base.limits word; content = content_at run judge start }
+
+-- a small history was sought that is stuck at the call that ended there, behind lock and record at this start, of all
+-- other calls that are told from there on, in words, where no more than so many positions are kept
+pub record IsSoughtFrom (run : RunJudge) (judge : Judge) (number : ℕ) (ended : EndedCall) (most start : ℕ)
+    (sought : Sought) : Type 0 where
+  pub word : ℕ
+  pub of_start : word_of judge.course.base start ≡ Some word
+  pub reply : Reply
+  pub reply_is : ended.reply ≡ Some reply
+  pub so : IsSought judge.course.base.limits (width_told run.width) (state_at run judge start word)
+      (map (observation_by (words_in run.names)) (told_beside ended.lane (told_before judge number start)))
+      (told_end ended reply (told_before judge number start)) most sought
 
 -- so it was from each start, of which the first has this number
-abbrev pub AreSoughtOn : Judge → ℕ → EndedCall → ℕ → ℕ → List Sought → Type 0
-AreSoughtOn judge number ended most start [] = Unit {0}
-AreSoughtOn judge number ended most start (sought ∷ others) =
-    IsSoughtFrom judge number ended most start sought × AreSoughtOn judge number ended most (start + 1) others
+abbrev pub AreSoughtOn : RunJudge → Judge → ℕ → EndedCall → ℕ → ℕ → List Sought → Type 0
+AreSoughtOn run judge number ended most start [] = Unit {0}
+AreSoughtOn run judge number ended most start (sought ∷ others) =
+    IsSoughtFrom run judge number ended most start sought ×
+    AreSoughtOn run judge number ended most (start + 1) others
 
 -- none was found from the first 64 starts, or from all
-pub record AreInVain (judge : Judge) (number : ℕ) (ended : EndedCall) (most : ℕ) (sought : List Sought) : Type 0 where
-  pub each : AreSoughtOn judge number ended most 0 sought
+pub record AreInVain (run : RunJudge) (judge : Judge) (number : ℕ) (ended : EndedCall) (most : ℕ)
+    (sought : List Sought) : Type 0 where
+  pub each : AreSoughtOn run judge number ended most 0 sought
   pub all : length sought ≡ min (starts_of judge.course.base) most_starts
 
 -- why there is no witness of the call that ended at the event of this number
-abbrev pub IsLackingHere : Judge → ℕ → EndedCall → ℕ → NoWitness → Type 0
-IsLackingHere judge number ended most lack.BeganLate = ⊥
-IsLackingHere judge number ended most lack.Withdrawn = ended.reply ≡ None
-IsLackingHere judge number ended most lack.OfData = ⊥
-IsLackingHere judge number ended most (lack.NotFound sought) = AreInVain judge number ended most sought.items
-IsLackingHere judge number ended most lack.Memory = Unit {0}
+abbrev pub IsLackingHere : RunJudge → Judge → ℕ → EndedCall → ℕ → NoWitness → Type 0
+IsLackingHere run judge number ended most lack.BeganLate = ⊥
+IsLackingHere run judge number ended most lack.Withdrawn = ended.reply ≡ None
+IsLackingHere run judge number ended most (lack.NotFound sought) =
+    AreInVain run judge number ended most sought.items
+IsLackingHere run judge number ended most lack.Memory = Unit {0}
 
 -- the text of a witness of the call that ended, or why there is none
-abbrev pub IsTextHere : Judge → ℕ → EndedCall → ℕ → Result (Vec ℕ Global) NoWitness → Type 0
-IsTextHere judge number ended most (Ok text) = IsWitnessText judge number text.items
-IsTextHere judge number ended most (Err why) = IsLackingHere judge number ended most why
+abbrev pub IsTextHere : RunJudge → Judge → ℕ → EndedCall → ℕ → Result (Vec ℕ Global) NoWitness → Type 0
+IsTextHere run judge number ended most (Ok text) =
+    IsWitnessText judge.course.base.limits (width_told run.width) ended text.items
+IsTextHere run judge number ended most (Err why) = IsLackingHere run judge number ended most why
 
--- the call is the one that the event with this number ends in the stream of these bytes
-pub record IsWitnessIn (bytes : List ℕ) (number : ℕ) (small : ObservedHistory) : Type 0 where
-  pub header : Header
-  pub events : List Event
-  pub rest : List ℕ
-  pub stream : IsStream bytes header events rest
-  pub ended : EndedCall
-  pub ended_is : ended_at events number ≡ Some ended
-  pub witness : IsWitnessOf header.limits ended small
-
--- its text, with a line feed
+-- the text of a witness of the call that the event with this number ends in the stream of these bytes
 pub record IsTextIn (bytes : List ℕ) (number : ℕ) (text : List ℕ) : Type 0 where
-  pub small : ObservedHistory
-  pub witness : IsWitnessIn bytes number small
-  pub text_is : text ≡ observed_text small ++ 10 ∷ []
+  pub ended : EndedCall
+  pub there : EndsThere bytes number ended
+  pub text_is : IsWitnessText there.header.limits (width_told there.header.width) ended text
 
--- what the judge keeps is of these bytes, with the call that ends at the event of this number: a witness was sought
--- from its starts, and none was found
+-- what the judge keeps is of these bytes, with the call that ends at the event of this number, by the numbers of its
+-- contents: a witness was sought from its starts, and none was found
 pub record IsSoughtInVain (asked : Watching) (bytes : List ℕ) (k : ℕ) (sought : List Sought) : Type 0 where
   pub inner : RunJudge
   pub keeps : KeepsOf asked.most asked.ahead bytes inner
+  pub small : EndedCall
+  pub kept : ended_of inner.judge k ≡ Some small
   pub ended : EndedCall
-  pub kept : ended_of inner.judge k ≡ Some ended
+  pub by_number : IsEndBy inner.names ended small
   pub there : EndsThere bytes k ended
-  pub in_vain : AreInVain inner.judge.delay.judge k ended (min asked.most most_searched) sought
+  pub in_vain : AreInVain inner inner.judge.delay.judge k ended (min asked.most most_searched) sought
 
 -- the call that ends there was withdrawn
 pub record IsWithdrawnAt (bytes : List ℕ) (k : ℕ) : Type 0 where
@@ -143,19 +143,10 @@ pub record IsWithdrawnAt (bytes : List ℕ) (k : ℕ) : Type 0 where
   pub there : EndsThere bytes k ended
   pub no_reply : ended.reply ≡ None
 
--- the stream has data
-pub record HasData (bytes : List ℕ) : Type 0 where
-  pub header : Header
-  pub events : List Event
-  pub rest : List ℕ
-  pub stream : IsStream bytes header events rest
-  pub width : IsSome header.width
-
 -- why there is no witness that the stream is stuck at the event of this number
 abbrev pub IsLacking : Watching → List ℕ → ℕ → NoWitness → Type 0
 IsLacking asked bytes k lack.BeganLate = BeganLate asked.ahead bytes k
 IsLacking asked bytes k lack.Withdrawn = IsWithdrawnAt bytes k
-IsLacking asked bytes k lack.OfData = HasData bytes
 IsLacking asked bytes k (lack.NotFound sought) = IsSoughtInVain asked bytes k sought.items
 IsLacking asked bytes k lack.Memory = Unit {0}
 
@@ -189,6 +180,5 @@ abbrev pub lack_of : Result Shown NoWitness → Option Lack
 lack_of (Ok shown) = None
 lack_of (Err lack.BeganLate) = Some told.BeganLate
 lack_of (Err lack.Withdrawn) = Some told.Withdrawn
-lack_of (Err lack.OfData) = Some told.OfData
 lack_of (Err (lack.NotFound sought)) = Some told.NotFound
 lack_of (Err lack.Memory) = Some told.Memory

@@ -11,6 +11,7 @@ mod finding;
 mod finding_text;
 mod header;
 mod help;
+mod in_words;
 mod misplaced;
 mod note;
 mod orders;
@@ -87,7 +88,6 @@ impl Program for StampedWatch {
         match lack {
             Lack::BeganLate => "stamped_watch: no witness where a call began late",
             Lack::Withdrawn => "stamped_watch: no witness of a withdrawn call",
-            Lack::OfData => "stamped_watch: no witness of a stream with data yet",
             Lack::NotFound => "stamped_watch: no witness was found",
             Lack::Memory => "stamped_watch: no memory for the witness",
         }

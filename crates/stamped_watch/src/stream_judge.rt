@@ -393,11 +393,9 @@ impl StreamJudge {
         let Some(inner) = &self.judge else {
             unreachable!();
         };
-        if inner.width.is_some() {
-            return Err(NoWitness::OfData);
-        }
+        let ended = inner.in_words(&ended);
         match inner.judge.judge_up_to(number) {
-            Some(judge) => witness_text(self.alloc, judge, number, &ended, most),
+            Some(judge) => witness_text(self.alloc, inner, judge, number, &ended, most),
             None => Err(NoWitness::BeganLate),
         }
     }

@@ -4,18 +4,19 @@ ghost use Rattle.std.specs.Prelude.{◌≡◌, ◌≢◌, ◌<◌, ◌++◌, ◌
 ghost use Rattle.stamped_watch.specs.declared.witness.NoWitness.TheVariants.{Memory};
 ghost use Rattle.stamp_observed.specs.ObservedText.{observed_text};
 ghost use Rattle.stamp_watch.specs.Course.{KeepsEnd};
-ghost use Rattle.stamp_watch.specs.EndedCall.{ended_from};
 ghost use Rattle.stamp_watch.specs.Possible.{KeepsSome};
 ghost use Rattle.stamp_watch.specs.Start.{starts_of};
 ghost use Rattle.stamped_watch.specs.Calls.{ended_call, return};
-ghost use Rattle.stamped_watch.specs.Witness.{IsCallOf, IsTextHere, lack_of};
-ghost use Rattle.stamped_watch.specs.inner.Witness.{IsSearchedFrom, IsSearchedHere};
+ghost use Rattle.stamped_watch.specs.Witness.{IsCallOf, IsTextHere, content_at, lack_of};
+ghost use Rattle.stamped_watch.specs.inner.Witness.{IsSearchedFrom, IsSearchedHere, IsStateAt};
 
 use crate::begun::Calls;
+use crate::in_words::in_words;
+use crate::run_judge::RunJudge;
 use stamp_cli::Lack;
-use stamp_core::Reply;
+use stamp_core::{Reply, Words};
 use stamp_explain::{Observation, Observed, Returned};
-use stamp_observed::{SearchEnd, Sought, small_behind, write_observed};
+use stamp_observed::{SearchEnd, Sought, State, small_behind, write_observed};
 use stamp_watch::{EndedCall, Judge};
 use std::alloc::{AllocError, AllocFailed, Global};
 
@@ -32,8 +33,6 @@ pub enum NoWitness {
     BeganLate,
     /// The call that ends there was withdrawn.
     Withdrawn,
-    /// The stream has data, for which none is made yet.
-    OfData,
     /// None was found, from each of these starts.
     NotFound(Vec<Sought>),
     /// Memory for it was refused.
@@ -73,7 +72,6 @@ pub(crate) fn lack_of(shown: &Result<Shown, NoWitness>) -> Option<Lack>
         Ok(_) => None,
         Err(NoWitness::BeganLate) => Some(Lack::BeganLate),
         Err(NoWitness::Withdrawn) => Some(Lack::Withdrawn),
-        Err(NoWitness::OfData) => Some(Lack::OfData),
         Err(NoWitness::NotFound(_)) => Some(Lack::NotFound),
         Err(NoWitness::Memory) => Some(Lack::Memory),
     }
@@ -93,10 +91,39 @@ fn observed_call(ended: &EndedCall, reply: Reply, first: u64, last: u64) -> Obse
     }
 }
 
+/// What the record holds at a start, in a stream with data.
+fn content_at(run: &RunJudge, judge: &Judge, start: usize) -> Option<Words>
+    ensures { result ≡ content_at run.now judge.now start }
+{
+    match (run.width, judge.content_at(start)) {
+        (Some(_), Some(number)) => run.names.words_at(number),
+        _ => None,
+    }
+}
+
+/// What lock and record are in at a start.
+fn state_at(run: &RunJudge, judge: &Judge, start: usize) -> State
+    requires keeps { KeepsSome judge.now }
+    requires start { start < starts_of judge.now.course.base }
+    ensures { IsStateAt run.now judge.now start result }
+{
+    let Some(bits) = judge.word_at(start) else {
+        unreachable!();
+    };
+    let Some(word) = judge.limits().word_from_bits(bits) else {
+        unreachable!();
+    };
+    State {
+        word,
+        content: content_at(run, judge, start),
+    }
+}
+
 /// A witness that begins at this start is sought: stuck at the call that ended so at the event with this number, which
-/// the judge keeps.
+/// the judge keeps. The call is told in words.
 fn witness_from(
     alloc: Global,
+    run: &RunJudge,
     judge: &Judge,
     start: usize,
     number: u64,
@@ -107,17 +134,12 @@ fn witness_from(
     requires start { start < starts_of judge.now.course.base }
     requires end { KeepsEnd judge.now.course number }
     requires reply { ended.now.reply ≢ None }
-    ensures { IfOk result (λ end. IsSearchedFrom judge.now number ended.now most start end) }
+    ensures { IfOk result (λ end. IsSearchedFrom run.now judge.now number ended.now most start end) }
 {
     let Some(reply) = ended.reply else {
         unreachable!();
     };
-    let Some(bits) = judge.word_at(start) else {
-        unreachable!();
-    };
-    let Some(word) = judge.limits().word_from_bits(bits) else {
-        unreachable!();
-    };
+    let state = state_at(run, judge, start);
     let events = judge.kept_events();
     let place = (number - judge.first_kept()) as usize;
     let before = &events[..place.min(events.len())];
@@ -125,13 +147,16 @@ fn witness_from(
     calls.push_all(before)?;
     let first = calls.take(ended.lane).unwrap_or(0);
     let call = observed_call(ended, reply, first, before.len() as u64 + 1);
-    let others = calls.observations(alloc)?;
-    small_behind(alloc, judge.limits(), word, others, &call, most)
+    let by_number = calls.observations(alloc)?;
+    let others = in_words(alloc, &run.names, by_number.as_slice())?;
+    let width = run.width.unwrap_or(0) as u64;
+    small_behind(alloc, judge.limits(), width, &state, others, &call, most)
 }
 
 /// The first witness that is found from one of the starts.
 fn any_witness(
     alloc: Global,
+    run: &RunJudge,
     judge: &Judge,
     number: u64,
     ended: &EndedCall,
@@ -140,11 +165,11 @@ fn any_witness(
     requires keeps { KeepsSome judge.now }
     requires end { KeepsEnd judge.now.course number }
     requires reply { ended.now.reply ≢ None }
-    ensures { IsSearchedHere judge.now number ended.now most result }
+    ensures { IsSearchedHere run.now judge.now number ended.now most result }
 {
     let mut in_vain = Vec::new(alloc);
     for start in 0..judge.starts().min(MOST_STARTS) {
-        match witness_from(alloc, judge, start, number, ended, most)? {
+        match witness_from(alloc, run, judge, start, number, ended, most)? {
             SearchEnd::Small(small) => return Ok(small),
             SearchEnd::NotFound(sought) => in_vain.push(sought)?,
         }
@@ -158,6 +183,7 @@ fn any_witness(
 /// positions are kept, nor than 16,384.
 fn witness_of(
     alloc: Global,
+    run: &RunJudge,
     judge: &Judge,
     number: u64,
     ended: &EndedCall,
@@ -165,12 +191,12 @@ fn witness_of(
 ) -> Result<Observed, NoWitness>
     requires keeps { KeepsSome judge.now }
     requires end { KeepsEnd judge.now.course number }
-    ensures { IsSearchedHere judge.now number ended.now (min most 16384) result }
+    ensures { IsSearchedHere run.now judge.now number ended.now (min most 16384) result }
 {
     if ended.reply.is_none() {
         return Err(NoWitness::Withdrawn);
     }
-    any_witness(alloc, judge, number, ended, most.min(MOST_SEARCHED))
+    any_witness(alloc, run, judge, number, ended, most.min(MOST_SEARCHED))
 }
 
 /// An observed history as a text of one line, with its line feed.
@@ -188,6 +214,7 @@ fn line_of(alloc: Global, small: &Observed) -> Result<Vec<u8>, AllocError>
 /// Such a witness as a text.
 pub(crate) fn witness_text(
     alloc: Global,
+    run: &RunJudge,
     judge: &Judge,
     number: u64,
     ended: &EndedCall,
@@ -195,9 +222,8 @@ pub(crate) fn witness_text(
 ) -> Result<Vec<u8>, NoWitness>
     requires keeps { KeepsSome judge.now }
     requires end { KeepsEnd judge.now.course number }
-    requires ended { ended_from judge.now.course.first judge.now.course.events.items number ≡ Some ended.now }
-    ensures { IsTextHere judge.now number ended.now (min most 16384) result }
+    ensures { IsTextHere run.now judge.now number ended.now (min most 16384) result }
 {
-    let small = witness_of(alloc, judge, number, ended, most)?;
+    let small = witness_of(alloc, run, judge, number, ended, most)?;
     Ok(line_of(alloc, &small)?)
 }

@@ -15,12 +15,12 @@ pub record IsFaultWith (e : Observation) (fault : Fault) : Type 0 where
   pub returned : e.returned ≡ Some fault.returned
 
 -- it is stuck at its place, at the return of this call with stamps renumbered
-pub record IsStuckBehind (limits : Bounds) (e : Observation) (found : StuckHistory) : Type 0 where
+pub record IsStuckBehind (limits : Bounds) (width : ℕ) (e : Observation) (found : StuckHistory) : Type 0 where
   pub fault : Fault
   pub with : IsFaultWith e fault
   pub observed : IsObserved found.history
   pub limits_are : found.history.limits ≡ limits
-  pub width : found.history.width ≡ 0
+  pub width_is : found.history.width ≡ width
   pub there : IsReturnAt found.history.entries found.place
   pub stuck : IsStuck found.history found.place
   pub last_is : there.return.last ≡ found.last

@@ -1,8 +1,7 @@
 -- How other replies are tried at a return of an observed history.
-use Rattle.std.specs.Prelude.{ℕ, ◌≡◌, ◌≢◌, ◌⊎◌, ◌+◌, ◌^◌, ◌<◌, ◌≤◌, ◌==◌, ◌↔◌, ◌++◌, true}
+use Rattle.std.specs.Prelude.{ℕ, ◌≡◌, ◌≢◌, ◌⊎◌, ◌<◌, ◌≤◌, ◌==◌, ◌↔◌, ◌++◌, true}
 use Rattle.std.specs.Prelude.{false, Bool, IsTrue, List, [], ◌∷◌}
-use Rattle.std.specs.Prelude.{Option, Some, None, MatchOption, Vec, drop, length, map, slice_get, take, if◌then◌else◌}
-use Rattle.std.specs.declared.alloc.Global.{Global}
+use Rattle.std.specs.Prelude.{Option, Some, None, MatchOption, drop, length, map, slice_get, take, if◌then◌else◌}
 use Rattle.std.specs.List.{All, AllPairs, AllZip, Contains}
 use Rattle.stamp_core.specs.Limits.{Bounds}
 use Rattle.stamp_core.specs.declared.reply.Reply.{Reply}
@@ -10,7 +9,6 @@ use Rattle.stamp_explain.specs.Observed.{ObservedHistory, IsObserved, IsReturnAt
 use Rattle.stamp_explain.specs.Possible.{IsPossible}
 use Rattle.stamp_runs.specs.BothRun.{AreExplained}
 use Rattle.stamp_runs.specs.Names.{EachOfEvent, EachOfReply, event_by, reply_by}
-use Rattle.stamp_runs.specs.OneWord.{is_small_reply}
 use Rattle.stamp_runs.specs.declared.event.Event.{Event}
 use Rattle.stamp_runs.specs.declared.event.Event.TheVariants.{Begins, Returns, Withdraws}
 use Rattle.stamp_sets.specs.SmallCall.{reply_of}
@@ -18,7 +16,7 @@ use Rattle.stamp_sets.specs.declared.small_call.SmallReply.{SmallReply}
 use Rattle.stamp_watch.specs.AsEvents.{AreMomentsOf, IsEventAt, return_of}
 use Rattle.stamp_watch.specs.Form.{is_busy_after}
 use Rattle.stamp_watch.specs.Judging.{IsJudging}
-use Rattle.stamp_watch.specs.Names.{AreContents, IsNamed, name_in}
+use Rattle.stamp_watch.specs.Names.{AreContents, IsNamed, IsWide, name_in}
 use Rattle.stamp_watch.specs.ReplyLaws.{IsContentOf}
 use Rattle.stamp_watch.specs.Verdict.{AreOfLanes, IsTooManyAt}
 use Rattle.stamp_watch.specs.declared.moments.Moment.{Moment}
@@ -48,16 +46,26 @@ pub record AreNumbered (h : ObservedHistory) (moments : List Moment) (contents :
   pub told : All (EachOfEvent (IsTold h.width contents)) events
   pub run_is : run ≡ map (event_by (name_in contents)) events
 
--- at one of these moments a call returns with a content that the record can't hold
+-- the event is a return with a content of another width than the record's
+abbrev pub IsForeign : ℕ → Event → Type 0
+IsForeign width (Begins lane call) = ⊥
+IsForeign width (Returns lane reply) = ¬ EachOfReply (IsWide width) reply
+IsForeign width (Withdraws lane) = ⊥
+
+-- the events at the first of these moments, by the numbers of their contents; at the next, if there is one, a call
+-- returns with a content of another width
+pub record AreNumberedSoFar (h : ObservedHistory) (moments : List Moment) (contents : List (List ℕ))
+    (run : List Event) : Type 0 where
+  pub numbered : AreNumbered h (take (length run) moments) contents run
+  pub foreign : (m : Moment) (event : Event) → slice_get moments (length run) ≡ Some m →
+      IsEventAt h.entries m event → IsForeign h.width event
+
+-- at one of these moments a call returns with such a content
 pub record HasForeign (h : ObservedHistory) (moments : List Moment) : Type 0 where
   pub index : ℕ
   pub at : IsReturnAt h.entries index
   pub there : Contains moments (return_of index at.return)
-  pub foreign : ¬ EachOfReply (IsContentOf h.width) at.return.reply
-
-abbrev pub AreNumberedOrForeign : ObservedHistory → List Moment → List (List ℕ) → Option (Vec Event Global) → Type 0
-AreNumberedOrForeign h moments contents run =
-    MatchOption run (HasForeign h moments) (λ (found : Vec Event Global). AreNumbered h moments contents found.items)
+  pub foreign : ¬ EachOfReply (IsWide h.width) at.return.reply
 
 -- at this place the call of the entry returns, or begins
 pub record IsPlaceOf (moments : List Moment) (i : ℕ) (is_return : Bool) (k : ℕ) : Type 0 where

@@ -1,21 +1,18 @@
 -- The call, the reply and the event of a kind.
-use Rattle.std.specs.Prelude.{ℕ, ◌≡◌, ◌≢◌, ◌+◌, ◌≤◌, List, [], Option, Some, None, MatchOption, true, ⊤}
+use Rattle.std.specs.Prelude.{ℕ, ◌≡◌, ◌≢◌, ◌+◌, ◌≤◌, Option, Some, None, true}
 use Rattle.stamp_core.specs.Call.{is_lock_call}
 use Rattle.stamp_core.specs.LockDecision.{reply_as}
 use Rattle.stamp_core.specs.declared.call.Call.{Call}
 use Rattle.stamp_core.specs.declared.lock_decision.LockReply.{LockReply}
 use Rattle.stamp_core.specs.declared.reply.Reply.{Reply}
-use Rattle.stamp_core.specs.declared.reply.Reply.TheVariants.{Content}
-use Rattle.stamp_runs.specs.Names.{EachOfEvent, Names, event_by}
 use Rattle.stamp_runs.specs.Run.{lane_of}
 use Rattle.stamp_runs.specs.declared.event.Event.{Event}
 use Rattle.stamp_core.specs.declared.lock_call.LockCall.{LockCall}
 use Rattle.stamp_core.specs.LockCall.{call_as}
-use Rattle.stamp_watch.specs.Names.{IsNamed}
 use Rattle.stamped_watch.specs.declared.event_bytes.Front.{Front}
 use Rattle.stamped_watch.specs.declared.event_bytes.Front.TheVariants.{Whole, Longer}
-use Rattle.stamped_watch.specs.EventBytes.{HasFront, IsOfWidth, call_kind, call_number, is_of_lock, kind_of}
-use Rattle.stamped_watch.specs.EventBytes.{number_of, reply_kind, reply_number, size_of, words_of}
+use Rattle.stamped_watch.specs.EventBytes.{IsOfWidth, call_kind, call_number, is_of_lock, kind_of}
+use Rattle.stamped_watch.specs.EventBytes.{number_of, reply_kind, reply_number, size_of}
 use Rattle.stamped_watch.specs.EventBytes.{IsPlain}
 
 -- a call of the lock begins by this kind; each that does, and has this number, has the number of this one

@@ -1,46 +1,24 @@
 -- How a stream's bytes are taken, event by event.
-use Rattle.std.specs.Prelude.{ℕ, ◌≡◌, ◌+◌, ◌^◌, ◌≤◌, ◌⊎◌, ◌++◌, true, List, [], ◌∷◌, length}
-use Rattle.std.specs.Prelude.{Option, Some, None, IfSome, option_map}
-use Rattle.stamp_core.specs.Content.{zeros}
+use Rattle.std.specs.Prelude.{ℕ, ◌≡◌, ◌+◌, ◌≤◌, ◌⊎◌, ◌++◌, List, [], length}
+use Rattle.std.specs.Prelude.{Option, Some, None}
 use Rattle.stamp_core.specs.Limits.{Bounds}
 use Rattle.stamp_runs.specs.declared.event.Event.{Event}
 use Rattle.stamp_runs.specs.declared.event.Event.TheVariants.{Begins, Returns, Withdraws}
-use Rattle.stamp_runs.specs.BothRun.{AreExplained}
-use Rattle.stamp_runs.specs.Names.{EachOfCall, EachOfReply, call_by, reply_by}
-use Rattle.stamp_runs.specs.OneWord.{is_small_call, is_small_reply}
 use Rattle.stamp_watch.specs.declared.ended_call.EndedCall.{EndedCall}
-use Rattle.stamp_watch.specs.declared.late.LateJudge.{LateJudge}
-use Rattle.stamp_watch.specs.declared.late_verdict.LateVerdict.{LateVerdict}
-use Rattle.stamp_watch.specs.EndedCall.{IsEndedAt}
-use Rattle.stamp_watch.specs.Late.{IsLateFound, IsLateVerdict}
-use Rattle.stamp_watch.specs.LateJudge.{HasFoundNothingLater, IsLateJudge}
-use Rattle.stamp_watch.specs.Names.{IsEventBy, IsGrown, IsNamed, StaysWide, name_in}
-use Rattle.stamp_watch.specs.PossibleLate.{KeepsLater}
-use Rattle.stamp_watch.specs.Verdict.{AreOfLanes}
+use Rattle.stamp_watch.specs.Names.{IsEventBy}
 use Rattle.stamped_watch.specs.declared.event_bytes.BadEvent.{BadEvent}
 use Rattle.stamped_watch.specs.declared.event_bytes.Front.{Front}
-use Rattle.stamped_watch.specs.declared.finding.Finding.{Finding}
 use Rattle.stamped_watch.specs.declared.finding.Finding.TheVariants as found
 use Rattle.stamped_watch.specs.declared.header.BadHeader.TheVariants.{Width}
 use Rattle.stamped_watch.specs.declared.header.Header.{Header}
-use Rattle.stamped_watch.specs.declared.misplaced.Misplaced.{Misplaced}
 use Rattle.stamped_watch.specs.declared.run_judge.RunJudge.{RunJudge}
 use Rattle.stamped_watch.specs.declared.stream_judge.StreamJudge.{StreamJudge}
 use Rattle.stamped_watch.specs.EventBytes.{HasBytes, IsNoEvent}
-use Rattle.stamped_watch.specs.Finding.{IsMisplaced, verdict_of}
 use Rattle.stamped_watch.specs.Header.{HasWidth}
-use Rattle.stamped_watch.specs.Stream.{words_of_record}
 use Rattle.stamped_watch.specs.EventBytes.{IsFrontIn}
 use Rattle.stamped_watch.specs.StreamJudge.{HasTaken, IsPart, ended_of}
-use Rattle.std.specs.Prelude.{ℕ, ◌≡◌, ◌++◌, List, [], Option, Some, None, MatchOption, ⊤}
-use Rattle.std.specs.List.{count_by}
-use Rattle.stamp_watch.specs.Course.{KeepsEnd}
-use Rattle.stamp_watch.specs.EndedCall.{IsEndedAt, ended_from}
+use Rattle.std.specs.Prelude.{ℕ, ◌≡◌, ◌++◌, List, [], Option, Some, None}
 use Rattle.stamped_watch.specs.declared.finding.Finding.TheVariants.{Stuck}
-use Rattle.stamped_watch.specs.Finding.{IsFoundOf, is_beginning, is_withdrawal}
-use Rattle.stamped_watch.specs.Header.{IsShortHeader}
-use Rattle.stamped_watch.specs.Possible.{KeepsOf}
-use Rattle.stamped_watch.specs.Stream.{IsPartOfEvent, IsRunBy}
 use Rattle.stamped_watch.specs.StreamJudge.{ended_of}
 use Rattle.stamped_watch.specs.StreamJudge.{IsNewRunJudge}
 

@@ -1,13 +1,11 @@
-use Rattle.stamp_runs.specs.BothRun.{Both}
-use Rattle.stamp_runs.specs.Object.{LockStep, RecordStep}
 use Rattle.stamp_runs.proofs.Laws.{sooner_alike_first}
 use Rattle.stamp_runs.proofs.run_laws.sooner_alike_first.Goals as goal
 
 pub returns-clause-of_lock : goal.returns-clause-of_lock
-returns-clause-of_lock c limits = sooner_alike_first (LockStep limits)
+returns-clause-of_lock c limits = sooner_alike_first _
 
 pub returns-clause-of_record : goal.returns-clause-of_record
-returns-clause-of_record c = sooner_alike_first RecordStep
+returns-clause-of_record c = sooner_alike_first _
 
 pub returns-clause-of_both : goal.returns-clause-of_both
-returns-clause-of_both c limits = sooner_alike_first (Both limits)
+returns-clause-of_both c limits = sooner_alike_first _

@@ -73,8 +73,8 @@ pub judge_by-requires-clause-untold : goal.judge_by-requires-clause-untold
 judge_by-requires-clause-untold c = subst (IsUntold c.args.watch.now) (sym c.limits.ensures) c.requires.untold
 
 pub judge_by-requires-clause-lanes : goal.judge_by-requires-clause-lanes
-judge_by-requires-clause-lanes c = told_whole c.args.observed.now c.requires.observed c.args.moments.now c.requires.moments
-    c.args.told.now c.requires.told
+judge_by-requires-clause-lanes c = told_whole c.args.observed.now c.requires.observed c.args.moments.now
+    c.requires.moments c.args.told.now c.requires.told
 
 pub returns-in-Explained-clause-judged : goal.returns-in-Explained-clause-judged
 returns-in-Explained-clause-judged c =

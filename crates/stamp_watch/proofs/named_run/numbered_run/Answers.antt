@@ -1,14 +1,13 @@
-use Rattle.std.proofs.Common.{ℕ, ◌≡◌, ◌+◌, ◌∙◌, true, [], List, Option, Some, append-nil, subst, sym}
+use Rattle.std.proofs.Common.{ℕ, ◌≡◌, ◌+◌, true, [], List, Option, Some, append-nil, subst, sym}
 use Rattle.std.specs.Prelude.{slice_get, take}
-use Rattle.std.proofs.lemmas.Bool.{false≢true}
 use Rattle.std.proofs.lemmas.List.Elements.{All-nil}
 use Rattle.std.proofs.lemmas.Option.{get_or_from_slice_get, slice_get_within}
 use Rattle.stamp_runs.specs.declared.event.Event.{Event}
 use Rattle.stamp_watch.specs.AsEvents.{IsMomentOf}
 use Rattle.stamp_runs.specs.Names.{EachOfEvent}
 use Rattle.stamp_watch.specs.Names.{AreContents, IsByNumber}
-use Rattle.stamp_watch.specs.inner.Trial.{AreNumbered, IsTold, TellsKnown, words_beside}
-use Rattle.stamp_watch.proofs.NumberedRun.{foreign_here, grown_twice, may_be_numbered, numbered_more}
+use Rattle.stamp_watch.specs.inner.Trial.{AreNumbered, IsForeign, IsTold, TellsKnown, words_beside}
+use Rattle.stamp_watch.proofs.NumberedRun.{grown_twice, may_be_numbered, numbered_more, up_to_end, up_to_foreign}
 use Rattle.stamp_watch.proofs.named_run.numbered_run.Goals as goal
 use Rattle.stamp_watch.proofs.named_run.numbered_run.Goals.{After-tells_known}
 
@@ -19,7 +18,7 @@ at_moment c = c.moment_at-moment.ensures
 known_here : (c : After-tells_known) → c.tells_known.result ≡ true →
     TellsKnown c.args.observed.now.width c.event_at-event.result
 known_here c is_known = subst (λ (n : ℕ). TellsKnown n c.event_at-event.result) c.width.ensures.width
-    (c.tells_known.ensures.0 is_known)
+    (c.tells_known.ensures.known.0 is_known)
 
 wide_here : (c : After-tells_known) → AreContents (words_beside c.args.observed.now.width) c.loop-k.names
 wide_here c = c.loop-k.invariant.wide (words_beside c.args.observed.now.width) c.requires.contents
@@ -39,10 +38,10 @@ loop-k-init c = record {
 pub returns-then-not-tells_known-clause-run : goal.returns-then-not-tells_known-clause-run
 returns-then-not-tells_known-clause-run c =
     let at = (goal.at.returns-then-not-tells_known-clause-run c).After-tells_known in
-    foreign_here c.args.observed.now c.requires.observed c.moment_at-moment.result c.event_at-event.result
-    c.event_at-event.ensures c.args.moments.now c.loop-k.k (at_moment at)
-    (λ known. false≢true (sym c.if-not-tells_known.true ∙ c.tells_known.ensures.1
-    (subst (λ (n : ℕ). TellsKnown n c.event_at-event.result) (sym c.width.ensures.width) known)))
+    up_to_foreign c.args.observed.now c.requires.observed c.moment_at-moment.result c.event_at-event.result
+    c.event_at-event.ensures c.args.moments.now c.loop-k.k c.loop-k.names c.loop-k.run.items (at_moment at)
+    (subst (λ (n : ℕ). IsForeign n c.event_at-event.result) c.width.ensures.width
+    (c.tells_known.ensures.foreign c.if-not-tells_known.true)) c.loop-k.invariant.numbered
 
 pub unreachable-requires : goal.unreachable-requires
 unreachable-requires c =
@@ -67,6 +66,10 @@ loop-k-preserved c =
       grows = grown_twice c.loop-k.invariant.grows c.in_ok-small.ensures.grows;
       wide = λ width are. c.in_ok-small.ensures.wide width (c.loop-k.invariant.wide width are);
     }
+
+pub returns-clause-run : goal.returns-clause-run
+returns-clause-run c = up_to_end c.args.observed.now c.args.moments.now c.loop-k.names c.loop-k.run.items c.loop-k.k
+    c.loop-k-test.false c.loop-k.auto.k-end c.loop-k.invariant.numbered
 
 pub event_at-event-requires : goal.event_at-event-requires
 event_at-event-requires c =

@@ -1,10 +1,11 @@
 use Rattle.std.proofs.Common.{◌-◌, ◌≤◌, ℕ, List, [], get_or, take, sym, subst, arith}
 use Rattle.std.proofs.lemmas.List.{get_or_default, length-replicate, take_all, take_more}
+use Rattle.indexmap.proofs.SetLemmas.{AllZip-push}
 use Rattle.stamp_watch.specs.declared.moments.Moment.{Moment}
 use Rattle.stamp_sets.specs.declared.order.EffectAt.{EffectAt}
 use Rattle.stamp_watch.specs.AsEvents.{IsMomentOf, cut_to}
 use Rattle.stamp_watch.specs.inner.Ordering.{AreLastBegun}
-use Rattle.stamp_watch.proofs.EntriesOf.{among, cut_begins, entries_are, further, whole_begins, zip_push}
+use Rattle.stamp_watch.proofs.EntriesOf.{among, cut_begins, entries_are, further, whole_begins}
 use Rattle.stamp_watch.proofs.LastBegun.{AreLastAt, IsLastAt, none_begun}
 use Rattle.stamp_watch.proofs.ordering.entries_in_order.Goals as goal
 use Rattle.stamp_watch.proofs.ordering.entries_in_order.Goals.{After-loop-effect, In_ok-push}
@@ -50,7 +51,7 @@ loop-effect-preserved c = record {
         c.loop-effect-test.true,
     c.in_ok-push.ensures.items,
   )
-      (zip_push (IsLastAt c.args.observed.now.entries c.args.moments.now)
+      (AllZip-push (IsLastAt c.args.observed.now.entries c.args.moments.now)
       (take c.loop-effect.effect-index c.args.effects.now) c.loop-effect.indices.items
       (get_or c.args.effects.now c.loop-effect.effect-index (record { lane = 0; point = 0 })) _
       c.loop-effect.invariant.found (λ i is. (last_there c).are _ i _ (c.requires.along.lanes c.loop-effect.effect-index

@@ -5,7 +5,7 @@ use Rattle.stamp_watch.specs.declared.moments.Moment.{Moment}
 use Rattle.stamp_watch.specs.inner.Ordering.{AreLastBegun}
 use Rattle.stamp_watch.proofs.LastBegun.{begin_next, entry_within, lane_low, return_next}
 use Rattle.stamp_watch.proofs.ordering.pass.Goals as goal
-use Rattle.stamp_watch.proofs.ordering.pass.Goals.{Then-not-moment, then-not-moment, else-not-moment}
+use Rattle.stamp_watch.proofs.ordering.pass.Goals.{then-not-moment, else-not-moment}
 
 pub loop-moment-init : goal.loop-moment-init
 loop-moment-init c past are = subst (λ (ms : List Moment). AreLastBegun c.args.observed.now.entries ms c.args.last.now)

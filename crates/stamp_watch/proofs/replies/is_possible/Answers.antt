@@ -13,7 +13,7 @@ use Rattle.stamp_watch.proofs.replies.is_possible.Goals.{In-Some}
 pub returns-then-not-is_known_reply-clause-possible : goal.returns-then-not-is_known_reply-clause-possible
 returns-then-not-is_known_reply-clause-possible c i most is = (
   (λ no. absurd (false≢true no)),
-  (λ possible. absurd (false≢true (sym c.if-not-is_known_reply.true ∙ c.is_known_reply.ensures.1
+  (λ possible. absurd (false≢true (sym c.if-not-is_known_reply.true ∙ c.is_known_reply.ensures.known.1
       (subst (λ (n : ℕ). EachOfReply (IsContentOf n) c.args.reply.now) (sym c.width.ensures.width)
       (known_if_possible is c.args.reply.now possible))))),
 )
@@ -24,12 +24,12 @@ unreachable-requires c =
     c.in_default.is c.in_ok-small.ensures.reply in
     none (known_wide c.args.observed.now c.args.names.now c.args.reply.now c.requires.2.contents_are
     (subst (λ (n : ℕ). EachOfReply (IsContentOf n) c.args.reply.now) c.width.ensures.width
-    (c.is_known_reply.ensures.0 c.if-not-is_known_reply.false)))
+    (c.is_known_reply.ensures.known.0 c.if-not-is_known_reply.false)))
 
 its_number : (c : In-Some) → IsReplyIn c.args.observed.now c.reply.new.self c.args.reply.now c.in-Some.small
 its_number c = reply_in c.args.observed.now c.reply.new.self c.args.reply.now c.in-Some.small
     (subst (λ (n : ℕ). EachOfReply (IsContentOf n) c.args.reply.now) c.width.ensures.width
-    (c.is_known_reply.ensures.0 c.if-not-is_known_reply.false))
+    (c.is_known_reply.ensures.known.0 c.if-not-is_known_reply.false))
     (subst (λ (o : Option SmallReply). IsSmallReply c.args.names.now c.reply.new.self c.args.reply.now o) c.in-Some.is
     c.in_ok-small.ensures.reply)
 

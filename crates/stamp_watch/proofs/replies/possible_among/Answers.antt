@@ -10,9 +10,9 @@ use Rattle.stamp_explain.proofs.Choosing.{AreChosen, chosen, one_chosen, none_mo
 use Rattle.stamp_watch.specs.declared.replies.PossibleError.TheVariants.{Undecided}
 use Rattle.stamp_watch.specs.declared.trial.Trial.{Trial}
 use Rattle.stamp_watch.specs.inner.Trial.{IsTrialOrNone}
+use Rattle.stamp_watch.proofs.Reading.{up_to}
 use Rattle.stamp_watch.proofs.AllTried.{none_chosen, none_possible}
 use Rattle.stamp_watch.proofs.Trying.{trial_still}
-use Rattle.stamp_watch.proofs.TryingReplies.{up_to}
 use Rattle.stamp_watch.proofs.replies.possible_among.Goals as goal
 use Rattle.stamp_watch.proofs.replies.possible_among.Goals.{then-branch+in_ok-push, else-branch}
 

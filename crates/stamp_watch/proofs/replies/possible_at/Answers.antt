@@ -1,5 +1,4 @@
-use Rattle.std.proofs.Common.{◌≢◌, ◌++◌, ◌∷◌, [], List, Option, subst, sym, map}
-use Rattle.std.specs.List.{AllPairs, Contains}
+use Rattle.std.proofs.Common.{◌++◌, ◌∷◌, [], List, Option, subst, sym}
 use Rattle.std.proofs.lemmas.Result.{IfOk-weaker}
 use Rattle.stamp_core.specs.Limits.{Bounds}
 use Rattle.stamp_explain.specs.Possible.{AreAllPossible}
@@ -37,6 +36,7 @@ returns-clause-possible c =
     (subst (λ (limits : Bounds). AreExplained limits (c.as_slice-events.result.now ++
     Returns c.in-Some.trial.lane told ∷ [])) (sym c.limits.ensures)
     (subst (λ (es : List Event). AreExplained c.args.observed.now.limits (es ++ Returns c.in-Some.trial.lane told ∷
-    [])) (sym c.as_slice-events.ensures.value) explained))) (differ_unmapped reply_of c.in_ok-held.held.items c.in_ok-held.ensures.once)
+    [])) (sym c.as_slice-events.ensures.value) explained)))
+    (differ_unmapped reply_of c.in_ok-held.held.items c.in_ok-held.ensures.once)
     (subst (λ (ts : List SmallReply). AreFound c.args.observed.now c.args.entry c.trial_at.new.names ts found.items)
     c.as_slice.ensures.value (are c.args.entry c.args.most is))) c.possible_tried.ensures.found

@@ -15,7 +15,7 @@ by_number c = subst (λ (o : Option Reply). IsToldAs c.args.names.now c.args.sma
 
 pub returns-then-not-is_known_reply-clause-found : goal.returns-then-not-is_known_reply-clause-found
 returns-then-not-is_known_reply-clause-found c i most is told its possible =
-    false≢true (sym c.if-not-is_known_reply.true ∙ c.is_known_reply.ensures.1
+    false≢true (sym c.if-not-is_known_reply.true ∙ c.is_known_reply.ensures.known.1
     (subst (λ (n : ℕ). EachOfReply (IsContentOf n) c.in-Some.reply) (sym c.width.ensures.width)
     (as_known (IsContentOf c.args.observed.now.width) c.args.names.now c.in-Some.reply told c.args.small
     (by_number (goal.at.returns-then-not-is_known_reply-clause-found c).In-Some) (reply_by_number its)
@@ -24,7 +24,7 @@ returns-then-not-is_known_reply-clause-found c i most is told its possible =
 its_number : (c : In_ok-is_possible) → IsReplyIn c.args.observed.now c.args.names.now c.in-Some.reply c.args.small
 its_number c = reply_in c.args.observed.now c.args.names.now c.in-Some.reply c.args.small
     (subst (λ (n : ℕ). EachOfReply (IsContentOf n) c.in-Some.reply) c.width.ensures.width
-    (c.is_known_reply.ensures.0 c.if-not-is_known_reply.false))
+    (c.is_known_reply.ensures.known.0 c.if-not-is_known_reply.false))
     (subst (λ (o : Option Reply). IsToldAs c.args.names.now c.args.small o) c.in-Some.is c.told_as.ensures)
 
 pub returns-in-Some-true-clause-found : goal.returns-in-Some-true-clause-found

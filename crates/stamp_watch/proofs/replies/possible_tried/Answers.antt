@@ -4,8 +4,8 @@ use Rattle.std.proofs.lemmas.List.{take_all}
 use Rattle.stamp_core.specs.declared.reply.Reply.{Reply}
 use Rattle.stamp_sets.specs.declared.small_call.SmallReply.{SmallReply}
 use Rattle.stamp_watch.specs.inner.Trial.{AreFound, IsFoundOrNone}
+use Rattle.stamp_watch.proofs.Reading.{up_to}
 use Rattle.stamp_watch.proofs.AllFound.{none_found, none_found_more, one_found_more}
-use Rattle.stamp_watch.proofs.TryingReplies.{up_to}
 use Rattle.stamp_watch.proofs.replies.possible_tried.Goals as goal
 use Rattle.stamp_watch.proofs.replies.possible_tried.Goals.{in-Some+in_ok-push, in_default}
 

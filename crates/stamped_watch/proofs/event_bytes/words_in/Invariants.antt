@@ -1,4 +1,4 @@
-use Rattle.std.specs.Prelude.{ℕ, ◌≡◌, ◌-◌, ◌*◌, ◌++◌, length, take}
+use Rattle.std.specs.Prelude.{◌≡◌, ◌-◌, ◌*◌, ◌++◌, length, take}
 use Rattle.stamped_watch.specs.EventBytes.{words_in}
 use Rattle.stamped_watch.proofs.event_bytes.words_in.Given as goal
 

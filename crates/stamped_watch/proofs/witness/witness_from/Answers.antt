@@ -1,29 +1,18 @@
 use Rattle.std.proofs.Common.{ℕ, ◌≡◌, ◌+◌, ◌-◌, ◌++◌, List, Option, None, length, take, ap, arith, refl, rules}
-use Rattle.std.proofs.Common.{subst, sym, ◌∙◌}
-use Rattle.std.proofs.lemmas.Bool.{false≢true}
-use Rattle.std.specs.Prelude.{fold, min, option_map, slice_set, unwrap_or}
+use Rattle.std.proofs.Common.{subst, ◌∙◌}
+use Rattle.std.specs.Prelude.{fold, map, min, option_map, slice_set, unwrap_or}
 use Rattle.std.proofs.lemmas.List.{length-take-le, take_min}
-use Rattle.stamp_core.specs.Limits.{Bounds}
-use Rattle.stamp_core.specs.Word.{IsAdmitted, word_at}
 use Rattle.stamp_explain.specs.declared.observed.Observation.{Observation}
 use Rattle.stamp_runs.specs.declared.event.Event.{Event}
+use Rattle.stamp_watch.specs.Names.{words_in}
 use Rattle.stamp_watch.specs.Start.{waiting_of}
 use Rattle.stamped_watch.specs.Calls.{Told, ended_call, first_in, open_in, return, told_beside, told_end, told_first}
-use Rattle.stamped_watch.specs.Calls.{IsTold, told_with, under_way}
+use Rattle.stamped_watch.specs.Calls.{IsTold, observation_by, told_with, under_way}
 use Rattle.stamped_watch.specs.declared.begun.Begun.{Begun}
 use Rattle.stamped_watch.specs.Witness.{told_before}
 use Rattle.stamped_watch.proofs.CallsTold.{events_told}
 use Rattle.stamped_watch.proofs.Searching.{searched_if}
-use Rattle.stamped_watch.proofs.Starts.{is_admitted}
 use Rattle.stamped_watch.proofs.witness.witness_from.Goals as goal
-
-pub unreachable-requires-in_default-word_from_bits : goal.unreachable-requires-in_default-word_from_bits
-unreachable-requires-in_default-word_from_bits c =
-    let base = c.args.judge.now.course.base in
-    let admitted = is_admitted _ base c.requires.keeps.keeps.from_base.judging.watching c.in-Some-word_at.bits
-    c.args.start (sym c.in-Some-word_at.ensures.word) in
-    false≢true (c.in_default-word_from_bits.ensures.some.1
-    (subst (λ (l : Bounds). IsAdmitted l (word_at l c.in-Some-word_at.bits)) (sym c.limits.ensures) admitted))
 
 pub overflow_add-before : goal.overflow_add-before
 overflow_add-before c =
@@ -50,8 +39,8 @@ returns c =
     let at : IsTold c.push_all.new.self told =
     subst (λ (xs : List Event). IsTold c.push_all.new.self (fold told_with first xs)) within
     (c.in_ok-push_all.ensures first refl c.in_ok-calls.ensures) in
-    let others : c.in_ok-others.others.items ≡ told_beside x.lane told =
-    c.in_ok-others.ensures ∙
+    let by_number : c.in_ok-by_number.by_number.items ≡ told_beside x.lane told =
+    c.in_ok-by_number.ensures ∙
     ap (λ (xs : List Observation). xs ++ under_way c.take.new.self.lanes.items)
     (ap (λ v. v.items) c.take.ensures.returned ∙ at.returned_are) ∙
     ap (λ (xs : List (Option Begun)). told.returned ++ under_way xs) (c.take.ensures.lanes ∙
@@ -71,7 +60,12 @@ returns c =
     ap (λ (n : ℕ). ended_call x n (return (length (take c.min.result c.kept_events-events.result.now) + 1)
     c.in-Some.reply)) began ∙
     ap (λ (n : ℕ). ended_call x (first_in x.lane told) (return n c.in-Some.reply)) last in
-    searched_if judge c.args.number x c.args.most c.args.start c.in-Some-word_at.bits (search rules) c.in-Some.reply
-    (search rules) c.limits-2.result c.in-Some-word_from_bits.word c.in_ok-others.others.items
-    c.observed_call-call.result (search rules) (search rules) others c.observed_call-call.ensures.call ended
+    let same : c.as_slice.result.now ≡ c.in_ok-by_number.by_number.items = search rules in
+    let others : c.in_ok-others.others.items ≡ map (observation_by (words_in c.args.run.now.names))
+    (told_beside x.lane told) =
+    c.in_ok-others.ensures ∙
+    ap (λ (xs : List Observation). map (observation_by (words_in c.args.run.now.names)) xs) (same ∙ by_number) in
+    searched_if c.args.run.now judge c.args.number x c.args.most c.args.start c.state_at-state.result
+    c.state_at-state.ensures c.in-Some.reply (search rules) c.limits.result c.unwrap_or-width.result c.in_ok-others.others.items
+    c.observed_call-call.result c.limits.ensures (search rules) others c.observed_call-call.ensures.call ended
     c.small_behind.result c.small_behind.ensures.found

@@ -5,7 +5,7 @@ use Rattle.stamp_watch.specs.inner.Course.{IsSameRun}
 use Rattle.stamp_watch.proofs.SameRuns.{same_run_on, on_course_still, room_still}
 use Rattle.stamp_watch.proofs.Kept.{kept_of}
 use Rattle.stamp_watch.proofs.course.Course.go_on.Goals as goal
-use Rattle.stamp_watch.proofs.course.Course.go_on.Goals.{In_ok-let_go, In_ok-onward}
+use Rattle.stamp_watch.proofs.course.Course.go_on.Goals.{In_ok-let_go}
 
 pub unseen-init : goal.unseen-init
 unseen-init c = record {

@@ -5,7 +5,8 @@ use Rattle.stamp_watch.proofs.Named.{back_in_words, number_in_words, one_word_lo
 use Rattle.stamp_watch.proofs.names.Names.named.Goals as goal
 
 pub returns-in-Some-clause-named : goal.returns-in-Some-clause-named
-returns-in-Some-clause-named c words named same = same_Some c.in-Some.words words (sym c.in-Some.is ∙ c.words_at.ensures ∙
+returns-in-Some-clause-named c words named same = same_Some c.in-Some.words words (sym c.in-Some.is ∙
+    c.words_at.ensures ∙
     ap (λ (xs : List ℕ). slice_get c.args.self.now (get_or xs 0 0)) c.as_slice.ensures ∙
     back_in_words c.args.self.now c.args.name.now words named same)
 

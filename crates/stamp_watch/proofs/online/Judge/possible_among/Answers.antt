@@ -9,7 +9,7 @@ use Rattle.stamp_explain.proofs.Lists.{contains_at}
 use Rattle.stamp_explain.proofs.Choosing.{AreChosen, chosen, none_more_chosen, one_chosen}
 use Rattle.stamp_watch.specs.Possible.{IsPossibleReply}
 use Rattle.stamp_watch.specs.inner.Possible.{IsPossibleSo}
-use Rattle.stamp_watch.proofs.TryingReplies.{up_to}
+use Rattle.stamp_watch.proofs.Reading.{up_to}
 use Rattle.stamp_watch.proofs.online.Judge.possible_among.Goals as goal
 use Rattle.stamp_watch.proofs.online.Judge.possible_among.Goals.{then-is_possible+in_ok-push, else-is_possible}
 

@@ -42,9 +42,8 @@ place_is c = search rules
 
 returned_small : (e : SmallEvent) (lane : ℕ) (reply : Reply) → event_of e ≡ Returns lane reply →
     ((other : ℕ) (answer : SmallReply) → e ≡ small.Returns other answer → ⊥) → ⊥
-returned_small (small.Begins other call) lane reply is none = cc
 returned_small (small.Returns other answer) lane reply is none = none other answer refl
-returned_small (small.Withdraws other) lane reply is none = cc
+returned_small _ lane reply is none = cc
 
 pub returns-in_default : goal.returns-in_default
 returns-in_default c can = returned_small c.small.result can.lane can.own (c.small.ensures ∙

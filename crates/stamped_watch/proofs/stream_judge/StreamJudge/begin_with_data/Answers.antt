@@ -1,4 +1,4 @@
-use Rattle.std.proofs.Common.{◌≡◌, inl, inr, length, refl, rules, sym}
+use Rattle.std.proofs.Common.{inl, inr, refl, rules, sym}
 use Rattle.std.proofs.lemmas.List.{take-append-drop}
 use Rattle.stamped_watch.proofs.stream_judge.StreamJudge.begin_with_data.Goals as goal
 

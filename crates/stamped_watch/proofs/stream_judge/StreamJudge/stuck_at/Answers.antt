@@ -1,4 +1,4 @@
-use Rattle.std.proofs.Common.{◌≡◌, List, Option, Some, refl, rules, subst, sym, ℕ}
+use Rattle.std.proofs.Common.{◌≡◌, Option, Some, refl, subst, sym}
 use Rattle.std.specs.Prelude.{MatchOption, ⊤}
 use Rattle.stamp_watch.specs.declared.ended_call.EndedCall.{EndedCall}
 use Rattle.stamped_watch.specs.declared.finding.Finding.TheVariants.{Stuck}

@@ -1,4 +1,4 @@
-use Rattle.std.proofs.Common.{◌≡◌, ◌++◌, ap, rules, sym}
+use Rattle.std.proofs.Common.{◌≡◌, ◌++◌, sym}
 use Rattle.std.proofs.lemmas.List.{take-append-drop}
 use Rattle.stamped_watch.proofs.TakingEvent.{cut_for, data_taken, small_told, some_named}
 use Rattle.stamped_watch.proofs.stream_judge.StreamJudge.take_data.Goals as goal

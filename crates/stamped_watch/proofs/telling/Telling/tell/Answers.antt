@@ -1,4 +1,4 @@
-use Rattle.std.proofs.Common.{ℕ, ◌<◌, ◌≤◌, List, Option, length, arith, inl, inr, rules, subst}
+use Rattle.std.proofs.Common.{ℕ, ◌≤◌, List, Option, length, arith, inl, inr, rules, subst}
 use Rattle.std.specs.Prelude.{MatchOption}
 use Rattle.stamped_watch.specs.declared.so_far.SoFar.{SoFar}
 use Rattle.stamped_watch.specs.Header.{IsShortHeader}

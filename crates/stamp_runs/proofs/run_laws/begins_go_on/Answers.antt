@@ -1,9 +1,0 @@
-use Rattle.stamp_runs.specs.Object.{LockStep, RecordStep}
-use Rattle.stamp_runs.proofs.Laws.{begins_go_on}
-use Rattle.stamp_runs.proofs.run_laws.begins_go_on.Goals as goal
-
-pub returns-clause-of_lock : goal.returns-clause-of_lock
-returns-clause-of_lock c limits = begins_go_on (LockStep limits)
-
-pub returns-clause-of_record : goal.returns-clause-of_record
-returns-clause-of_record c = begins_go_on RecordStep

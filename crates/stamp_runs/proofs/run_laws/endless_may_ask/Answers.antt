@@ -1,9 +1,0 @@
-use Rattle.stamp_runs.specs.Object.{LockStep, RecordStep}
-use Rattle.stamp_runs.proofs.Laws.{endless_may_ask}
-use Rattle.stamp_runs.proofs.run_laws.endless_may_ask.Goals as goal
-
-pub returns-clause-of_lock : goal.returns-clause-of_lock
-returns-clause-of_lock c limits = endless_may_ask (LockStep limits)
-
-pub returns-clause-of_record : goal.returns-clause-of_record
-returns-clause-of_record c = endless_may_ask RecordStep

@@ -1,7 +1,0 @@
-use Rattle.stamp_core.specs.Call.{is_lock_call}
-use Rattle.stamp_runs.specs.Object.{LockStep, RecordStep}
-use Rattle.stamp_runs.proofs.Laws.{explained_by_own}
-use Rattle.stamp_runs.proofs.run_laws.explained_by_own.Goals as goal
-
-pub returns : goal.returns
-returns c limits = explained_by_own is_lock_call (LockStep limits) RecordStep

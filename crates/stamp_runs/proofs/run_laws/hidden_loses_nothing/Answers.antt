@@ -1,9 +1,0 @@
-use Rattle.stamp_runs.specs.Object.{LockStep, RecordStep}
-use Rattle.stamp_runs.proofs.Laws.{hidden_loses_nothing}
-use Rattle.stamp_runs.proofs.run_laws.hidden_loses_nothing.Goals as goal
-
-pub returns-clause-of_lock : goal.returns-clause-of_lock
-returns-clause-of_lock c limits = hidden_loses_nothing (LockStep limits)
-
-pub returns-clause-of_record : goal.returns-clause-of_record
-returns-clause-of_record c = hidden_loses_nothing RecordStep
